@@ -1,0 +1,243 @@
+-- The public calls, each as one definition: from what the image decodes to, numbers, limits, area lengths and database words
+-- to the answer and every word left behind. Document 01, "Path", "Answer", "Partial paths" and the order of checks in "Turned back".
+use Prim.Native.Nat.{ℕ}
+use mathlib.Core.Bool.{Bool, true, false}
+use mathlib.Core.List.{List, [], _∷_}
+use lib.Dec.{leb}
+use lib.ListN.{length}
+use Rattle.semantics.specs.declared.search.Limit.{Limit}
+use Rattle.semantics.specs.declared.search.SearchOrder.{SearchOrder}
+use Rattle.semantics.specs.declared.search.SearchLimits.{SearchLimits}
+use Rattle.semantics.specs.declared.refusal.ImageRefusal.{ImageRefusal}
+use Rattle.semantics.specs.declared.refusal.DatabaseRefusal.{DatabaseRefusal}
+use Rattle.semantics.specs.declared.refusal.PartialPathRefusal.{PartialPathRefusal}
+use Rattle.semantics.specs.declared.refusal.ReplayRefusal.{ReplayRefusal}
+use Rattle.semantics.specs.declared.refusal.SearchRefusal.{SearchRefusal}
+use Rattle.semantics.specs.declared.refusal.LinearRefusal.{LinearRefusal}
+use Rattle.semantics.specs.declared.answer.Checked.{Checked}
+use Rattle.semantics.specs.declared.answer.Checked.the-variants as Checked
+use Rattle.semantics.specs.declared.answer.Replayed.{Replayed}
+use Rattle.semantics.specs.declared.answer.Replayed.the-variants as Replayed
+use Rattle.semantics.specs.declared.answer.Judgement.{Judgement}
+use Rattle.semantics.specs.declared.answer.Judgement.the-variants as Judgement
+use Rattle.semantics.specs.declared.answer.Resolution.{Resolution}
+use Rattle.semantics.specs.declared.answer.Resolution.the-variants as Resolution
+use Rattle.semantics.specs.declared.answer.LinearResolution.{LinearResolution}
+use Rattle.semantics.specs.declared.answer.LinearResolution.the-variants as Linear
+use Rattle.semantics.specs.declared.answer.Creation.{Creation}
+use Rattle.semantics.specs.declared.answer.Creation.the-variants as Creation
+use Rattle.semantics.specs.declared.answer.Replacement.{Replacement}
+use Rattle.semantics.specs.declared.answer.Replacement.the-variants as Replacement
+use Rattle.semantics.specs.Limits.{Bounds}
+use Rattle.semantics.specs.Answer.{Answer, ok, refuse}
+use Rattle.semantics.specs.Graph.{Graph, View, viewOf}
+use Rattle.semantics.specs.Path.{Symbol, Step, along, jumped, Path, replay, isComplete, shadows}
+use Rattle.semantics.specs.Enumeration.{Setting, State}
+use Rattle.semantics.specs.Recorded.{edgeLists}
+use Rattle.semantics.specs.Direct.{direct, searchSetting}
+use Rattle.semantics.specs.Linear.{linear, linearSetting}
+use Rattle.semantics.specs.PartialPaths.{Route, Slot, filePartials, partialSetting, partialStats}
+use Rattle.semantics.specs.Stitching.{stitched}
+use Rattle.semantics.specs.Words.{zeros, wholeSlots, area, slotWords}
+use Rattle.semantics.specs.Database.{checkDatabase, freshWords, hasRoom, replaceWords}
+pub mod Laws
+pub mod Filing
+pub mod Whole
+pub mod Refused
+
+-- THE CHECK OF AN IMAGE
+unfoldable pub checkCall : Answer ImageRefusal Graph → Checked
+checkCall (ok g) = Checked.Accepted (g .files) (length (g .nodes)) (length (g .edges))
+checkCall (refuse r) = Checked.Refused r
+
+-- REPLAY, COMPLETENESS, SHADOWING
+
+-- a step as it is answered: the edge's number, or the scope that was jumped to
+pub data Passage : Type 0 where
+  edge : ℕ → Passage
+  jump : ℕ → Passage
+
+abbrev pub passages : List Step → List Passage
+passages [] = []
+passages (along e source precedence ∷ ss) = edge e ∷ passages ss
+passages (jumped scope ∷ ss) = jump scope ∷ passages ss
+
+-- the path that a replay answers: its end, its steps in order, both stacks with their tops first
+pub record ReplayedPath : Type 0 where
+  pub end : ℕ
+  pub steps : List Passage
+  pub symbols : List Symbol
+  pub scopes : List ℕ
+
+-- what stands in its place where the replay is refused
+abbrev pub noPath : ReplayedPath
+noPath = record { end = 0; steps = []; symbols = []; scopes = [] }
+
+pub record ReplayOutcome : Type 0 where
+  pub answer : Replayed
+  pub path : ReplayedPath
+
+unfoldable pub replayedAs : Answer ReplayRefusal Path → ReplayOutcome
+replayedAs (ok p) = record { answer = Replayed.Done; path = record { end = p .end; steps = passages (p .steps); symbols = p .stacks .symbols; scopes = p .stacks .scopes } }
+replayedAs (refuse r) = record { answer = Replayed.Refused r; path = noPath }
+
+unfoldable pub completed : View → Answer ReplayRefusal Path → Judgement
+unfolding isComplete
+completed g (ok p) = Judgement.Done (isComplete g p)
+completed g (refuse r) = Judgement.Refused r
+
+unfoldable pub shadowedBy : Path → Answer ReplayRefusal Path → Judgement
+unfolding shadows
+shadowedBy p (ok q) = Judgement.Done (shadows p q)
+shadowedBy p (refuse r) = Judgement.Refused r
+
+-- the left path is replayed before the right one
+unfoldable pub leftFirst : Answer ReplayRefusal Path → Answer ReplayRefusal Path → Judgement
+unfolding shadowedBy
+leftFirst (ok p) right = shadowedBy p right
+leftFirst (refuse r) right = Judgement.Refused r
+
+module _ (bd : Bounds) where
+  -- a reference and an edge list
+  unfoldable pub replayCall : Answer ImageRefusal Graph → ℕ → List ℕ → ReplayOutcome
+  unfolding replayedAs replay viewOf
+  replayCall (ok g) r es = replayedAs (replay bd (viewOf g) r es)
+  replayCall (refuse x) r es = record { answer = Replayed.Image x; path = noPath }
+
+  -- is the path of a reference and an edge list complete
+  unfoldable pub completeCall : Answer ImageRefusal Graph → ℕ → List ℕ → Judgement
+  unfolding completed replay viewOf
+  completeCall (ok g) r es = completed (viewOf g) (replay bd (viewOf g) r es)
+  completeCall (refuse x) r es = Judgement.Image x
+
+  -- does the left path shadow the right one
+  unfoldable pub shadowsCall : Answer ImageRefusal Graph → ℕ → List ℕ → ℕ → List ℕ → Judgement
+  unfolding leftFirst replay viewOf
+  shadowsCall (ok g) l ls r rs = leftFirst (replay bd (viewOf g) l ls) (replay bd (viewOf g) r rs)
+  shadowsCall (refuse x) l ls r rs = Judgement.Image x
+
+-- THE SEARCHES
+
+-- what a search is asked: the reference; work and result are the lengths of the lent areas in words
+pub record Request : Type 0 where
+  pub order : SearchOrder
+  pub limits : SearchLimits
+  pub work : ℕ
+  pub result : ℕ
+  pub node : ℕ
+
+-- linear search has no order and lends no work area
+pub record LinearRequest : Type 0 where
+  pub limits : SearchLimits
+  pub result : ℕ
+  pub node : ℕ
+
+-- an answer, and every word of the work area and of the result area
+pub record Outcome (A : Type 0) : Type 0 where
+  pub answer : A
+  pub work : List ℕ
+  pub result : List ℕ
+
+-- a refused call leaves both areas all zero
+abbrev pub refused : {A : Type 0} → Request → A → Outcome A
+refused q a = record { answer = a; work = zeros (q .work); result = zeros (q .result) }
+
+abbrev pub refusedLinear : {A : Type 0} → LinearRequest → A → Outcome A
+refusedLinear q a = record { answer = a; work = []; result = zeros (q .result) }
+
+module _ (bd : Bounds) where
+  abbrev pub settingOf : Request → Setting SearchRefusal
+  settingOf q = searchSetting (q .order) (q .limits) (wholeSlots (slotWords bd) (q .work)) (wholeSlots (slotWords bd) (q .result))
+
+  abbrev pub linearSettingOf : LinearRequest → Setting LinearRefusal
+  linearSettingOf q = linearSetting (q .limits) (wholeSlots (slotWords bd) (q .result))
+
+  -- `reply` says which paths of the search are put into the slots: the returned, or the recorded ones
+  module _ (reply : State Path → List Path) where
+    unfoldable pub searched : Request → Answer SearchRefusal (State Path) → Outcome Resolution
+    unfolding area
+    searched q (ok s) = record { answer = Resolution.Done (length (reply s)) (s .stats); work = zeros (q .work); result = area (slotWords bd) (q .result) (edgeLists (reply s)) }
+    searched q (refuse r) = refused q (Resolution.Refused r)
+
+    -- the image, then the node
+    unfoldable pub directCall : Answer ImageRefusal Graph → Request → Outcome Resolution
+    unfolding searched direct viewOf
+    directCall (ok g) q = searched q (direct bd (q .limits .length) (settingOf q) (viewOf g) (q .node))
+    directCall (refuse x) q = refused q (Resolution.Image x)
+
+    unfoldable pub onSlots : Graph → Request → Answer DatabaseRefusal (List Slot) → Outcome Resolution
+    unfolding searched stitched viewOf
+    onSlots g q (ok db) = searched q (stitched bd (q .limits .length) (settingOf q) (viewOf g) db (q .node))
+    onSlots g q (refuse r) = refused q (Resolution.Database r)
+
+    -- the image, 35, 34, then the node; `known` are the owners that a database may name. The database is only read
+    unfoldable pub stitchedCall : (ℕ → ℕ → Bool) → Answer ImageRefusal Graph → List ℕ → Request → Outcome Resolution
+    unfolding onSlots checkDatabase
+    stitchedCall known (ok g) words q = onSlots g q (checkDatabase bd known g words)
+    stitchedCall known (refuse x) words q = refused q (Resolution.Image x)
+
+    unfoldable pub linearly : LinearRequest → Answer LinearRefusal (State Path) → Outcome LinearResolution
+    unfolding area
+    linearly q (ok s) = record { answer = Linear.Done (length (reply s)) (s .stats); work = []; result = area (slotWords bd) (q .result) (edgeLists (reply s)) }
+    linearly q (refuse r) = refusedLinear q (Linear.Refused r)
+
+    unfoldable pub linearCall : Answer ImageRefusal Graph → LinearRequest → Outcome LinearResolution
+    unfolding linearly linear viewOf
+    linearCall (ok g) q = linearly q (linear bd (q .limits .length) (linearSettingOf q) (viewOf g) (q .node))
+    linearCall (refuse x) q = refusedLinear q (Linear.Image x)
+
+-- THE DATABASE
+
+-- an answer, and every word of the work area and of the database
+pub record Change (A : Type 0) : Type 0 where
+  pub answer : A
+  pub work : List ℕ
+  pub database : List ℕ
+
+-- 35 for under 3 words; a fresh database has no work area
+unfoldable pub created : Bool → Graph → List ℕ → Change Creation
+created true g words = record { answer = Creation.Done; work = []; database = freshWords g (length words) }
+created false g words = record { answer = Creation.Malformed; work = []; database = words }
+
+unfoldable pub freshCall : Answer ImageRefusal Graph → List ℕ → Change Creation
+unfolding created
+freshCall (ok g) words = created (leb 3 (length words)) g words
+freshCall (refuse x) words = record { answer = Creation.Image x; work = []; database = words }
+
+-- what replacing a file is asked: the limits on length and path count; work is the length of the lent area in words
+pub record FileRequest : Type 0 where
+  pub order : SearchOrder
+  pub length : Limit
+  pub paths : Limit
+  pub work : ℕ
+  pub file : ℕ
+
+-- a refused replacement alters no word of the database
+abbrev pub unaltered : {A : Type 0} → FileRequest → List ℕ → A → Change A
+unaltered q words a = record { answer = a; work = zeros (q .work); database = words }
+
+module _ (bd : Bounds) where
+  abbrev pub fileSettingOf : FileRequest → Setting PartialPathRefusal
+  fileSettingOf q = partialSetting (q .order) (q .paths) (wholeSlots (slotWords bd) (q .work))
+
+  -- 33 follows a finished computation
+  unfoldable pub stored : Bool → Graph → FileRequest → List ℕ → State Route → Change Replacement
+  unfolding replaceWords
+  stored true g q words s = record { answer = Replacement.Done (partialStats s); work = zeros (q .work); database = replaceWords bd g (q .file) s words }
+  stored false g q words s = unaltered q words Replacement.Full
+
+  unfoldable pub computed : Graph → FileRequest → List ℕ → Answer PartialPathRefusal (State Route) → Change Replacement
+  unfolding stored hasRoom
+  computed g q words (ok s) = stored (hasRoom bd s words) g q words s
+  computed g q words (refuse r) = unaltered q words (Replacement.Refused r)
+
+  unfoldable pub onDatabase : Graph → FileRequest → List ℕ → Answer DatabaseRefusal (List Slot) → Change Replacement
+  unfolding computed filePartials
+  onDatabase g q words (ok db) = computed g q words (filePartials bd (q .length) (fileSettingOf q) g (q .file))
+  onDatabase g q words (refuse r) = unaltered q words (Replacement.Database r)
+
+  -- the image, 35, 34, 21, the computation, then 33
+  unfoldable pub replaceCall : (ℕ → ℕ → Bool) → Answer ImageRefusal Graph → FileRequest → List ℕ → Change Replacement
+  unfolding onDatabase checkDatabase
+  replaceCall known (ok g) q words = onDatabase g q words (checkDatabase bd known g words)
+  replaceCall known (refuse x) q words = unaltered q words (Replacement.Image x)

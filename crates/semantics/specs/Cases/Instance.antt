@@ -1,0 +1,46 @@
+-- An instance of demand 3: all its premises hold of graph C and a database that was filed by the public calls.
+-- So the demand is not empty, and its conclusion there is what document 01 says of C.
+use native.Mathlib.Omega.{arith}
+use mathlib.Core.Path.{refl}
+use mathlib.Core.Bool.{true, false}
+use mathlib.Core.List.{[], _∷_, List·Memᴰ·head}
+use Rattle.semantics.specs.declared.graph.Node.the-variants as N
+use Rattle.semantics.specs.declared.search.Limit.the-variants.{Absent}
+use Rattle.semantics.specs.declared.search.SearchOrder.the-variants.{BreadthFirst}
+use Rattle.semantics.specs.Limits.{base}
+use Rattle.semantics.specs.Graph.{fileId, Graph}
+use Rattle.semantics.specs.Recorded.{recorded}
+use Rattle.semantics.specs.Image.{symbolBytes, checkImage}
+use Rattle.semantics.specs.Words.{zeros}
+use Rattle.semantics.specs.Calls.{Request, directCall, stitchedCall, freshCall, replaceCall}
+use Rattle.semantics.specs.Calls.Filing.{Filed, begun, refiled}
+use Rattle.semantics.specs.Calls.Whole.{Premises, filed-premise}
+use Rattle.semantics.specs.Cases.{imageC, live, request, oneFile, replacing, freshly}
+
+-- DEMAND 3 HAS INSTANCES: its premises hold together of C, whose file was filed into a fresh database of 8 slots
+abbrev pub askedC : Request
+askedC = request base BreadthFirst Absent Absent Absent 128 128
+
+graphC : Graph
+graphC =
+    record {
+      files = 1;
+      nodes = N.Root ∷ N.JumpToScope ∷ N.Push (fileId 0) 7 true ∷ N.Pop (fileId 0) 7 true ∷ [];
+      edges = live 2 0 0 ∷ live 0 0 0 ∷ live 0 3 0 ∷ [];
+    }
+
+filedC : Filed base (checkImage symbolBytes imageC) (oneFile imageC) (0 ∷ [])
+unfolding oneFile replacing freshly checkImage freshCall replaceCall
+filedC = refiled BreadthFirst 16384 0 (record { expanded = 5; found = 3; cycles = 0; lengthLimited = false; countLimited = false }) (begun (zeros 1051) refl) refl
+
+pub premises-c : Premises symbolBytes base imageC (oneFile imageC) askedC askedC
+unfolding checkImage graphC oneFile replacing freshly directCall stitchedCall recorded
+premises-c = record {
+  graph = graphC;
+  accepted = refl;
+  same-reference = refl;
+  same-length-limit = refl;
+  database-holds = filed-premise symbolBytes base imageC graphC refl (oneFile imageC) (0 ∷ []) filedC (λ f h. List·Memᴰ·head (omega (arith, h)));
+  direct-finished = record { paths = 2; stats = record { expanded = 5; complete = 2; rejected = 0; cycles = 1; lengthLimited = false; countLimited = false; completeLimited = false }; answered = refl; uncounted = refl; uncut = refl };
+  stitched-finished = record { paths = 1; stats = record { expanded = 4; complete = 2; rejected = 0; cycles = 0; lengthLimited = false; countLimited = false; completeLimited = false }; answered = refl; uncounted = refl; uncut = refl };
+}

@@ -1,0 +1,107 @@
+-- The view of every graph is lawful; what the kinds of nodes have to do with one another.
+-- Document 01, "Graph image": `outgoing`; serves demand 3.
+use Prim.Native.Nat.{ℕ, zero, suc, _+_, _<_}
+use native.Mathlib.Nat.{add-zero, zero-add, add-suc, suc-add}
+use native.Mathlib.Omega.{arith}
+use mathlib.Core.Path.{_≡_, refl, sym, _∙_, ap}
+use mathlib.Core.Logic.{⊎-elim}
+use mathlib.Core.Bool.{Bool, true, false, true≢false, false≢true}
+use mathlib.Core.Option.{some}
+use mathlib.Core.List.{List, [], _∷_, List·Memᴰ, List·Memᴰ·head, List·Memᴰ·not-nil}
+use lib.Dec.{eqb}
+use lib.ListN.{getD}
+use lib.IntN.{ℤ}
+use Rattle.semantics.specs.declared.graph.NodeId.{NodeId}
+use Rattle.semantics.specs.declared.graph.Node.{Node}
+use Rattle.semantics.specs.declared.graph.Node.the-variants as N
+use Rattle.semantics.specs.declared.graph.Edge.{Edge}
+use Rattle.semantics.specs.declared.graph.Edge.the-variants as E
+use Rattle.semantics.specs.Lists.{consIf, or}
+use Rattle.semantics.specs.Lists.Laws.{eqb-true, consIf-tail, consIf-cases, or-true}
+use Rattle.semantics.specs.Graph.{nodeId, Graph, viewOf, outgoing, traits, fileOf, isReference, isDefinition, isExported, isStart, isEndpoint, Ascending, Lawful}
+
+out-has : (n i k : ℕ) (s t : NodeId) (p : ℤ) (es : List Edge) → getD es k E.Removed ≡ E.Live s t p → eqb (s .0) n ≡ true → List·Memᴰ (i + k) (outgoing n i es)
+unfolding outgoing
+out-has n i k s t p [] e h = absurd (let z : _≡_ {A = Bool} true false = cc in true≢false z)
+out-has n i zero s t p (E.Removed ∷ es) e h = absurd (let z : _≡_ {A = Bool} true false = cc in true≢false z)
+out-has n i (suc k) s t p (E.Removed ∷ es) e h = rw (add-suc i k, ← suc-add i k) (out-has n (suc i) k s t p es e h)
+out-has n i zero s t p (E.Live s′ t′ p′ ∷ es) e h =
+    let q : s′ ≡ s = cc in
+    rw (add-zero, q, h) (List·Memᴰ·head refl)
+out-has n i (suc k) s t p (E.Live s′ t′ p′ ∷ es) e h = consIf-tail (eqb (s′ .0) n) i (i + suc k) _ (rw (add-suc i k, ← suc-add i k) (out-has n (suc i) k s t p es e h))
+
+record Outgoing (es : List Edge) (n i e : ℕ) : Type 0 where
+  pub place : ℕ
+  pub target : NodeId
+  pub precedence : ℤ
+  pub number : e ≡ i + place
+  pub found : getD es place E.Removed ≡ E.Live (nodeId n) target precedence
+
+out-later : (x : Edge) (es : List Edge) (n i e : ℕ) → Outgoing es n (suc i) e → Outgoing (x ∷ es) n i e
+out-later x es n i e o = record { place = suc (o .place); target = o .target; precedence = o .precedence; number = o .number ∙ suc-add i (o .place) ∙ sym (add-suc i (o .place)); found = o .found }
+
+out-is : (n i e : ℕ) (es : List Edge) → List·Memᴰ e (outgoing n i es) → Outgoing es n i e
+unfolding outgoing
+out-is n i e [] m = absurd (List·Memᴰ·not-nil m)
+out-is n i e (E.Removed ∷ es) m = out-later E.Removed es n i e (out-is n (suc i) e es m)
+out-is n i e (E.Live s t p ∷ es) m =
+    ⊎-elim (λ h. record { place = 0; target = t; precedence = p; number = h .0 ∙ sym (add-zero i); found = ap (λ x. E.Live (nodeId x) t p) (eqb-true (s .0) n (h .1)) })
+    (λ k. out-later (E.Live s t p) es n i e (out-is n (suc i) e es k)) (consIf-cases (eqb (s .0) n) i e (outgoing n (suc i) es) m)
+
+consIf-ascends : (b : Bool) (x : ℕ) (l : List ℕ) → ((y : ℕ) → List·Memᴰ y l → x < y) → Ascending l → Ascending (consIf b x l)
+consIf-ascends true x l h a = (h, a)
+consIf-ascends false x l h a = a
+
+out-ascends : (n i : ℕ) (es : List Edge) → Ascending (outgoing n i es)
+unfolding outgoing
+out-ascends n i [] = tt
+out-ascends n i (E.Removed ∷ es) = out-ascends n (suc i) es
+out-ascends n i (E.Live s t p ∷ es) = consIf-ascends (eqb (s .0) n) i (outgoing n (suc i) es) (λ y m. let o = out-is n (suc i) y es m in omega (arith, o .number)) (out-ascends n (suc i) es)
+
+pub viewOf-lawful : (g : Graph) → Lawful (viewOf g)
+unfolding viewOf
+viewOf-lawful g = record {
+  lists = λ n e s t p f h. rw zero-add at (out-has n 0 e s t p (g .edges) f h);
+  live = λ n e m.
+      let o = out-is n 0 e (g .edges) m in
+      let k : e ≡ o .place = o .number ∙ zero-add (o .place) in
+      (o .target, o .precedence, ap (λ x. getD (g .edges) x E.Removed) k ∙ o .found);
+  ascends = λ n. out-ascends n 0 (g .edges);
+}
+
+-- kinds of nodes
+pub reference-only : (n : Node) → isReference n ≡ true → isDefinition n ≡ false
+reference-only N.Removed e = refl
+reference-only N.Root e = refl
+reference-only N.JumpToScope e = refl
+reference-only (N.Scope f x) e = refl
+reference-only (N.Push f s r) e = refl
+reference-only (N.Pop f s d) e = absurd (false≢true e)
+reference-only (N.PushScoped f s a r) e = refl
+reference-only (N.PopScoped f s d) e = absurd (false≢true e)
+reference-only (N.DropScopes f) e = refl
+
+pub exported-start : (n : Node) → isExported n ≡ true → (f : ℕ) × (fileOf n ≡ some f) × (isStart n ≡ true)
+exported-start N.Removed e = absurd (false≢true e)
+exported-start N.Root e = absurd (false≢true e)
+exported-start N.JumpToScope e = absurd (false≢true e)
+exported-start (N.Scope f x) e = (f .0, refl, rw e)
+exported-start (N.Push f s r) e = absurd (false≢true e)
+exported-start (N.Pop f s d) e = absurd (false≢true e)
+exported-start (N.PushScoped f s a r) e = absurd (false≢true e)
+exported-start (N.PopScoped f s d) e = absurd (false≢true e)
+exported-start (N.DropScopes f) e = absurd (false≢true e)
+
+pub reference-start : (n : Node) → isReference n ≡ true → (f : ℕ) × (fileOf n ≡ some f) × (isStart n ≡ true)
+reference-start N.Removed e = absurd (false≢true e)
+reference-start N.Root e = absurd (false≢true e)
+reference-start N.JumpToScope e = absurd (false≢true e)
+reference-start (N.Scope f x) e = absurd (false≢true e)
+reference-start (N.Push f s r) e = (f .0, refl, e)
+reference-start (N.Pop f s d) e = absurd (false≢true e)
+reference-start (N.PushScoped f s a r) e = (f .0, refl, e)
+reference-start (N.PopScoped f s d) e = absurd (false≢true e)
+reference-start (N.DropScopes f) e = absurd (false≢true e)
+
+pub definition-endpoint : (n : Node) → isDefinition n ≡ true → isEndpoint n ≡ true
+definition-endpoint n e = rw e (ap (or ((traits n) .shared)) (or-true ((traits n) .exported)) ∙ or-true ((traits n) .shared))

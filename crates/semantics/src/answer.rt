@@ -1,0 +1,60 @@
+// What the public calls answer. Document 01's number and values for each case stand in specs/Told.antt.
+use crate::refusal::DatabaseRefusal;
+use crate::refusal::ImageRefusal;
+use crate::refusal::LinearRefusal;
+use crate::refusal::PartialPathRefusal;
+use crate::refusal::ReplayRefusal;
+use crate::refusal::SearchRefusal;
+use crate::search::PartialPathStats;
+use crate::search::SearchStats;
+
+// The check of an image: the counts of an accepted graph, or 1 to 5.
+pub enum Checked {
+    Accepted { files: u32, nodes: u32, edges: u32 },
+    Refused(ImageRefusal),
+}
+
+// Replay. The path itself stands beside this answer.
+pub enum Replayed {
+    Done,
+    Image(ImageRefusal),
+    Refused(ReplayRefusal),
+}
+
+// Completeness and shadowing.
+pub enum Judgement {
+    Done { holds: bool },
+    Image(ImageRefusal),
+    Refused(ReplayRefusal),
+}
+
+// Direct and stitched search: how many paths stand in the result slots. Direct search lends no database, so it never answers Database.
+pub enum Resolution {
+    Done { paths: u32, stats: SearchStats },
+    Image(ImageRefusal),
+    Database(DatabaseRefusal),
+    Refused(SearchRefusal),
+}
+
+// Linear search.
+pub enum LinearResolution {
+    Done { paths: u32, stats: SearchStats },
+    Image(ImageRefusal),
+    Refused(LinearRefusal),
+}
+
+// A fresh database: under 3 words are 35.
+pub enum Creation {
+    Done,
+    Image(ImageRefusal),
+    Malformed,
+}
+
+// A file replaced: 35 and 34, then 21 and the computation, then 33.
+pub enum Replacement {
+    Done { stats: PartialPathStats },
+    Image(ImageRefusal),
+    Database(DatabaseRefusal),
+    Refused(PartialPathRefusal),
+    Full,
+}

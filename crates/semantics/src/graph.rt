@@ -1,0 +1,53 @@
+// Numbers of four separate kinds, and the records of a graph: document 01, "Graph image".
+pub struct NodeId(pub u32);
+
+pub struct EdgeId(pub u32);
+
+pub struct FileId(pub u32);
+
+pub struct PartialPathId(pub u32);
+
+// A node record by its kind, 0 to 8.
+pub enum Node {
+    Removed,
+    Root,
+    JumpToScope,
+    Scope {
+        file: FileId,
+        exported: bool,
+    },
+    Push {
+        file: FileId,
+        symbol: u32,
+        reference: bool,
+    },
+    Pop {
+        file: FileId,
+        symbol: u32,
+        definition: bool,
+    },
+    PushScoped {
+        file: FileId,
+        symbol: u32,
+        scope: NodeId,
+        reference: bool,
+    },
+    PopScoped {
+        file: FileId,
+        symbol: u32,
+        definition: bool,
+    },
+    DropScopes {
+        file: FileId,
+    },
+}
+
+// An edge record by its kind, 0 or 1.
+pub enum Edge {
+    Removed,
+    Live {
+        source: NodeId,
+        target: NodeId,
+        precedence: i32,
+    },
+}

@@ -1,0 +1,5 @@
+// The values that contracts speak about. What they mean stands in specs/.
+pub mod answer;
+pub mod graph;
+pub mod refusal;
+pub mod search;
