@@ -1,5 +1,6 @@
 // The values that contracts speak about. What they mean stands in specs/.
 pub mod answer;
+pub mod bounds;
 pub mod graph;
 pub mod refusal;
 pub mod search;

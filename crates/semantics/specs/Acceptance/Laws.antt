@@ -1,14 +1,15 @@
 -- An accepted graph has what demand 3 needs, and every attached scope of it is exported.
 -- Document 01, "For demand 3"; 19 of "Turned back".
-use Prim.Native.Nat.{ℕ, zero, suc, _+_, _<_}
+use Prim.Native.Nat.{ℕ, zero, suc, _+_, _≤_, _<_}
 use native.Mathlib.Nat.{add-zero, zero-add, add-suc, suc-add}
+use native.Mathlib.Omega.{arith}
 use mathlib.Core.Path.{_≡_, refl, sym, _∙_, ap}
 use mathlib.Core.Logic.{_⊎_, inl, inr, ⊎-elim}
 use mathlib.Core.Bool.{Bool, true, false, true≢false}
 use mathlib.Core.Option.{Option, none, some}
 use mathlib.Core.List.{List, [], _∷_}
-use lib.Dec.{ltb, ltb→lt}
-use lib.ListN.{getD}
+use lib.Dec.{leb, ltb, leb→le, ltb→lt}
+use lib.ListN.{length, getD}
 use lib.IntN.{ℤ}
 use Rattle.semantics.specs.declared.graph.NodeId.{NodeId}
 use Rattle.semantics.specs.declared.graph.FileId.{FileId}
@@ -64,6 +65,34 @@ module _ (g : Graph) (h : accepts g ≡ true) where
   unfolding edgeFits oneFile
   one-file e s t p a b k x y = ⊎-elim (λ (q : edgeFits (viewOf g) ((viewOf g) .edge e) ≡ true). eqb-true a b (sym (ap (λ (o : Option ℕ). oneFile o (some b)) x) ∙ ap (oneFile (fileOf ((viewOf g) .node (s .0)))) (sym y) ∙ and-true (oneFile (fileOf ((viewOf g) .node (s .0))) (fileOf ((viewOf g) .node (t .0)))) _ (sym (ap (edgeFits (viewOf g)) k) ∙ q) .0))
       (λ q. absurd (let z : _≡_ {A = Bool} true false = cc in true≢false z)) (edge-at e)
+
+  -- jump is node 1 and no other
+  pub jump-only : (n : ℕ) → (viewOf g) .node n ≡ N.JumpToScope → n ≡ 1
+  unfolding placeFits
+  jump-only n e = ⊎-elim (λ (k : nodeTest (g .files) (viewOf g) n ((viewOf g) .node n) ≡ true). eqb-true n 1 (sym (ap (placeFits n) e) ∙ and-true (placeFits n ((viewOf g) .node n)) _ k .0)) (λ k. absurd (let z : _≡_ {A = Bool} true false = cc in true≢false z)) (node-at n)
+
+  pub jump-there : (viewOf g) .node 1 ≡ N.JumpToScope
+  unfolding viewOf placeFits countFits
+  jump-there = on (g .nodes) enough (each .0)
+    where
+      second : (n : Node) → placeFits 1 n ≡ true → n ≡ N.JumpToScope
+      second N.Removed h = absurd (true≢false (sym h))
+      second N.Root h = absurd (true≢false (sym h))
+      second N.JumpToScope h = refl
+      second (N.Scope f x) h = absurd (true≢false (sym h))
+      second (N.Push f x d) h = absurd (true≢false (sym h))
+      second (N.Pop f x d) h = absurd (true≢false (sym h))
+      second (N.PushScoped f x a d) h = absurd (true≢false (sym h))
+      second (N.PopScoped f x d) h = absurd (true≢false (sym h))
+      second (N.DropScopes f) h = absurd (true≢false (sym h))
+
+      enough : 2 ≤ length (g .nodes)
+      enough = leb→le 2 (length (g .nodes)) (eq→T _ (and-true (leb 2 (length (g .nodes))) _ (and-true (leb (g .files) 256) _ (tests .0) .1) .0))
+
+      on : (l : List Node) → 2 ≤ length l → everyFrom (nodeTest (g .files) (viewOf g)) 0 l ≡ true → getD l 1 N.Removed ≡ N.JumpToScope
+      on [] m e = absurd (omega (arith, m))
+      on (a ∷ []) m e = absurd (omega (arith, m))
+      on (a ∷ b ∷ l) m e = second b (and-true (placeFits 1 b) _ (and-true (nodeTest (g .files) (viewOf g) 1 b) _ (and-true (nodeTest (g .files) (viewOf g) 0 a) _ e .1) .0) .0)
 
   -- an attached scope is exported: 19 has no occasion
   pub scope-exported : (n : ℕ) (f : FileId) (x : ℕ) (a : NodeId) (r : Bool) → (viewOf g) .node n ≡ N.PushScoped f x a r → isExported ((viewOf g) .node (a .0)) ≡ true

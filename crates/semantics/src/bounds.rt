@@ -1,0 +1,12 @@
+// The bounds of document 01, each in one place. specs/Limits.antt has the same numbers for the definitions.
+
+// How many edges a path may hold.
+pub const MAX_EDGES: usize = 127;
+// A result or waiting slot in words: the count and the edges.
+pub const SLOT_WORDS: usize = MAX_EDGES + 1;
+// A database slot in words: file + 1, start, end, the count and the edges.
+pub const RECORD_WORDS: usize = MAX_EDGES + 4;
+// How many slots a database may have.
+pub const MAX_RECORDS: usize = 4_096;
+// How many expansions a search may make.
+pub const MAX_EXPANSIONS: u64 = 16_777_216;

@@ -1,0 +1,42 @@
+-- `storage::check::load_fresh`: a header that goes on stands in front of the first record.
+use borrow.Author.Needs.{needs}
+use mathlib.Core.Path.{_≡_, sym, ap, _∙_}
+use Rattle.semantics.specs.Answer.{ok}
+use Rattle.semantics.specs.Image.{symbolBytes, header, checkImage}
+use Rattle.storage.specs.Records.Laws.{headed}
+use Rattle.storage.specs.Steps.{answerOf}
+use Rattle.storage.specs.Checks.Laws.{bad-header, told-refused, none-loaded}
+use Rattle.storage.proofs.check.load_fresh.Statement.{statement}
+use Rattle.storage.proofs.check.load_fresh.Tie as tie
+
+header-requires : tie.Need-header-requires
+header-requires c κs = search needs
+
+enum-told : tie.Need-enum-told
+enum-told c = search needs
+
+read-requires : tie.Need-read-requires
+read-requires c κs =
+    let im = c .before .before .before .before .before .before .args .image .now in
+    let e : header im ≡ ok (c .before .enum-told .given .0 .0) = sym (c .before .before .before .header .ensures) ∙ ap answerOf (c .before .enum-told .given .1) in
+    (e ∙ ap ok (headed im _ e .1), c .before .before .before .before .before .before .pre)
+
+enum-known-r : tie.Need-enum-known-r
+enum-known-r c = search needs
+
+same-length : tie.Need-same-length
+same-length c = search needs
+
+returns : tie.Need-returns
+returns c = search needs
+
+returns-2 : tie.Need-returns-2
+returns-2 c =
+    let im = c .before .before .before .before .before .before .args .image .now in
+    let e = bad-header im (c .before .r .given .0 .0) (sym (c .before .before .before .header .ensures) ∙ ap answerOf (c .before .r .given .1)) in
+    (told-refused (checkImage symbolBytes im) _ e, none-loaded (checkImage symbolBytes im) _ e)
+
+pub load-fresh-spec : {M : Type 1} → statement M
+load-fresh-spec =
+    tie.close
+    (tie.spec header-requires enum-told read-requires enum-known-r same-length returns returns-2)

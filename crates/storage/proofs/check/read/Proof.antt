@@ -1,0 +1,64 @@
+-- `storage::check::read`: the first refusal of a part, or what the last part answers.
+use borrow.Author.Needs.{needs}
+use mathlib.Core.Path.{sym, ap, _∙_}
+use Rattle.semantics.specs.Calls.{checkCall}
+use Rattle.semantics.specs.Image.{symbolBytes, firstRecord, checkImage}
+use Rattle.storage.specs.Records.Laws.{headed}
+use Rattle.storage.specs.Steps.{answerOf}
+use Rattle.storage.specs.Checks.Laws.{bad-record, left-over, by-references, told-refused, none-loaded}
+use Rattle.storage.proofs.check.read.Statement.{statement}
+use Rattle.storage.proofs.check.read.Tie as tie
+
+records-requires : tie.Need-records-requires
+records-requires c κs = (headed (c .before .before .before .args .image .now) firstRecord (c .before .before .before .pre .0) .0, c .before .before .before .pre .1)
+
+enum-known-last : tie.Need-enum-known-last
+enum-known-last c = search needs
+
+same-length : tie.Need-same-length
+same-length c = search needs
+
+returns : tie.Need-returns
+returns c =
+    let im = c .before .before .before .before .before .before .before .before .before .before .args .image .now in
+    let e = left-over im (c .before .before .before .before .before .before .before .before .before .before .pre .0) (c .before .before .last .given .0 .0) (sym (c .before .before .before .before .before .before .records .ensures .0) ∙ ap answerOf (c .before .before .last .given .1)) (c .if1 .taken) in
+    (told-refused (checkImage symbolBytes im) _ e, none-loaded (checkImage symbolBytes im) _ e)
+
+refer-requires : tie.Need-refer-requires
+refer-requires c κs = (headed (c .before .before .before .before .before .before .before .before .before .before .before .args .image .now) firstRecord (c .before .before .before .before .before .before .before .before .before .before .before .pre .0) .0, c .before .before .before .before .before .before .before .records .ensures .1 _ (c .before .before .before .last .given .1))
+
+enum-known-r : tie.Need-enum-known-r
+enum-known-r c = search needs
+
+same-length-2 : tie.Need-same-length-2
+same-length-2 c = search needs
+
+returns-2 : tie.Need-returns-2
+returns-2 c =
+    let im = c .before .before .before .before .before .before .before .before .before .before .before .before .before .before .args .image .now in
+    let e = by-references im (c .before .before .before .before .before .before .before .before .before .before .before .before .before .before .pre .0) (c .before .before .before .before .before .before .last .given .0 .0) (sym (c .before .before .before .before .before .before .before .before .before .before .records .ensures .0) ∙ ap answerOf (c .before .before .before .before .before .before .last .given .1)) (c .before .before .before .before .if1 .left) in
+    (c .before .before .refer .ensures .0 ∙ ap checkCall (sym e), λ g q. c .before .before .refer .ensures .1 g (sym e ∙ q))
+
+same-length-3 : tie.Need-same-length-3
+same-length-3 c = search needs
+
+returns-3 : tie.Need-returns-3
+returns-3 c =
+    let im = c .before .before .before .before .before .before .before .before .before .args .image .now in
+    let e = bad-record im (c .before .before .before .before .before .before .before .before .before .pre .0) (c .before .r .given .0 .0) (sym (c .before .before .before .before .before .records .ensures .0) ∙ ap answerOf (c .before .r .given .1)) in
+    (told-refused (checkImage symbolBytes im) _ e, none-loaded (checkImage symbolBytes im) _ e)
+
+pub read-spec : {M : Type 1} → statement M
+read-spec =
+    tie.close
+    (tie.spec
+    records-requires
+    enum-known-last
+    same-length
+    returns
+    refer-requires
+    enum-known-r
+    same-length-2
+    returns-2
+    same-length-3
+    returns-3)

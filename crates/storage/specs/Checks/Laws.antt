@@ -1,0 +1,123 @@
+-- Each outcome of the whole check from the outcomes of its parts.
+-- Serves document 01, "Turned back".
+use Prim.Native.Nat.{ℕ, _<_, _≤_}
+use native.Mathlib.Omega.{arith}
+use mathlib.Core.Path.{_≡_, refl, sym, ap, _∙_, subst}
+use mathlib.Core.Bool.{Bool}
+use mathlib.Core.List.{List}
+use borrow.Author.Tests.{eq-eqb, ne-eqb}
+use lib.Dec.{eqb}
+use lib.ListN.{length}
+use Rattle.semantics.specs.declared.refusal.ImageRefusal.{ImageRefusal}
+use Rattle.semantics.specs.declared.refusal.ImageRefusal.the-variants as Image
+use Rattle.semantics.specs.declared.answer.Checked.{Checked}
+use Rattle.semantics.specs.declared.answer.Checked.the-variants as Checked
+use Rattle.semantics.specs.Calls.{checkCall}
+use Rattle.semantics.specs.Lists.{pick}
+use Rattle.semantics.specs.Answer.{Answer, ok, refuse, andThen}
+use Rattle.semantics.specs.Answer.Laws.{ok-inj, refuse-ok}
+use Rattle.semantics.specs.Graph.{Graph, viewOf}
+use Rattle.semantics.specs.Image.{symbolBytes, firstRecord, firstEdge, filesOf, nodesOf, edgesOf, header, nodeRecord, edgeRecord, scan, placeOf, edgeMisfit, graphOf, references, checkImage}
+use Rattle.storage.specs.Rows.{Loaded}
+use Rattle.storage.specs.Filling.{Held, Linked}
+use Rattle.storage.specs.Filling.Laws.{nothing-linked}
+use Rattle.storage.specs.Records.{Headed}
+use Rattle.storage.specs.Records.Laws.{length-nodes, length-edges}
+use Rattle.storage.specs.References.{First, nodeTest, edgeTest, Sources}
+use Rattle.storage.specs.References.Laws.{nodes-fit, node-misfit, edges-fit, edge-misfit, sources-fit}
+use Rattle.storage.specs.Checks.{recordsOf, referencesOf}
+
+-- THE PARTS BEHIND ONE ANOTHER
+then-assoc : {A B C : Type 0} (x : Answer ImageRefusal A) (f : A → Answer ImageRefusal B) (h : B → Answer ImageRefusal C) → andThen x (λ a. andThen (f a) h) ≡ andThen (andThen x f) h
+then-assoc (ok a) f h = refl
+then-assoc (refuse r) f h = refl
+
+abbrev ending : List ℕ → ℕ → Answer ImageRefusal Graph
+ending im last = pick (eqb last (length im)) (referencesOf im) (refuse Image.Length)
+
+module _ (im : List ℕ) where
+  pub bad-header : (r : ImageRefusal) → header im ≡ refuse r → checkImage symbolBytes im ≡ refuse r
+  unfolding checkImage
+  bad-header r e = rw e
+
+  module _ (good : header im ≡ ok firstRecord) where
+    behind-header : checkImage symbolBytes im ≡ andThen (recordsOf im) (ending im)
+    unfolding checkImage
+    behind-header = rw good (then-assoc (scan (nodeRecord symbolBytes im (filesOf im)) 0 firstRecord (nodesOf im)) (λ middle. scan (λ e. edgeRecord im) 0 middle (edgesOf im)) (ending im))
+
+    pub bad-record : (r : ImageRefusal) → recordsOf im ≡ refuse r → checkImage symbolBytes im ≡ refuse r
+    bad-record r e = behind-header ∙ ap (λ x. andThen x (ending im)) e
+
+    module _ (last : ℕ) (read : recordsOf im ≡ ok last) where
+      at-end : checkImage symbolBytes im ≡ ending im last
+      at-end = behind-header ∙ ap (λ x. andThen x (ending im)) read
+
+      pub left-over : (last ≡ length im → ⊥) → checkImage symbolBytes im ≡ refuse Image.Length
+      left-over h = at-end ∙ ap (λ (b : Bool). pick b (referencesOf im) (refuse Image.Length)) (ne-eqb last (length im) h)
+
+      pub by-references : last ≡ length im → checkImage symbolBytes im ≡ referencesOf im
+      by-references h = at-end ∙ ap (λ (b : Bool). pick b (referencesOf im) (refuse Image.Length)) (eq-eqb last (length im) h)
+
+-- THE REFERENCES
+pub count-nodes : (im : List ℕ) → length ((graphOf symbolBytes im) .nodes) ≡ nodesOf im
+unfolding graphOf
+count-nodes im = length-nodes im firstRecord (nodesOf im)
+
+pub count-edges : (im : List ℕ) → length ((graphOf symbolBytes im) .edges) ≡ edgesOf im
+unfolding graphOf
+count-edges im = length-edges im (firstEdge im) (edgesOf im)
+
+module _ (im : List ℕ) (n k : ℕ) (isNodes : n ≡ nodesOf im) (f : First (nodeTest (graphOf symbolBytes im)) n k) where
+  pub bad-node : k < n → referencesOf im ≡ refuse (Image.Reference (placeOf im firstRecord k))
+  unfolding references viewOf
+  bad-node h =
+      ap (λ x. andThen x (λ y. ok (graphOf symbolBytes im)))
+      (node-misfit im (graphOf symbolBytes im) ((graphOf symbolBytes im) .nodes) firstRecord k _ (omega (arith, count-nodes im)) (f .before) (f .here h))
+
+  module _ (fit : n ≤ k) where
+    -- the nodes fit, so the edges decide
+    by-edges : references im (graphOf symbolBytes im) ≡ edgeMisfit im (graphOf symbolBytes im) (firstEdge im) ((graphOf symbolBytes im) .edges)
+    unfolding references viewOf
+    by-edges = nodes-fit im (graphOf symbolBytes im) ((graphOf symbolBytes im) .nodes) firstRecord _ (λ j h. f .before j (omega (arith, h, count-nodes im)))
+
+    module _ (m e : ℕ) (isEdges : m ≡ edgesOf im) (d : First (edgeTest (graphOf symbolBytes im)) m e) where
+      pub bad-edge : e < m → referencesOf im ≡ refuse (Image.Reference (placeOf im (firstEdge im) e))
+      unfolding viewOf
+      bad-edge h =
+          ap (λ x. andThen x (λ y. ok (graphOf symbolBytes im)))
+          (by-edges ∙ edge-misfit im (graphOf symbolBytes im) ((graphOf symbolBytes im) .edges) (firstEdge im) e (omega (arith, count-edges im)) (d .before) (d .here h))
+
+      pub all-fit : m ≤ e → referencesOf im ≡ ok (graphOf symbolBytes im)
+      unfolding viewOf
+      all-fit h =
+          ap (λ x. andThen x (λ y. ok (graphOf symbolBytes im)))
+          (by-edges ∙ edges-fit im (graphOf symbolBytes im) ((graphOf symbolBytes im) .edges) (firstEdge im) (λ j b. d .before j (omega (arith, b, count-edges im))))
+
+      -- what the linking is handed
+      pub sources-known : (l : List ℕ) → Held (graphOf symbolBytes im) l → m ≤ e → Sources l
+      sources-known l k h = sources-fit (graphOf symbolBytes im) l k m (omega (arith, count-edges im)) (λ j b. d .before j (omega arith))
+
+pub ready : (im l : List ℕ) (m : ℕ) → Headed im → m ≡ edgesOf im → Held (graphOf symbolBytes im) l → Linked (graphOf symbolBytes im) l m
+ready im l m h e k = nothing-linked (graphOf symbolBytes im) l m (omega (arith, count-edges im)) (omega (arith, count-nodes im, h .nodes)) (omega (arith, count-edges im, h .edges)) k
+
+-- THE ANSWER
+pub told-refused : (x : Answer ImageRefusal Graph) (r : ImageRefusal) → x ≡ refuse r → Checked.Refused r ≡ checkCall x
+unfolding checkCall
+told-refused x r e = sym (ap checkCall e)
+
+pub told-accepted : (im : List ℕ) (f n m : ℕ) → f ≡ filesOf im → n ≡ nodesOf im → m ≡ edgesOf im → referencesOf im ≡ ok (graphOf symbolBytes im) → Checked.Accepted f n m ≡ checkCall (referencesOf im)
+unfolding checkCall
+told-accepted im f n m a b c e =
+    let x = a ∙ sym files in let y = b ∙ sym (count-nodes im) in let z = c ∙ sym (count-edges im) in
+    (λ i. Checked.Accepted (x i) (y i) (z i)) ∙ sym (ap checkCall e)
+  where
+    files : (graphOf symbolBytes im) .files ≡ filesOf im
+    files = unfold graphOf in refl
+
+-- nothing is loaded by a refused image
+pub none-loaded : {l : List ℕ} (x : Answer ImageRefusal Graph) (r : ImageRefusal) → x ≡ refuse r → (g : Graph) → x ≡ ok g → Loaded g l
+none-loaded x r e g q = absurd (refuse-ok r g (sym e ∙ q))
+
+-- the graph of an accepted image is the one that was put into the index
+pub one-loaded : (L : Graph → Type 0) (x : Answer ImageRefusal Graph) (h : Graph) → x ≡ ok h → L h → (g : Graph) → x ≡ ok g → L g
+one-loaded L x h e k g q = subst L (ok-inj h g (sym e ∙ q)) k

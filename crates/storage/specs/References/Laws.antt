@@ -1,0 +1,253 @@
+-- What the words of a record say of its references, and the place of the first one that misses.
+-- Serves document 01, "Turned back", row 5.
+use Prim.Native.Nat.{ℕ, zero, suc, _+_, _-_, _<_, _≤_}
+use native.Mathlib.Omega.{arith}
+use native.Mathlib.Decide.{decLt}
+use mathlib.Core.Path.{_≡_, refl, sym, ap, _∙_}
+use mathlib.Core.Bool.{Bool, true, false, not, false≢true}
+use mathlib.Core.Option.{Option, none, some}
+use mathlib.Core.List.{List, [], _∷_}
+use borrow.Author.Tests.{lt-ltb, le-ltb, eq-eqb, ne-eqb}
+use lib.Dec.{eqb, ltb}
+use lib.IntN.{ℤ}
+use lib.ListN.{length, getD, List·getD-eq-default}
+use Rattle.semantics.specs.declared.graph.NodeId.{NodeId}
+use Rattle.semantics.specs.declared.graph.Node.{Node}
+use Rattle.semantics.specs.declared.graph.Node.the-variants as N
+use Rattle.semantics.specs.declared.graph.Edge.{Edge}
+use Rattle.semantics.specs.declared.graph.Edge.the-variants as E
+use Rattle.semantics.specs.declared.refusal.ImageRefusal.{ImageRefusal}
+use Rattle.semantics.specs.declared.refusal.ImageRefusal.the-variants as Image
+use Rattle.semantics.specs.Lists.{pick, and}
+use Rattle.semantics.specs.Lists.Laws.{and-true}
+use Rattle.semantics.specs.Answer.{Answer, ok, refuse}
+use Rattle.semantics.specs.Bytes.{signed}
+use Rattle.semantics.specs.Graph.{nodeId, Graph, View, viewOf, fileOf, isFile}
+use Rattle.semantics.specs.Acceptance.{exportedIn, nodeFits, edgeFits, oneFile, isLive}
+use Rattle.semantics.specs.Image.{nextPlace, placeOf, nodeMisfit, edgeMisfit}
+use Rattle.storage.specs.Rows.{INDEX, NODES, EDGES, KIND, SOURCE, FLAG, FILE, SYMBOL, SCOPE, TARGET, PRECEDENCE, cell, nodeOf, nodeRow, edgeRow, putLink}
+use Rattle.storage.specs.Rows.Laws.{cell-in, cell-out, words-removed, words-live}
+use Rattle.storage.specs.Filling.{Held, Linked}
+use Rattle.storage.specs.Filling.Laws.{link-other, linked-removed, linked-live}
+use Rattle.storage.specs.References.{nodeTest, edgeTest, Sources}
+
+-- A NODE FROM ITS WORDS: is it an exported scope of the file, is it live, which is its file
+pub exported-words : (kind flag file symbol scope f : ℕ) → kind < 9 → exportedIn f (nodeOf kind flag file symbol scope) ≡ pick (eqb kind 3) (and (eqb flag 1) (eqb file f)) false
+unfolding nodeOf exportedIn isFile
+exported-words zero flag file symbol scope f h = refl
+exported-words (suc zero) flag file symbol scope f h = refl
+exported-words (suc (suc zero)) flag file symbol scope f h = refl
+exported-words (suc (suc (suc zero))) flag file symbol scope f h = refl
+exported-words (suc (suc (suc (suc zero)))) flag file symbol scope f h = refl
+exported-words (suc (suc (suc (suc (suc zero))))) flag file symbol scope f h = refl
+exported-words (suc (suc (suc (suc (suc (suc zero)))))) flag file symbol scope f h = refl
+exported-words (suc (suc (suc (suc (suc (suc (suc zero))))))) flag file symbol scope f h = refl
+exported-words (suc (suc (suc (suc (suc (suc (suc (suc zero)))))))) flag file symbol scope f h = refl
+exported-words (suc (suc (suc (suc (suc (suc (suc (suc (suc k))))))))) flag file symbol scope f h = absurd (omega (arith, h))
+
+pub fits-words : (v : View) (kind flag file symbol scope : ℕ) → kind < 9 → nodeFits v (nodeOf kind flag file symbol scope) ≡ pick (eqb kind 6) (exportedIn file (v .node scope)) true
+unfolding nodeOf nodeFits
+fits-words v zero flag file symbol scope h = refl
+fits-words v (suc zero) flag file symbol scope h = refl
+fits-words v (suc (suc zero)) flag file symbol scope h = refl
+fits-words v (suc (suc (suc zero))) flag file symbol scope h = refl
+fits-words v (suc (suc (suc (suc zero)))) flag file symbol scope h = refl
+fits-words v (suc (suc (suc (suc (suc zero))))) flag file symbol scope h = refl
+fits-words v (suc (suc (suc (suc (suc (suc zero)))))) flag file symbol scope h = refl
+fits-words v (suc (suc (suc (suc (suc (suc (suc zero))))))) flag file symbol scope h = refl
+fits-words v (suc (suc (suc (suc (suc (suc (suc (suc zero)))))))) flag file symbol scope h = refl
+fits-words v (suc (suc (suc (suc (suc (suc (suc (suc (suc k))))))))) flag file symbol scope h = absurd (omega (arith, h))
+
+pub live-words : (kind flag file symbol scope : ℕ) → kind < 9 → isLive (nodeOf kind flag file symbol scope) ≡ not (eqb kind 0)
+unfolding nodeOf
+live-words zero flag file symbol scope h = refl
+live-words (suc zero) flag file symbol scope h = refl
+live-words (suc (suc zero)) flag file symbol scope h = refl
+live-words (suc (suc (suc zero))) flag file symbol scope h = refl
+live-words (suc (suc (suc (suc zero)))) flag file symbol scope h = refl
+live-words (suc (suc (suc (suc (suc zero))))) flag file symbol scope h = refl
+live-words (suc (suc (suc (suc (suc (suc zero)))))) flag file symbol scope h = refl
+live-words (suc (suc (suc (suc (suc (suc (suc zero))))))) flag file symbol scope h = refl
+live-words (suc (suc (suc (suc (suc (suc (suc (suc zero)))))))) flag file symbol scope h = refl
+live-words (suc (suc (suc (suc (suc (suc (suc (suc (suc k))))))))) flag file symbol scope h = absurd (omega (arith, h))
+
+-- root and jump have no file
+abbrev fileWord : ℕ → ℕ → Option ℕ
+fileWord kind file = pick (ltb kind 3) none (some file)
+
+pub file-words : (kind flag file symbol scope : ℕ) → kind < 9 → fileOf (nodeOf kind flag file symbol scope) ≡ fileWord kind file
+unfolding nodeOf
+file-words zero flag file symbol scope h = refl
+file-words (suc zero) flag file symbol scope h = refl
+file-words (suc (suc zero)) flag file symbol scope h = refl
+file-words (suc (suc (suc zero))) flag file symbol scope h = refl
+file-words (suc (suc (suc (suc zero)))) flag file symbol scope h = refl
+file-words (suc (suc (suc (suc (suc zero))))) flag file symbol scope h = refl
+file-words (suc (suc (suc (suc (suc (suc zero)))))) flag file symbol scope h = refl
+file-words (suc (suc (suc (suc (suc (suc (suc zero))))))) flag file symbol scope h = refl
+file-words (suc (suc (suc (suc (suc (suc (suc (suc zero)))))))) flag file symbol scope h = refl
+file-words (suc (suc (suc (suc (suc (suc (suc (suc (suc k))))))))) flag file symbol scope h = absurd (omega (arith, h))
+
+-- THE SAME IN AN INDEX THAT HOLDS THE GRAPH
+module _ (g : Graph) (l : List ℕ) (k : Held g l) where
+  pub exported-at : (f n : ℕ) → exportedIn f ((viewOf g) .node n) ≡ pick (eqb (cell l KIND NODES n) 3) (and (eqb (cell l FLAG NODES n) 1) (eqb (cell l FILE NODES n) f)) false
+  unfolding nodeRow
+  exported-at f n = ap (exportedIn f) (sym (k .node n)) ∙ exported-words (cell l KIND NODES n) (cell l FLAG NODES n) (cell l FILE NODES n) (cell l SYMBOL NODES n) (cell l SCOPE NODES n) f (k .kinds n)
+
+  pub fits-at : (n : ℕ) → nodeTest g n ≡ pick (eqb (cell l KIND NODES n) 6) (exportedIn (cell l FILE NODES n) ((viewOf g) .node (cell l SCOPE NODES n))) true
+  unfolding nodeRow
+  fits-at n = ap (nodeFits (viewOf g)) (sym (k .node n)) ∙ fits-words (viewOf g) (cell l KIND NODES n) (cell l FLAG NODES n) (cell l FILE NODES n) (cell l SYMBOL NODES n) (cell l SCOPE NODES n) (k .kinds n)
+
+  live-at : (n : ℕ) → isLive ((viewOf g) .node n) ≡ not (eqb (cell l KIND NODES n) 0)
+  unfolding nodeRow
+  live-at n = ap (λ (x : Node). isLive x) (sym (k .node n)) ∙ live-words (cell l KIND NODES n) (cell l FLAG NODES n) (cell l FILE NODES n) (cell l SYMBOL NODES n) (cell l SCOPE NODES n) (k .kinds n)
+
+  file-at : (n : ℕ) → fileOf ((viewOf g) .node n) ≡ fileWord (cell l KIND NODES n) (cell l FILE NODES n)
+  unfolding nodeRow
+  file-at n = ap (λ (x : Node). fileOf x) (sym (k .node n)) ∙ file-words (cell l KIND NODES n) (cell l FLAG NODES n) (cell l FILE NODES n) (cell l SYMBOL NODES n) (cell l SCOPE NODES n) (k .kinds n)
+
+-- BOTH ENDS OF AN EDGE, by their words
+unfoldable pub endsFit : ℕ → ℕ → ℕ → ℕ → ℕ → Bool
+unfolding oneFile
+endsFit s a fa b fb = and (oneFile (fileWord a fa) (fileWord b fb)) (and (not (eqb a 0)) (and (not (eqb b 0)) (not (eqb s 1))))
+
+and-none : (b : Bool) → and b false ≡ false
+and-none true = refl
+and-none false = refl
+
+module _ (s a fa b fb : ℕ) where
+  pub from-jump : s ≡ 1 → false ≡ endsFit s a fa b fb
+  unfolding endsFit
+  from-jump e = simp (eq-eqb s 1 e, and-none)
+
+  pub dead-source : a ≡ 0 → false ≡ endsFit s a fa b fb
+  unfolding endsFit
+  dead-source e = simp (eq-eqb a 0 e, and-none)
+
+  pub dead-target : b ≡ 0 → false ≡ endsFit s a fa b fb
+  unfolding endsFit
+  dead-target e = simp (eq-eqb b 0 e, and-none)
+
+  module _ (n : s ≡ 1 → ⊥) (x : a ≡ 0 → ⊥) (y : b ≡ 0 → ⊥) where
+    pub shared-source : a < 3 → true ≡ endsFit s a fa b fb
+    unfolding endsFit oneFile
+    shared-source h = simp (ne-eqb s 1 n, ne-eqb a 0 x, ne-eqb b 0 y, lt-ltb a 3 h)
+
+    pub shared-target : 3 ≤ a → b < 3 → true ≡ endsFit s a fa b fb
+    unfolding endsFit oneFile
+    shared-target h i = simp (ne-eqb s 1 n, ne-eqb a 0 x, ne-eqb b 0 y, le-ltb a 3 h, lt-ltb b 3 i)
+
+    pub in-files : 3 ≤ a → 3 ≤ b → eqb fa fb ≡ endsFit s a fa b fb
+    unfolding endsFit oneFile
+    in-files h i = simp (ne-eqb s 1 n, ne-eqb a 0 x, ne-eqb b 0 y, le-ltb a 3 h, le-ltb b 3 i) (same (eqb fa fb))
+      where
+        same : (q : Bool) → q ≡ and q true
+        same true = refl
+        same false = refl
+
+-- an edge by its words: removed, or live
+row-removed : (l : List ℕ) (e : ℕ) → cell l SOURCE EDGES e < 1 → E.Removed ≡ edgeRow l e
+unfolding edgeRow
+row-removed l e z = words-removed (cell l SOURCE EDGES e) (cell l TARGET EDGES e) (cell l PRECEDENCE EDGES e) z
+
+row-live : (l : List ℕ) (e : ℕ) → 0 < cell l SOURCE EDGES e → E.Live (nodeId (cell l SOURCE EDGES e - 1)) (nodeId (cell l TARGET EDGES e)) (signed (cell l PRECEDENCE EDGES e)) ≡ edgeRow l e
+unfolding edgeRow
+row-live l e z = words-live (cell l SOURCE EDGES e) (cell l TARGET EDGES e) (cell l PRECEDENCE EDGES e) z
+
+source-live : (v : View) (s t : NodeId) (p : ℤ) → edgeFits v (E.Live s t p) ≡ true → isLive (v .node (s .0)) ≡ true
+unfolding edgeFits
+source-live v s t p h =
+    and-true (isLive (v .node (s .0))) (and (isLive (v .node (t .0))) (not (eqb (s .0) 1)))
+    (and-true (oneFile (fileOf (v .node (s .0))) (fileOf (v .node (t .0)))) (and (isLive (v .node (s .0))) (and (isLive (v .node (t .0))) (not (eqb (s .0) 1)))) h .1) .0
+
+edge-beyond : (g : Graph) (e : ℕ) → length (g .edges) ≤ e → (viewOf g) .edge e ≡ E.Removed
+unfolding viewOf
+edge-beyond g e h = List·getD-eq-default (g .edges) E.Removed {n = e} h
+
+removed-live : {s t : NodeId} {p : ℤ} → E.Removed ≡ E.Live s t p → ⊥
+removed-live {s} {t} {p} e = let z : _≡_ {A = ℕ} 0 1 = cc in omega arith
+
+module _ (g : Graph) (l : List ℕ) (k : Held g l) where
+  pub ends-at : (s t : ℕ) (p : ℤ) → endsFit s (cell l KIND NODES s) (cell l FILE NODES s) (cell l KIND NODES t) (cell l FILE NODES t) ≡ edgeFits (viewOf g) (E.Live (nodeId s) (nodeId t) p)
+  unfolding endsFit edgeFits
+  ends-at s t p = rw (live-at g l k s, live-at g l k t, file-at g l k s, file-at g l k t)
+
+  pub edge-removed : (e : ℕ) → cell l SOURCE EDGES e < 1 → (viewOf g) .edge e ≡ E.Removed
+  edge-removed e z = sym (k .edge e) ∙ sym (row-removed l e z)
+
+  pub edge-live : (e : ℕ) → 0 < cell l SOURCE EDGES e → (viewOf g) .edge e ≡ E.Live (nodeId (cell l SOURCE EDGES e - 1)) (nodeId (cell l TARGET EDGES e)) (signed (cell l PRECEDENCE EDGES e))
+  edge-live e z = sym (k .edge e) ∙ sym (row-live l e z)
+
+  node-out : (n : ℕ) → isLive ((viewOf g) .node n) ≡ true → n < NODES
+  unfolding nodeRow nodeOf
+  node-out n e = go (decLt n NODES)
+    where
+      go : Dec (n < NODES) → n < NODES
+      go (yes h) = h
+      go (no h) = absurd (false≢true (sym (live-at g l k n ∙ ap (λ (x : ℕ). not (eqb x 0)) (cell-out l KIND NODES n (omega arith))) ∙ e))
+
+  -- where every edge fits, every source is a node that has its words
+  pub sources-fit : (m : ℕ) → length (g .edges) ≤ m → ((e : ℕ) → e < m → edgeTest g e ≡ true) → Sources l
+  sources-fit m b h e = go (decLt 0 (cell l SOURCE EDGES e)) (decLt e m)
+    where
+      inside : 0 < cell l SOURCE EDGES e → e < m → cell l SOURCE EDGES e - 1 < NODES
+      inside p q =
+          node-out (cell l SOURCE EDGES e - 1)
+          (source-live (viewOf g) (nodeId (cell l SOURCE EDGES e - 1)) (nodeId (cell l TARGET EDGES e)) (signed (cell l PRECEDENCE EDGES e)) (sym (ap (edgeFits (viewOf g)) (edge-live e p)) ∙ h e q))
+
+      go : Dec (0 < cell l SOURCE EDGES e) → Dec (e < m) → cell l SOURCE EDGES e ≤ NODES
+      go (no p) q = omega arith
+      go (yes p) (yes q) = let z = inside p q in omega (arith, z)
+      go (yes p) (no q) = absurd (removed-live (sym (edge-beyond g e (omega arith)) ∙ edge-live e p))
+
+-- THE PLACE OF THE FIRST MISFIT
+module _ (im : List ℕ) (g : Graph) where
+  pub nodes-fit : (ns : List Node) (at : ℕ) (next : Answer ImageRefusal ℕ) → ((j : ℕ) → j < length ns → nodeFits (viewOf g) (getD ns j N.Removed) ≡ true) → nodeMisfit im g at ns next ≡ next
+  unfolding nodeMisfit
+  nodes-fit [] at next h = refl
+  nodes-fit (x ∷ ns) at next h = rw (h 0 (omega arith)) (nodes-fit ns (nextPlace im at) next (λ j b. h (suc j) (omega arith)))
+
+  pub node-misfit : (ns : List Node) (at k : ℕ) (next : Answer ImageRefusal ℕ) → k < length ns → ((j : ℕ) → j < k → nodeFits (viewOf g) (getD ns j N.Removed) ≡ true)
+      → nodeFits (viewOf g) (getD ns k N.Removed) ≡ false → nodeMisfit im g at ns next ≡ refuse (Image.Reference (placeOf im at k))
+  unfolding nodeMisfit placeOf
+  node-misfit [] at k next b h e = absurd (omega (arith, b))
+  node-misfit (x ∷ ns) at zero next b h e = rw e
+  node-misfit (x ∷ ns) at (suc k) next b h e = rw (h 0 (omega arith)) (node-misfit ns (nextPlace im at) k next (omega (arith, b)) (λ j c. h (suc j) (omega arith)) e)
+
+  pub edges-fit : (es : List Edge) (at : ℕ) → ((j : ℕ) → j < length es → edgeFits (viewOf g) (getD es j E.Removed) ≡ true) → edgeMisfit im g at es ≡ ok (placeOf im at (length es))
+  unfolding edgeMisfit placeOf
+  edges-fit [] at h = refl
+  edges-fit (x ∷ es) at h = rw (h 0 (omega arith)) (edges-fit es (nextPlace im at) (λ j b. h (suc j) (omega arith)))
+
+  pub edge-misfit : (es : List Edge) (at k : ℕ) → k < length es → ((j : ℕ) → j < k → edgeFits (viewOf g) (getD es j E.Removed) ≡ true)
+      → edgeFits (viewOf g) (getD es k E.Removed) ≡ false → edgeMisfit im g at es ≡ refuse (Image.Reference (placeOf im at k))
+  unfolding edgeMisfit placeOf
+  edge-misfit [] at k b h e = absurd (omega (arith, b))
+  edge-misfit (x ∷ es) at zero b h e = rw e
+  edge-misfit (x ∷ es) at (suc k) b h e = rw (h 0 (omega arith)) (edge-misfit es (nextPlace im at) k (omega (arith, b)) (λ j c. h (suc j) (omega arith)) e)
+
+-- THE SEARCH FOR IT, for every test
+pub passed-more : (test : ℕ → Bool) (n : ℕ) → ((j : ℕ) → j < n → test j ≡ true) → test n ≡ true → (j : ℕ) → j < n + 1 → test j ≡ true
+passed-more test n h e j b = go (decLt j n)
+  where
+    go : Dec (j < n) → test j ≡ true
+    go (yes p) = h j p
+    go (no p) = let z : j ≡ n = omega arith in ap test z ∙ e
+
+-- ONE EDGE LINKED, by the words that are read
+module _ (l : List ℕ) (long : length l ≡ INDEX) (e source : ℕ) (h : e < EDGES) (reads : source ≡ getD l (SOURCE + e) 0) where
+  in-cell : cell l SOURCE EDGES e ≡ source
+  in-cell = cell-in l SOURCE EDGES e h ∙ sym reads
+
+  pub unlinked : source < 1 → (g : Graph) → e < length (g .edges) → Linked g l (e + 1) → Linked g l e
+  unlinked z g b k = linked-removed g l e k b (sym (k .edge e) ∙ sym (row-removed l e (rw in-cell z)))
+
+  pub linked : 0 < source → source ≤ NODES → (g : Graph) → e < length (g .edges) → Linked g l (e + 1) → Linked g (putLink e (source - 1) l) e
+  linked z f g b k =
+      let q : 0 < cell l SOURCE EDGES e = rw in-cell z in
+      let x : (viewOf g) .edge e ≡ E.Live (nodeId (source - 1)) (nodeId (cell l TARGET EDGES e)) (signed (cell l PRECEDENCE EDGES e)) =
+      sym (k .edge e) ∙ sym (row-live l e q) ∙ ap (λ (y : ℕ). E.Live (nodeId (y - 1)) (nodeId (cell l TARGET EDGES e)) (signed (cell l PRECEDENCE EDGES e))) in-cell in
+      linked-live g l e k b (nodeId (source - 1)) (nodeId (cell l TARGET EDGES e)) (signed (cell l PRECEDENCE EDGES e)) x (omega arith)
+
+  pub sources-kept : 0 < source → source ≤ NODES → Sources l → Sources (putLink e (source - 1) l)
+  sources-kept z f s m = rw (link-other l long e (source - 1) h (omega arith) SOURCE EDGES m (λ x y. omega arith) (λ x y. omega arith)) (s m)

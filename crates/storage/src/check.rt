@@ -1,0 +1,107 @@
+// The check of a whole image, and the index of the graph that it holds.
+// Document 01, "Turned back": size and length as 2, then 1, 3, the records in order, bytes left over, and last 5 in record order.
+ghost use mathlib.Core.Path.{_≡_};
+ghost use Prim.Native.Nat.{ℕ, _<_};
+ghost use lib.ListN.{length};
+ghost use Rattle.semantics.specs.declared.answer.Checked.the-variants as Checked;
+ghost use Rattle.semantics.specs.declared.refusal.ImageRefusal.the-variants as Image;
+ghost use Rattle.semantics.specs.Answer.{ok};
+ghost use Rattle.semantics.specs.Calls.{checkCall};
+ghost use Rattle.semantics.specs.Graph.{Graph};
+ghost use Rattle.semantics.specs.Image.{symbolBytes, firstRecord, header, placeOf, graphOf, checkImage};
+ghost use Rattle.semantics.specs.Told.{toldChecked};
+ghost use Rattle.storage.specs.Checks.{referencesOf};
+ghost use Rattle.storage.specs.Filling.{Held};
+ghost use Rattle.storage.specs.Records.{Headed};
+ghost use Rattle.storage.specs.Rows.{INDEX, Fresh, Loaded};
+use crate::header;
+use crate::links;
+use crate::refs;
+use crate::rows;
+use crate::scan;
+use crate::step::Step;
+use semantics::answer::Checked;
+use semantics::refusal::ImageRefusal;
+
+// Refusal 5 at the place of record k, counted from a place on.
+fn misfit(image: &[u8], from: usize, k: u32) -> Checked
+    requires { ⌜ (from < 1048576) × (k < 65536) ⌝ }
+    ensures { λ r. ⌜ r ≡ Checked.Refused (Image.Reference (placeOf (now (image .entry)) from k)) ⌝ }
+{
+    Checked::Refused(ImageRefusal::Reference {
+        place: scan::place(image, from, k) as u32,
+    })
+}
+
+// What the records refer to; where all is well, the edges are linked.
+fn refer(image: &[u8], index: &mut [u32]) -> Checked
+    requires { ⌜ Headed (now image) ⌝ }
+    requires { ⌜ Held (graphOf symbolBytes (now image)) (now index) ⌝ }
+    ensures { λ r. ⌜ r ≡ checkCall (referencesOf (now (image .entry))) ⌝ }
+    ensures { λ r. ⌜ ((g : Graph) → referencesOf (now (image .entry)) ≡ ok g → Loaded g (now (index .exit))) ⌝ }
+{
+    let nodes = header::nodes(image);
+    let n = refs::misfit_node(index, nodes);
+    if n < nodes {
+        return misfit(image, header::FIRST_RECORD, n);
+    }
+    let edges = header::edges(image);
+    let e = refs::misfit_edge(index, edges);
+    if e < edges {
+        return misfit(image, scan::place(image, header::FIRST_RECORD, nodes), e);
+    }
+    links::link(index, edges);
+    Checked::Accepted {
+        files: header::files(image),
+        nodes,
+        edges,
+    }
+}
+
+// The records in order, bytes left over, what the records refer to.
+fn read(image: &[u8], index: &mut [u32]) -> Checked
+    requires { ⌜ header (now image) ≡ ok firstRecord ⌝ }
+    requires { ⌜ Fresh (now index) ⌝ }
+    ensures { λ r. ⌜ r ≡ checkCall (checkImage symbolBytes (now (image .entry))) ⌝ }
+    ensures { λ r. ⌜ ((g : Graph) → checkImage symbolBytes (now (image .entry)) ≡ ok g → Loaded g (now (index .exit))) ⌝ }
+{
+    match scan::records(image, index) {
+        Step::Next(last) => {
+            if last != image.len() {
+                return Checked::Refused(ImageRefusal::Length);
+            }
+            refer(image, index)
+        }
+        Step::Refused(r) => Checked::Refused(r),
+    }
+}
+
+// The check into a fresh index: where the image is accepted, the index then holds its graph.
+pub fn load_fresh(image: &[u8], index: &mut [u32]) -> Checked
+    requires { ⌜ Fresh (now index) ⌝ }
+    ensures { λ r. ⌜ r ≡ checkCall (checkImage symbolBytes (now (image .entry))) ⌝ }
+    ensures { λ r. ⌜ ((g : Graph) → checkImage symbolBytes (now (image .entry)) ≡ ok g → Loaded g (now (index .exit))) ⌝ }
+{
+    match header::header(image) {
+        Step::Next(_) => read(image, index),
+        Step::Refused(r) => Checked::Refused(r),
+    }
+}
+
+// The same into an index with any words.
+pub fn load(image: &[u8], index: &mut [u32]) -> Checked
+    requires { ⌜ length (now index) ≡ INDEX ⌝ }
+    ensures { λ r. ⌜ r ≡ checkCall (checkImage symbolBytes (now (image .entry))) ⌝ }
+    ensures { λ r. ⌜ ((g : Graph) → checkImage symbolBytes (now (image .entry)) ≡ ok g → Loaded g (now (index .exit))) ⌝ }
+{
+    rows::clear(index);
+    load_fresh(image, index)
+}
+
+// The check of any bytes.
+pub fn check(image: &[u8]) -> Checked
+    ensures { λ r. ⌜ toldChecked r ≡ toldChecked (checkCall (checkImage symbolBytes (now (image .entry)))) ⌝ }
+{
+    let mut index = [0u32; rows::INDEX];
+    load_fresh(image, &mut index)
+}

@@ -1,0 +1,5 @@
+pub mod Area
+pub mod Copies
+pub mod Reversal
+pub mod Ring
+pub mod Slots
