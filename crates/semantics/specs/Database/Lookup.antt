@@ -1,7 +1,7 @@
 -- A lookup hands back the edges of the slot with that number, and an empty part where there is none.
 -- Document 01, "Partial paths": "A lookup by number hands back the part of the caller's words that holds those edges".
 use Prim.Native.Nat.{ℕ, zero, suc, _+_, _*_, _≤_, _<_}
-use native.Mathlib.Nat.{mul-zero, mul-suc, not-suc-le-zero, le-of-suc-le-suc}
+use native.Mathlib.Nat.{not-suc-le-zero, le-of-suc-le-suc}
 use native.Mathlib.Omega.{arith}
 use mathlib.Core.Path.{_≡_, refl, sym, _∙_, ap, subst}
 use mathlib.Core.Bool.{Bool, true, false}
@@ -13,7 +13,7 @@ use Rattle.semantics.specs.Lists.{and}
 use Rattle.semantics.specs.Lists.Laws.{T→eq, eq→T, and-true}
 use Rattle.semantics.specs.Limits.{Bounds}
 use Rattle.semantics.specs.PartialPaths.{Slot, dead, slot}
-use Rattle.semantics.specs.Words.{slotsOf, recordWords}
+use Rattle.semantics.specs.Words.{recordWords}
 use Rattle.semantics.specs.Words.Laws.{length-slots, getD-slots, drop-take}
 use Rattle.semantics.specs.Database.{usedIn, nodesIn, filesIn, capacity, decode, records, slotsIn, sound, every, wellFormed, emptyPart, edgesPart, partIf, recordPlace, lookupPart, wordsOf}
 

@@ -2,7 +2,6 @@
 use mathlib.Core.Path.{ap, _∙_}
 use mathlib.Core.List.{List}
 use Prim.Native.Nat.{ℕ}
-use lib.ListN.{length}
 use Rattle.semantics.specs.Words.{encode}
 use Rattle.words.specs.Slots.{putSlot}
 use Rattle.words.specs.Slots.Laws.{length-part, put-part}

@@ -1,0 +1,138 @@
+-- From the values to the calls of the definitions: replay, completeness, shadowing.
+-- Document 01, "Path".
+use Prim.Native.Nat.{ℕ, _+_, _*_, _≤_}
+use native.Mathlib.Omega.{arith}
+use mathlib.Core.Path.{_≡_, refl, sym, ap, _∙_}
+use mathlib.Core.Bool.{true, false}
+use mathlib.Core.List.{List, [], _∷_}
+use lib.ListN.{length, length-append, length-replicate}
+use Rattle.semantics.specs.declared.graph.Edge.{Edge}
+use Rattle.semantics.specs.declared.graph.Node.{Node}
+use Rattle.semantics.specs.declared.refusal.ImageRefusal.{ImageRefusal}
+use Rattle.semantics.specs.declared.refusal.ReplayRefusal.{ReplayRefusal}
+use Rattle.semantics.specs.declared.answer.Replayed.the-variants as Replayed
+use Rattle.semantics.specs.declared.answer.Judgement.{Judgement}
+use Rattle.semantics.specs.declared.answer.Judgement.the-variants as Judgement
+use Rattle.semantics.specs.Limits.{base}
+use Rattle.semantics.specs.Answer.{Answer, ok, refuse}
+use Rattle.semantics.specs.Answer.Laws.{ok-inj, andThen-ok}
+use Rattle.semantics.specs.Graph.{Graph, View, viewOf, isReference}
+use Rattle.semantics.specs.Acceptance.Laws.{jump-only, jump-there}
+use Rattle.semantics.specs.Image.{checkImage}
+use Rattle.semantics.specs.Image.Laws.{image-accepted}
+use Rattle.semantics.specs.Path as Rules
+use Rattle.semantics.specs.Path.{appendUnder, appendAll, replay}
+use Rattle.semantics.specs.Path.Laws.{append-ok, appendUnder-ok, appendAll-edges, appendAll-bound, begun, replay-ok}
+use Rattle.semantics.specs.Told.{toldReplayed}
+use Rattle.semantics.specs.Calls.{replayedAs, completed, shadowedBy, leftFirst, replayCall, completeCall, shadowsCall}
+use Rattle.storage.specs.Rows.{nodeRow, edgeRow, Loaded}
+use Rattle.path.specs.declared.path.Path.{Path}
+use Rattle.path.specs.declared.replay.ReplayOutcome as R
+use Rattle.path.specs.StepWords.{stepAt}
+use Rattle.path.specs.Judged.{completeStep}
+use Rattle.path.specs.Judged.Laws.{complete-is}
+use Rattle.path.specs.Shadows.{shadowsEdges}
+use Rattle.path.specs.Shadows.Laws.{JumpAt, shadows-edges}
+use Rattle.path.specs.Values.{emptyPath, readPath}
+use Rattle.path.specs.Values.Laws.{reads, reads-empty}
+use Rattle.path.specs.Replays.{Answers, judgedAs}
+use Rattle.path.specs.Replays.Laws.{nodes-are, edges-are}
+
+-- an accepted graph has its jump at node 1
+pub accepted-jump : (w : ℕ) (im : List ℕ) (g : Graph) → checkImage w im ≡ ok g → JumpAt (viewOf g)
+accepted-jump w im g h = let a = image-accepted w im g h in record { there = jump-there g a; only = jump-only g a }
+
+-- REPLAY
+pub replay-image : (x : Answer ImageRefusal Graph) (r : ImageRefusal) → x ≡ refuse r → (n : ℕ) (es : List ℕ) (p : Path) → p ≡ emptyPath
+    → (toldReplayed (Replayed.Image r) ≡ toldReplayed (replayCall base x n es .answer)) × (readPath p ≡ replayCall base x n es .path)
+unfolding replayCall
+replay-image x r h n es p k = rw h (refl, ap readPath k ∙ reads-empty)
+
+pub replay-answers : (x : Answer ImageRefusal Graph) (g : Graph) → x ≡ ok g → (n : ℕ) (es : List ℕ) (y : R.ReplayOutcome) → Answers y (replay base (viewOf g) n es)
+    → (toldReplayed (y .answer) ≡ toldReplayed (replayCall base x n es .answer)) × (readPath (y .path) ≡ replayCall base x n es .path)
+unfolding replayCall replayedAs
+replay-answers x g h n es y a = rw h (on (replay base (viewOf g) n es) a)
+  where
+    on : (z : Answer ReplayRefusal Rules.Path) → Answers y z → (toldReplayed (y .answer) ≡ toldReplayed (replayedAs z .answer)) × (readPath (y .path) ≡ replayedAs z .path)
+    on (ok p) a = (ap toldReplayed (a .0), reads (y .path) p (a .1))
+    on (refuse r) a = (ap toldReplayed (a .0), ap readPath (a .1) ∙ reads-empty)
+
+-- COMPLETENESS
+all-start : (g : View) (es : List ℕ) (p q : Rules.Path) → appendAll base g p es ≡ ok q → q .start ≡ p .start
+unfolding appendAll
+all-start g [] p q h = ap (λ (x : Rules.Path). x .start) (sym (ok-inj p q h))
+all-start g (e ∷ es) p q h =
+    let a = andThen-ok (appendUnder base g p e) (λ x. appendAll base g x es) q h in
+    let k = append-ok g p (a .0) e (appendUnder-ok base g p (a .0) e (a .1) .1) in
+    all-start g es (a .0) q (a .2) ∙ k .added .start
+
+module _ (g : View) (n : ℕ) (es : List ℕ) (q : Rules.Path) (h : replay base g n es ≡ ok q) where
+  from-a-reference : isReference (g .node (q .start)) ≡ true
+  from-a-reference =
+      let a = replay-ok base g n es q h in
+      let b = begun g n (a .0) (a .1) in
+      ap (λ m. isReference (g .node m)) (all-start g es (a .0) q (a .2) ∙ b .start) ∙ b .reference
+
+  few-edges : length (q .edges) ≤ 127
+  few-edges =
+      let a = replay-ok base g n es q h in
+      let b = begun g n (a .0) (a .1) in
+      let z : length (a .0 .edges) ≡ 0 = ap length (b .edges) in
+      let m = appendAll-bound base g es (a .0) q (omega (arith, z)) (a .2) in
+      let l : length (q .edges) ≡ length (a .0 .edges) + length es = ap length (appendAll-edges base g es (a .0) q (a .2)) ∙ length-append (a .0 .edges) es in
+      omega (arith, m, l)
+
+-- the last step can be read
+pub room : (g : View) (n : ℕ) (es : List ℕ) (y : R.ReplayOutcome) → Answers y (replay base g n es) → 8 * (y .path .count) + 8 ≤ length (y .path .steps)
+room g n es y a = on (replay base g n es) refl a
+  where
+    on : (z : Answer ReplayRefusal Rules.Path) → replay base g n es ≡ z → Answers y z → 8 * (y .path .count) + 8 ≤ length (y .path .steps)
+    on (ok p) e a = omega (arith, few-edges g n es p e, a .1 .stepped .count, a .1 .sized .steps)
+    on (refuse r) e a =
+        let z : y .path .count ≡ 0 = ap (λ (p : Path). p .count) (a .1) in
+        let l : length (y .path .steps) ≡ 1024 = ap (λ (p : Path). length (p .steps)) (a .1) ∙ length-replicate {A = ℕ} 1024 0 in
+        omega (arith, z, l)
+
+pub complete-answers : (index : List ℕ) (x : Answer ImageRefusal Graph) (g : Graph) → x ≡ ok g → Loaded g index → (n : ℕ) (es : List ℕ) (y : R.ReplayOutcome) → Answers y (replay base (viewOf g) n es)
+    → judgedAs (y .answer) (completeStep (nodeRow index) (stepAt (y .path .steps) (y .path .count))) ≡ completeCall base x n es
+unfolding completeCall completed
+complete-answers index x g h l n es y a = rw h (on (replay base (viewOf g) n es) refl a)
+  where
+    on : (z : Answer ReplayRefusal Rules.Path) → replay base (viewOf g) n es ≡ z → Answers y z → judgedAs (y .answer) (completeStep (nodeRow index) (stepAt (y .path .steps) (y .path .count))) ≡ completed (viewOf g) z
+    on (ok p) e a =
+        let c = complete-is (viewOf g) (y .path .steps) (y .path .count) p (a .1 .stepped) (from-a-reference (viewOf g) n es p e) in
+        ap (λ r. judgedAs r (completeStep (nodeRow index) (stepAt (y .path .steps) (y .path .count)))) (a .0)
+        ∙ ap Judgement.Done (ap (λ (m : ℕ → Node). completeStep m (stepAt (y .path .steps) (y .path .count))) (nodes-are g index l) ∙ sym c)
+    on (refuse r) e a = ap (λ r. judgedAs r (completeStep (nodeRow index) (stepAt (y .path .steps) (y .path .count)))) (a .0)
+
+-- SHADOWING
+pub left-stops : (y : R.ReplayOutcome) (a b : Answer ReplayRefusal Rules.Path) → Answers y a → (y .answer ≡ Replayed.Done → ⊥) → judgedAs (y .answer) false ≡ leftFirst a b
+unfolding leftFirst
+left-stops y (ok p) b h k = absurd (k (h .0))
+left-stops y (refuse r) b h k = ap (λ z. judgedAs z false) (h .0)
+
+pub right-judged : (index : List ℕ) (g : Graph) → Loaded g index → JumpAt (viewOf g) → (n m : ℕ) (ls rs : List ℕ) (x y : R.ReplayOutcome)
+    → Answers x (replay base (viewOf g) n ls) → x .answer ≡ Replayed.Done → Answers y (replay base (viewOf g) m rs)
+    → judgedAs (y .answer) (shadowsEdges (edgeRow index) ls rs) ≡ leftFirst (replay base (viewOf g) n ls) (replay base (viewOf g) m rs)
+unfolding leftFirst shadowedBy
+right-judged index g l j n m ls rs x y a d b = on (replay base (viewOf g) n ls) (replay base (viewOf g) m rs) refl refl a b
+  where
+    on : (v w : Answer ReplayRefusal Rules.Path) → replay base (viewOf g) n ls ≡ v → replay base (viewOf g) m rs ≡ w → Answers x v → Answers y w → judgedAs (y .answer) (shadowsEdges (edgeRow index) ls rs) ≡ leftFirst v w
+    on (ok p) (ok q) e f a b =
+        ap (λ r. judgedAs r (shadowsEdges (edgeRow index) ls rs)) (b .0)
+        ∙ ap Judgement.Done (ap (λ (m : ℕ → Edge). shadowsEdges m ls rs) (edges-are g index l) ∙ sym (shadows-edges (viewOf g) j base n m ls rs p q e f))
+    on (ok p) (refuse r) e f a b = ap (λ r. judgedAs r (shadowsEdges (edgeRow index) ls rs)) (b .0)
+    on (refuse r) w e f a b = absurd (let z : _≡_ {A = ℕ} 0 1 = cc in omega arith)
+
+-- AN IMAGE that is turned back, or accepted
+pub complete-image : (x : Answer ImageRefusal Graph) (r : ImageRefusal) → x ≡ refuse r → (n : ℕ) (es : List ℕ) → Judgement.Image r ≡ completeCall base x n es
+unfolding completeCall
+complete-image x r h n es = rw h refl
+
+pub shadows-image : (x : Answer ImageRefusal Graph) (r : ImageRefusal) → x ≡ refuse r → (n : ℕ) (ls : List ℕ) (m : ℕ) (rs : List ℕ) → Judgement.Image r ≡ shadowsCall base x n ls m rs
+unfolding shadowsCall
+shadows-image x r h n ls m rs = rw h refl
+
+pub shadows-answers : (x : Answer ImageRefusal Graph) (g : Graph) → x ≡ ok g → (n : ℕ) (ls : List ℕ) (m : ℕ) (rs : List ℕ) → leftFirst (replay base (viewOf g) n ls) (replay base (viewOf g) m rs) ≡ shadowsCall base x n ls m rs
+unfolding shadowsCall
+shadows-answers x g h n ls m rs = rw h refl

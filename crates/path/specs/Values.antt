@@ -1,0 +1,80 @@
+-- A path by value: how it starts, how an edge is added, and what a caller reads off it.
+-- Document 01, "Path": "in a fixed array of 127 numbers"; "answers the path (end, steps, both stacks)".
+use Prim.Native.Nat.{ℕ, zero, suc, _+_, _<_}
+use mathlib.Core.Path.{_≡_}
+use mathlib.Core.Bool.{Bool, false}
+use mathlib.Core.List.{List, [], _∷_, _++_}
+use lib.Dec.{eqb}
+use lib.ListN.{length, getD, set, take, replicate}
+use Rattle.semantics.specs.declared.graph.Edge.{Edge}
+use Rattle.semantics.specs.declared.graph.Edge.the-variants as E
+use Rattle.semantics.specs.Lists.{consIf}
+use Rattle.semantics.specs.Path as Rules
+use Rattle.semantics.specs.Calls.{Passage, edge, jump, passages, ReplayedPath}
+use Rattle.path.specs.declared.step.Step.{Step}
+use Rattle.path.specs.declared.step.Effect.{Effect}
+use Rattle.path.specs.declared.step.Effect.the-variants.{Done, Refused}
+use Rattle.path.specs.declared.path.Path.{Path}
+use Rattle.path.specs.declared.path.Grown.{Grown}
+use Rattle.path.specs.Steps.{symbolsOf, scopesOf}
+use Rattle.path.specs.StepWords.{stepAt, withStep}
+use Rattle.path.specs.Judged.{Ready, Stepped}
+pub mod Laws
+
+abbrev pub emptyPath : Path
+emptyPath = record { start = 0; end = 0; count = 0; edges = replicate 127 0; jumps = replicate 127 false; steps = replicate 1024 0 }
+
+abbrev pub isJumpEdge : Edge → Bool
+isJumpEdge E.Removed = false
+isJumpEdge (E.Live s t p) = eqb (t .0) 1
+
+-- the reference as step 0
+abbrev pub startedBy : ℕ → Effect → Grown
+startedBy r (Done s) = record { effect = Done s; path = record { start = r; end = r; count = 0; edges = replicate 127 0; jumps = replicate 127 false; steps = withStep (replicate 1024 0) 0 s } }
+startedBy r (Refused x) = record { effect = Refused x; path = emptyPath }
+
+-- the path with an edge and its step
+abbrev pub longerPath : Path → ℕ → Bool → Step → Path
+longerPath p e j s =
+    record { start = p .start; end = s .end; count = p .count + 1; edges = set (p .edges) (p .count) e; jumps = set (p .jumps) (p .count) j; steps = withStep (p .steps) (p .count + 1) s }
+
+abbrev pub appendedBy : Path → ℕ → Bool → Effect → Grown
+appendedBy p e j (Done s) = record { effect = Done s; path = longerPath p e j s }
+appendedBy p e j (Refused x) = record { effect = Refused x; path = p }
+
+-- the lengths of its arrays
+pub record Sized (p : Path) : Type 0 where
+  pub edges : length (p .edges) ≡ 127
+  pub jumps : length (p .jumps) ≡ 127
+  pub steps : length (p .steps) ≡ 1024
+
+-- an edge may be added
+pub record Growing (p : Path) : Type 0 where
+  pub few : p .count < 127
+  pub ready : Ready (p .steps) (p .count)
+
+-- WHAT A CALLER READS
+
+-- the first k edges, each with the jump behind it
+unfoldable pub passagesTo : Path → ℕ → List Passage
+passagesTo p zero = []
+passagesTo p (suc j) = passagesTo p j ++ (edge (getD (p .edges) j 0) ∷ consIf (getD (p .jumps) j false) (jump (stepAt (p .steps) (suc j) .end)) [])
+
+-- the path as a replay answers it
+abbrev pub readPath : Path → ReplayedPath
+readPath p =
+    record {
+      end = p .end;
+      steps = passagesTo p (p .count);
+      symbols = symbolsOf (stepAt (p .steps)) (stepAt (p .steps) (p .count) .symbols);
+      scopes = scopesOf (stepAt (p .steps)) (stepAt (p .steps) (p .count) .scopes);
+    }
+
+-- a value stands for a path of the definitions
+pub record Shows (x : Path) (p : Rules.Path) : Type 0 where
+  pub sized : Sized x
+  pub stepped : Stepped (x .steps) (x .count) p
+  pub start : x .start ≡ p .start
+  pub end : x .end ≡ p .end
+  pub edges : take (x .count) (x .edges) ≡ p .edges
+  pub steps : passagesTo x (x .count) ≡ passages (p .steps)

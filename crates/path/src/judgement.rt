@@ -1,0 +1,95 @@
+// From outside: is a path complete, does one path shadow another? Each path is a reference and a lent edge list, replayed first.
+// Document 01, "Path".
+ghost use mathlib.Core.Path.{_≡_};
+ghost use lib.ListN.{length};
+ghost use Rattle.semantics.specs.Limits.{base};
+ghost use Rattle.semantics.specs.Graph.{Graph, viewOf};
+ghost use Rattle.semantics.specs.Path as Rules;
+ghost use Rattle.semantics.specs.Image.{symbolBytes, checkImage};
+ghost use Rattle.semantics.specs.Told.{toldJudgement};
+ghost use Rattle.semantics.specs.Calls.{leftFirst, completeCall, shadowsCall};
+ghost use Rattle.storage.specs.Rows.{Loaded};
+ghost use Rattle.path.specs.Shadows.Laws.{JumpAt};
+ghost use Rattle.path.specs.Replays.{judgedAs};
+use crate::replay::replay_loaded;
+use crate::shadows;
+use crate::step;
+use crate::steps::get_step;
+use semantics::answer::Checked;
+use semantics::answer::Judgement;
+use semantics::answer::Replayed;
+use semantics::graph::NodeId;
+use storage::check;
+use storage::rows;
+
+// What is judged of a path that was replayed, or the refusal of its replay.
+fn judged(answer: Replayed, holds: bool) -> Judgement
+    ensures { λ r. ⌜ r ≡ judgedAs answer holds ⌝ }
+{
+    match answer {
+        Replayed::Done => Judgement::Done { holds },
+        Replayed::Image(r) => Judgement::Image(r),
+        Replayed::Refused(r) => Judgement::Refused(r),
+    }
+}
+
+// The left path is replayed before the right one.
+fn shadows_loaded(
+    index: &[u32],
+    left: u32,
+    left_edges: &[u32],
+    right: u32,
+    right_edges: &[u32],
+) -> Judgement
+    requires { ⌜ length (now index) ≡ 28672 ⌝ }
+    ensures { λ r. ⌜ ((g : Graph) → Loaded g (now (index .entry)) → JumpAt (viewOf g) → r ≡ leftFirst (Rules.replay base (viewOf g) left (now («left_edges» .entry))) (Rules.replay base (viewOf g) right (now («right_edges» .entry)))) ⌝ }
+{
+    let first = replay_loaded(index, left, left_edges).answer;
+    let Replayed::Done = first else {
+        return judged(first, false);
+    };
+    let second = replay_loaded(index, right, right_edges).answer;
+    judged(second, shadows::shadows(index, left_edges, right_edges))
+}
+
+// Does the path of a reference and an edge list end at a definition with both stacks empty?
+pub fn is_complete(image: &[u8], reference: NodeId, edges: &[u32]) -> Judgement
+    ensures { λ r. ⌜ toldJudgement r ≡ toldJudgement (completeCall base (checkImage symbolBytes (now (image .entry))) (reference .0) (now (edges .entry))) ⌝ }
+{
+    let mut index = [0u32; rows::INDEX];
+    match check::load_fresh(image, &mut index) {
+        Checked::Refused(r) => Judgement::Image(r),
+        Checked::Accepted {
+            files: _,
+            nodes: _,
+            edges: _,
+        } => {
+            let replayed = replay_loaded(&index, reference.0, edges);
+            let answer = replayed.answer;
+            let path = replayed.path;
+            let last = get_step(&path.steps, path.count as usize);
+            judged(answer, step::is_complete(&index, last))
+        }
+    }
+}
+
+// Does the left path shadow the right one?
+pub fn shadows(
+    image: &[u8],
+    left: NodeId,
+    left_edges: &[u32],
+    right: NodeId,
+    right_edges: &[u32],
+) -> Judgement
+    ensures { λ r. ⌜ toldJudgement r ≡ toldJudgement (shadowsCall base (checkImage symbolBytes (now (image .entry))) (left .0) (now («left_edges» .entry)) (right .0) (now («right_edges» .entry))) ⌝ }
+{
+    let mut index = [0u32; rows::INDEX];
+    match check::load_fresh(image, &mut index) {
+        Checked::Refused(r) => Judgement::Image(r),
+        Checked::Accepted {
+            files: _,
+            nodes: _,
+            edges: _,
+        } => shadows_loaded(&index, left.0, left_edges, right.0, right_edges),
+    }
+}

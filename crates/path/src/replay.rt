@@ -1,0 +1,100 @@
+// From outside: a lent edge list is replayed from a reference. Document 01, "Path".
+ghost use mathlib.Core.Path.{_≡_};
+ghost use Prim.Native.Nat.{ℕ};
+ghost use lib.ListN.{length};
+ghost use Rattle.semantics.specs.Limits.{base};
+ghost use Rattle.semantics.specs.Graph.{Graph, viewOf};
+ghost use Rattle.semantics.specs.Path as Rules;
+ghost use Rattle.semantics.specs.Image.{symbolBytes, checkImage};
+ghost use Rattle.semantics.specs.Told.{toldReplayed};
+ghost use Rattle.semantics.specs.Calls.{replayCall};
+ghost use Rattle.storage.specs.Rows.{Loaded};
+ghost use Rattle.path.specs.Shadows.Laws.{JumpAt};
+ghost use Rattle.path.specs.Values.{readPath};
+ghost use Rattle.path.specs.Replays.{refusedBy, Answers};
+use crate::path::Path;
+use crate::path::append;
+use crate::path::empty;
+use crate::path::from_reference;
+use crate::step::Effect;
+use semantics::answer::Checked;
+use semantics::answer::Replayed;
+use semantics::bounds::MAX_EDGES;
+use semantics::graph::NodeId;
+use semantics::refusal::ReplayRefusal;
+use storage::check;
+use storage::rows;
+
+// The answer of a replay, and the path beside it; no path where it is refused.
+pub struct ReplayOutcome {
+    pub answer: Replayed,
+    pub path: Path,
+}
+
+// The refusal of the path rules, whole.
+fn refused(effect: Effect) -> ReplayOutcome
+    ensures { λ r. ⌜ r ≡ refusedBy effect ⌝ }
+{
+    match effect {
+        Effect::Done(_) => ReplayOutcome {
+            answer: Replayed::Done,
+            path: empty(),
+        },
+        Effect::Refused(r) => ReplayOutcome {
+            answer: Replayed::Refused(ReplayRefusal::Path(r)),
+            path: empty(),
+        },
+    }
+}
+
+// Each edge is appended in turn, the bound being tested first.
+pub fn replay_loaded(index: &[u32], reference: u32, edges: &[u32]) -> ReplayOutcome
+    requires { ⌜ length (now index) ≡ 28672 ⌝ }
+    ensures { λ r. ⌜ ((g : Graph) → Loaded g (now (index .entry)) → JumpAt (viewOf g) → Answers r (Rules.replay base (viewOf g) reference (now (edges .entry)))) ⌝ }
+{
+    let begun = from_reference(index, reference);
+    let first = begun.effect;
+    let Effect::Done(_) = first else {
+        return refused(first);
+    };
+    let mut path = begun.path;
+    let mut i: usize = 0;
+    while i < edges.len() {
+        if MAX_EDGES <= path.count as usize {
+            return ReplayOutcome {
+                answer: Replayed::Refused(ReplayRefusal::TooLong),
+                path: empty(),
+            };
+        }
+        let grown = append(path, index, edges[i]);
+        let effect = grown.effect;
+        let Effect::Done(_) = effect else {
+            return refused(effect);
+        };
+        path = grown.path;
+        i += 1;
+    }
+    ReplayOutcome {
+        answer: Replayed::Done,
+        path,
+    }
+}
+
+// The path of a reference and an edge list, on any bytes and any numbers.
+pub fn replay(image: &[u8], reference: NodeId, edges: &[u32]) -> ReplayOutcome
+    ensures { λ r. ⌜ toldReplayed (r .answer) ≡ toldReplayed (replayCall base (checkImage symbolBytes (now (image .entry))) (reference .0) (now (edges .entry)) .answer) ⌝ }
+    ensures { λ r. ⌜ readPath (r .path) ≡ replayCall base (checkImage symbolBytes (now (image .entry))) (reference .0) (now (edges .entry)) .path ⌝ }
+{
+    let mut index = [0u32; rows::INDEX];
+    match check::load_fresh(image, &mut index) {
+        Checked::Refused(r) => ReplayOutcome {
+            answer: Replayed::Image(r),
+            path: empty(),
+        },
+        Checked::Accepted {
+            files: _,
+            nodes: _,
+            edges: _,
+        } => replay_loaded(&index, reference.0, edges),
+    }
+}

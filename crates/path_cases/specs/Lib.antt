@@ -1,0 +1,2 @@
+-- The bounds that the contracts of this program name.
+pub mod List
