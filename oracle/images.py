@@ -65,6 +65,11 @@ class Graph(NamedTuple):
         return [number for number, node in enumerate(self.nodes)
                 if node.kind in (PUSH, PUSH_SCOPED) and node.flag]
 
+    def outgoing(self, node):
+        """The numbers of the live edges that leave a node, ascending."""
+        return [number for number, edge in enumerate(self.edges)
+                if edge is not None and edge.source == node]
+
 
 def node_record(node):
     """The bytes of a node record, with its count byte first."""
@@ -258,11 +263,11 @@ def _add_route(rng, graph, max_edges, max_length=8):
     route ends where both stacks are empty.
     """
     end = rng.choice(graph.references())
-    stacks = _applied(graph.nodes[end], Stacks())
+    stacks = applied(graph.nodes[end], Stacks())
     for _ in range(max_length):
         ways = [(target, after) for target, node in enumerate(graph.nodes)
                 if may_join(graph, end, target)
-                and (after := _applied(node, stacks)) is not None]
+                and (after := applied(node, stacks)) is not None]
         if not ways or len(graph.edges) >= max_edges:
             return
         weights = [ROUTE_WEIGHTS.get(graph.nodes[target].kind, 1) for target, _ in ways]
@@ -277,15 +282,17 @@ def _add_route(rng, graph, max_edges, max_length=8):
 
 
 class Stacks(NamedTuple):
-    """Both stacks of a route, tops last; a symbol goes with its scopes or None."""
+    """Both stacks of a path, tops last; a symbol goes with its scopes or None."""
     symbols: tuple = ()
     scopes: tuple = ()
 
 
-def _applied(node, stacks):
+def applied(node, stacks):
     """The stacks after the node, or None where the path rules refuse it.
 
-    Only for drawing routes: the oracle alone settles what a search finds.
+    A second reading of document 01, for drawing routes and for searches.py,
+    which is compared with the oracle. Jump only asks for a scope here; the
+    caller takes it off.
     """
     symbols, scopes = stacks
     if node.kind == PUSH:

@@ -451,12 +451,6 @@ def add_precedences(cases):
             cases.shadows(*left, *right)
 
 
-def outgoing(graph, node):
-    """The live edges that leave a node."""
-    return [number for number, edge in enumerate(graph.edges)
-            if edge is not None and edge.source == node]
-
-
 def any_edge(rng, graph):
     """An edge number, seldom one that is far beyond the graph."""
     return rng.choice((rng.randrange(len(graph.edges) + 2), rng.randrange(len(graph.edges) + 2),
@@ -465,7 +459,7 @@ def any_edge(rng, graph):
 
 def next_edge(cases, rng, graph, reference, edges, end):
     """An edge behind the path: mostly one that is accepted."""
-    ways = outgoing(graph, end)
+    ways = graph.outgoing(end)
     if not ways or rng.random() < 0.04:
         return any_edge(rng, graph)
     good = [edge for edge in ways
@@ -481,7 +475,7 @@ def walk(cases, rng, graph, reference, edges, length):
         if not answer.startswith("ok") or len(edges) > BOUND:
             break
         end = int(fields(answer)["end"])
-        if not outgoing(graph, end) and rng.random() < 0.5:
+        if not graph.outgoing(end) and rng.random() < 0.5:
             break
         edges.append(next_edge(cases, rng, graph, reference, edges, end))
     if rng.random() < 0.05:
@@ -528,7 +522,7 @@ def add_random_graphs(cases, rng, graphs):
     """Random graphs that have a reference with an edge, twenty cases on each."""
     while graphs > 0:
         graph = random_graph(rng)
-        if any(outgoing(graph, reference) for reference in graph.references()):
+        if any(graph.outgoing(reference) for reference in graph.references()):
             cases.image(image(graph))
             add_walks(cases, rng, graph, replays=11, completes=4, pairs=5)
             graphs -= 1

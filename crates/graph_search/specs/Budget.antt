@@ -9,6 +9,7 @@ use Rattle.semantics.specs.declared.search.SearchStats.{SearchStats}
 use Rattle.semantics.specs.Limits.{within, below}
 use Rattle.graph_search.specs.declared.path_budget.Budget.{Budget}
 use Rattle.graph_search.specs.declared.path_budget.Admitted.{Admitted}
+use Rattle.graph_search.specs.declared.path_budget.Admissions.{Admissions}
 pub mod Laws
 
 -- no limits, and nothing counted
@@ -71,3 +72,23 @@ statsOf b rejected cycles = record { expanded = b .expanded; complete = b .compl
 -- the limits that were set
 abbrev pub limitsOf : Budget → SearchLimits
 limitsOf b = record { length = b .maxLength; paths = b .maxPaths; complete = b .maxComplete }
+
+-- a budget with these limits that counts nothing yet
+abbrev pub budgetOf : SearchLimits → Budget
+budgetOf limits = withMaxComplete (limits .complete) (withMaxPaths (limits .paths) (withMaxLength (limits .length) fresh))
+
+-- one answer to each question, and what the budget tells after them
+abbrev pub admissionsOf : Bool → Bool → Bool → Budget → Admissions
+admissionsOf expansion length complete b = record { expansion = expansion; length = length; complete = complete; stats = statsOf b 0 0 }
+
+-- an expansion, a length and a complete path, each asked of the budget that the question before it left
+unfoldable pub askEach : ℕ → ℕ → Budget → Admissions
+askEach length kept b =
+    let first = expansion b in
+    let second = lengthening length (first .budget) in
+    let third = completion kept (second .budget) in
+    admissionsOf (first .allowed) (second .allowed) (third .allowed) (third .budget)
+
+-- the same, asked before anything is counted
+abbrev pub firstAdmissions : SearchLimits → ℕ → ℕ → Admissions
+firstAdmissions limits length kept = askEach length kept (budgetOf limits)

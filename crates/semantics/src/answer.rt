@@ -30,7 +30,7 @@ pub enum Judgement {
 
 // Direct and stitched search: how many paths stand in the result slots. Direct search lends no database, so it never answers Database.
 pub enum Resolution {
-    Done { paths: u32, stats: SearchStats },
+    Done { paths: u64, stats: SearchStats },
     Image(ImageRefusal),
     Database(DatabaseRefusal),
     Refused(SearchRefusal),
@@ -38,7 +38,7 @@ pub enum Resolution {
 
 // Linear search.
 pub enum LinearResolution {
-    Done { paths: u32, stats: SearchStats },
+    Done { paths: u64, stats: SearchStats },
     Image(ImageRefusal),
     Refused(LinearRefusal),
 }

@@ -67,13 +67,13 @@ all-start g (e ∷ es) p q h =
     all-start g es (a .0) q (a .2) ∙ k .added .start
 
 module _ (g : View) (n : ℕ) (es : List ℕ) (q : Rules.Path) (h : replay base g n es ≡ ok q) where
-  from-a-reference : isReference (g .node (q .start)) ≡ true
+  pub from-a-reference : isReference (g .node (q .start)) ≡ true
   from-a-reference =
       let a = replay-ok base g n es q h in
       let b = begun g n (a .0) (a .1) in
       ap (λ m. isReference (g .node m)) (all-start g es (a .0) q (a .2) ∙ b .start) ∙ b .reference
 
-  few-edges : length (q .edges) ≤ 127
+  pub few-edges : length (q .edges) ≤ 127
   few-edges =
       let a = replay-ok base g n es q h in
       let b = begun g n (a .0) (a .1) in

@@ -25,7 +25,7 @@ bit false = 0
 
 module _ {W : Type 0} where
   -- n outcomes, l edges looked at and p pushes more
-  record Moved (n l p : ℕ) (s u : State W) : Type 0 where
+  pub record Moved (n l p : ℕ) (s u : State W) : Type 0 where
     pub outcome : outcomes u ≡ outcomes s + n
     pub looks : u .tally .looked ≡ s .tally .looked + l
     pub pushes : u .tally .pushed ≡ s .tally .pushed + p
@@ -61,7 +61,7 @@ module _ {R W : Type 0} where
       record { outcome = m .outcome; looks = m .looks; pushes = m .pushes; waits = m .waits; expansions = m .expansions; rest = m .rest; flag = m .flag }
   keep-moved false c s u w e = moved-by s s u 0 0 0 (moved-none s) e
 
-  abbrev pushesOf : Try R W → ℕ
+  abbrev pub pushesOf : Try R W → ℕ
   pushesOf cut = 0
   pushesOf overlong = 0
   pushesOf reject = 0
@@ -78,18 +78,18 @@ module _ {R W : Type 0} where
       let k = andThen-ok (keep b c s w) (pushItem c w) u e in
       moved-then 0 0 0 1 0 1 s (k .0) u (keep-moved b c s (k .0) w (k .1)) (push-moved c (k .0) u w (k .2))
 
-  one-moved : (c : Setting R) (s u : State W) (t : Try R W) → one c s t ≡ ok u → Moved 1 1 (pushesOf t) s u
+  pub one-moved : (c : Setting R) (s u : State W) (t : Try R W) → one c s t ≡ ok u → Moved 1 1 (pushesOf t) s u
   unfolding one
   one-moved c s u t e =
       let m = judged-moved c (withTally s (addLooked (s .tally))) u t e in
       record { outcome = m .outcome; looks = omega arith; pushes = m .pushes; waits = m .waits; expansions = m .expansions; rest = m .rest; flag = m .flag }
 
   -- how many of the tries are pushed
-  abbrev countPushes : List (Try R W) → ℕ
+  abbrev pub countPushes : List (Try R W) → ℕ
   countPushes [] = 0
   countPushes (t ∷ ts) = pushesOf t + countPushes ts
 
-  each-moved : (c : Setting R) (s u : State W) (ts : List (Try R W)) → each c s ts ≡ ok u → Moved (length ts) (length ts) (countPushes ts) s u
+  pub each-moved : (c : Setting R) (s u : State W) (ts : List (Try R W)) → each c s ts ≡ ok u → Moved (length ts) (length ts) (countPushes ts) s u
   unfolding each
   each-moved c s u [] e = moved-by s s u 0 0 0 (moved-none s) e
   each-moved c s u (t ∷ ts) e =

@@ -1,0 +1,2 @@
+-- The bounds that the contracts of the programs name.
+pub mod Bounds

@@ -1,0 +1,5 @@
+pub mod Checks
+pub mod Filing
+pub mod Fresh
+pub mod Parts
+pub mod Records

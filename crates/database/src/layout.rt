@@ -1,0 +1,90 @@
+// Where the words of a database stand: three in front, then the records, and how many records there may be.
+// Document 01, "Partial paths": "slots used, N, F; then slots of 131: file + 1 (0 means dead), start, end, edge count, 127 edges".
+ghost use mathlib.Core.Path.{_≡_};
+ghost use Prim.Native.Nat.{_≤_, _<_, _^_};
+ghost use lib.ListN.{length, getD};
+ghost use Rattle.semantics.specs.Limits.{base};
+ghost use Rattle.semantics.specs.Database.{capacity};
+ghost use Rattle.database.specs.Records.{InWords, ownerWord, startWord, countWord, edgeWords};
+use semantics::bounds;
+
+// The words in front: slots used, N and F.
+pub const USED_AT: usize = 0;
+
+pub const NODES_AT: usize = 1;
+
+pub const FILES_AT: usize = 2;
+
+pub const FIRST_RECORD: usize = 3;
+
+// The words of a record, counted from its place: in front stands the file + 1, or 0 if it is dead.
+pub const START: usize = 1;
+
+pub const END: usize = 2;
+
+pub const COUNT: usize = 3;
+
+pub const EDGES: usize = 4;
+
+// A word as a number of words or records.
+fn wide(x: u32) -> usize
+    ensures { λ r. ⌜ (r ≡ x) × (r < 2 ^ 32) ⌝ }
+{
+    x as usize
+}
+
+// The word at a place, as such a number.
+pub fn number(words: &[u32], at: usize) -> usize
+    requires { ⌜ at < length (now words) ⌝ }
+    ensures { λ r. ⌜ (r ≡ getD (now (words .entry)) at 0) × (r < 2 ^ 32) ⌝ }
+{
+    wide(words[at])
+}
+
+// The lesser of 4,096 and the whole slots lent.
+pub fn capacity(words: &[u32]) -> usize
+    ensures { λ r. ⌜ r ≡ capacity base (now (words .entry)) ⌝ }
+{
+    if words.len() < FIRST_RECORD {
+        return 0;
+    }
+    let whole = (words.len() - FIRST_RECORD) / bounds::RECORD_WORDS;
+    if whole < bounds::MAX_RECORDS {
+        return whole;
+    }
+    bounds::MAX_RECORDS
+}
+
+// Record i's file + 1, or 0 if it is dead.
+pub fn owner(words: &[u32], i: usize) -> u32
+    requires { ⌜ InWords base i (now words) ⌝ }
+    ensures { λ r. ⌜ r ≡ ownerWord base i (now (words .entry)) ⌝ }
+{
+    words[FIRST_RECORD + bounds::RECORD_WORDS * i]
+}
+
+// The node that record i starts at.
+pub fn start(words: &[u32], i: usize) -> u32
+    requires { ⌜ InWords base i (now words) ⌝ }
+    ensures { λ r. ⌜ r ≡ startWord base i (now (words .entry)) ⌝ }
+{
+    words[FIRST_RECORD + bounds::RECORD_WORDS * i + START]
+}
+
+// How many edges record i says it has.
+pub fn count(words: &[u32], i: usize) -> u32
+    requires { ⌜ InWords base i (now words) ⌝ }
+    ensures { λ r. ⌜ r ≡ countWord base i (now (words .entry)) ⌝ }
+{
+    words[FIRST_RECORD + bounds::RECORD_WORDS * i + COUNT]
+}
+
+// The edges of record i, which says that it has at most 127.
+pub fn edges(words: &[u32], i: usize) -> &[u32]
+    requires { ⌜ InWords base i (now words) × (countWord base i (now words) ≤ base .edges) ⌝ }
+    ensures { λ r. ⌜ now r ≡ edgeWords base i (now (words .entry)) ⌝ }
+{
+    let from = FIRST_RECORD + bounds::RECORD_WORDS * i + EDGES;
+    let up_to = from + count(words, i) as usize;
+    &words[from..up_to]
+}

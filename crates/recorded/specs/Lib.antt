@@ -1,0 +1,5 @@
+pub mod Beatable
+pub mod EdgeLists
+pub mod Ends
+pub mod ResultSlots
+pub mod Replies

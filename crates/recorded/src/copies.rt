@@ -1,0 +1,48 @@
+// Copies of a list are dropped from the result slots, the first of each is kept.
+// Document 01, "Answer": "`from_complete` drops copies", "Copies take slots until the search has ended".
+ghost use mathlib.Core.Path.{_≡_};
+ghost use mathlib.Core.Bool.{not};
+ghost use mathlib.Core.List.{[]};
+ghost use Prim.Native.Nat.{_≤_};
+ghost use Rattle.recorded.specs.EdgeLists.{hasList, distinctLists};
+ghost use Rattle.recorded.specs.ResultSlots.{Lists, Leaves, edgesAt, listsAt, Fitting, AllFitting, Keeps};
+use crate::closing;
+use crate::lists;
+
+// Does one of the first `seen` slots hold the list of slot i?
+fn is_copy(result: &[u32], seen: usize, i: usize) -> bool
+    requires { ⌜ AllFitting 128 seen (now result) × Fitting 128 i (now result) ⌝ }
+    ensures { λ r. ⌜ r ≡ hasList (edgesAt 128 i (now (result .entry))) (listsAt 128 seen (now (result .entry))) ⌝ }
+{
+    for j in 0..seen {
+        if lists::holds_same(result, i, j) {
+            return true;
+        }
+    }
+    false
+}
+
+// Slot i is moved behind the first `seen`, unless it is a copy of one of them.
+fn keep_new(result: &mut [u32], seen: usize, i: usize) -> usize
+    requires { ⌜ AllFitting 128 seen (now result) × Fitting 128 i (now result) × (seen ≤ i) ⌝ }
+    ensures { λ r. ⌜ Keeps 128 (not (hasList (edgesAt 128 i (now (result .entry))) (listsAt 128 seen (now (result .entry))))) i seen (now (result .entry)) r (now (result .exit)) ⌝ }
+{
+    if is_copy(result, seen, i) {
+        return seen;
+    }
+    closing::move_down(result, i, seen);
+    seen + 1
+}
+
+// The lists in the first `kept` slots lose their copies and are closed up; answers how many are left.
+pub fn drop_copies(result: &mut [u32], kept: usize) -> usize
+    requires { ⌜ Lists 128 kept (now result) ⌝ }
+    ensures { λ r. ⌜ Leaves 128 kept (distinctLists []) (now (result .entry)) r (now (result .exit)) ⌝ }
+{
+    let mut seen: usize = 0;
+    for i in 0..kept {
+        seen = keep_new(result, seen, i);
+    }
+    closing::clear(result, seen, kept);
+    seen
+}

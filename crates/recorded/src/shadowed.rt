@@ -1,0 +1,126 @@
+// Paths that another recorded one shadows are dropped from the result slots.
+// Document 01, "Answer": "`from_complete` drops copies, then every path shadowed by another recorded one".
+// A shadowed path still shadows others, so all lists stay until all are judged: first every slot is marked that is to go, then the others are closed up.
+ghost use mathlib.Core.Path.{_≡_};
+ghost use mathlib.Core.Bool.{Bool};
+ghost use mathlib.Core.List.{List, []};
+ghost use Prim.Native.Nat.{ℕ, _*_, _≤_, _<_};
+ghost use lib.Dec.{ltb};
+ghost use lib.ListN.{length, getD};
+ghost use Rattle.semantics.specs.Words.{area};
+ghost use Rattle.words.specs.Slots.{InArea};
+ghost use Rattle.storage.specs.Rows.{edgeRow};
+ghost use Rattle.path.specs.Shadows.{shadowsEdges};
+ghost use Rattle.recorded.specs.Beatable.{HoldsGraph};
+ghost use Rattle.recorded.specs.EdgeLists.{beatenList, without, unbeatenLists};
+ghost use Rattle.recorded.specs.ResultSlots.{Lists, Leaves, edgesAt, listsAt, Fitting, AllFitting, markIf, Marked, MarkedLists, Keeps};
+use crate::beatable;
+use crate::closing;
+use crate::lists;
+use path::shadows;
+use semantics::bounds::SLOT_WORDS;
+
+// From so many paths on it is worth asking first whether a path can be shadowed at all.
+const MANY: usize = 32;
+
+// Does the path in slot i shadow the path in slot j?
+fn shadows_slot(index: &[u32], result: &[u32], i: usize, j: usize) -> bool
+    requires { ⌜ length (now index) ≡ 28672 ⌝ }
+    requires { ⌜ Fitting 128 i (now result) × Fitting 128 j (now result) ⌝ }
+    ensures { λ r. ⌜ r ≡ shadowsEdges (edgeRow (now (index .entry))) (edgesAt 128 i (now (result .entry))) (edgesAt 128 j (now (result .entry))) ⌝ }
+{
+    let left = SLOT_WORDS * i + 1;
+    let right = SLOT_WORDS * j + 1;
+    let m = lists::edge_count(result, i);
+    let n = lists::edge_count(result, j);
+    shadows::shadows(index, &result[left..left + m], &result[right..right + n])
+}
+
+// Does one of the n paths shadow the path in slot i? No path shadows itself.
+fn is_shadowed(index: &[u32], result: &[u32], n: usize, i: usize) -> bool
+    requires { ⌜ length (now index) ≡ 28672 ⌝ }
+    requires { ⌜ AllFitting 128 n (now result) × Fitting 128 i (now result) ⌝ }
+    ensures { λ r. ⌜ r ≡ beatenList (shadowsEdges (edgeRow (now (index .entry)))) (edgesAt 128 i (now (result .entry))) (listsAt 128 n (now (result .entry))) ⌝ }
+{
+    for j in 0..n {
+        if shadows_slot(index, result, j, i) {
+            return true;
+        }
+    }
+    false
+}
+
+// The same. Of many paths most are let off by their own edges alone, before they are compared with all others.
+fn judge(index: &[u32], result: &[u32], n: usize, i: usize) -> bool
+    requires { ⌜ HoldsGraph (now index) ⌝ }
+    requires { ⌜ AllFitting 128 n (now result) × Fitting 128 i (now result) ⌝ }
+    ensures { λ r. ⌜ r ≡ beatenList (shadowsEdges (edgeRow (now (index .entry)))) (edgesAt 128 i (now (result .entry))) (listsAt 128 n (now (result .entry))) ⌝ }
+{
+    if n < MANY {
+        return is_shadowed(index, result, n, i);
+    }
+    let start = SLOT_WORDS * i + 1;
+    let count = lists::edge_count(result, i);
+    if beatable::has_beatable(index, &result[start..start + count]) {
+        return is_shadowed(index, result, n, i);
+    }
+    false
+}
+
+// Slot i is marked if the test holds.
+fn mark_if(result: &mut [u32], i: usize, test: bool)
+    requires { ⌜ InArea 128 i (now result) × (getD (now result) (128 * i) 0 < 128) ⌝ }
+    ensures { λ _. ⌜ now (result .exit) ≡ markIf 128 i test (now (result .entry)) ⌝ }
+{
+    if test {
+        let at = SLOT_WORDS * i;
+        result[at] = result[at] + lists::MARK;
+    }
+}
+
+// Each of the n slots that another one shadows is marked.
+fn mark_shadowed(index: &[u32], result: &mut [u32], n: usize)
+    requires { ⌜ HoldsGraph (now index) ⌝ }
+    requires { ⌜ Lists 128 n (now result) ⌝ }
+    ensures { λ _. ⌜ (length (now (result .exit)) ≡ length (now (result .entry))) × ((k : Lists 128 n (now (result .entry))) → Marked 128 (λ (j : ℕ). beatenList (shadowsEdges (edgeRow (now (index .entry)))) (getD (k .lists) j []) (k .lists)) (k .lists) (now (result .exit))) ⌝ }
+{
+    for i in 0..n {
+        let shadowed = judge(index, result, n, i);
+        mark_if(result, i, shadowed);
+    }
+}
+
+// Slot i becomes slot `to`, unless it is marked.
+fn keep_unmarked(result: &mut [u32], to: usize, i: usize) -> usize
+    requires { ⌜ InArea 128 i (now result) × (to ≤ i) ⌝ }
+    ensures { λ r. ⌜ Keeps 128 (ltb (getD (now (result .entry)) (128 * i) 0) 128) i to (now (result .entry)) r (now (result .exit)) ⌝ }
+{
+    if result[SLOT_WORDS * i] < lists::MARK {
+        closing::move_down(result, i, to);
+        return to + 1;
+    }
+    to
+}
+
+// The slots without a mark are closed up; answers how many they are.
+fn close_up(result: &mut [u32], n: usize) -> usize
+    requires { ⌜ MarkedLists 128 n (now result) ⌝ }
+    ensures { λ r. ⌜ (length (now (result .exit)) ≡ length (now (result .entry))) × ((drops : List ℕ → Bool) (ls : List (List ℕ)) → length ls ≡ n → Marked 128 (λ (j : ℕ). drops (getD ls j [])) ls (now (result .entry)) → (now (result .exit) ≡ area 128 (length (now (result .entry))) (without drops ls)) × (r ≡ length (without drops ls))) ⌝ }
+{
+    let mut to: usize = 0;
+    for i in 0..n {
+        to = keep_unmarked(result, to, i);
+    }
+    closing::clear(result, to, n);
+    to
+}
+
+// The lists in the first `recorded` slots lose those that another one shadows and are closed up; answers how many are left.
+pub fn drop_shadowed(index: &[u32], result: &mut [u32], recorded: usize) -> usize
+    requires { ⌜ HoldsGraph (now index) ⌝ }
+    requires { ⌜ Lists 128 recorded (now result) ⌝ }
+    ensures { λ r. ⌜ Leaves 128 recorded (λ ls. unbeatenLists (shadowsEdges (edgeRow (now (index .entry)))) ls ls) (now (result .entry)) r (now (result .exit)) ⌝ }
+{
+    mark_shadowed(index, result, recorded);
+    close_up(result, recorded)
+}

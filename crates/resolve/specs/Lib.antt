@@ -1,0 +1,2 @@
+-- The bound that the contracts of this program name.
+pub mod Areas

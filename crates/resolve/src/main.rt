@@ -1,0 +1,98 @@
+// Resolves every reference of a graph image. Document 01, "Small graphs": the image is read from standard input, and each reference, ascending,
+// is searched directly, breadth-first, without limits, with 128 waiting and 128 result slots. report.rt says what is printed.
+ghost use mathlib.Core.Path.{_≡_};
+ghost use Prim.Native.Nat.{_<_};
+ghost use lib.ListN.{length};
+ghost use Rattle.storage.specs.Rows.{INDEX};
+ghost use Rattle.resolve.specs.Areas.{areaWords};
+
+mod report;
+
+use libc::STDIN_FILENO;
+use path::node::is_reference;
+use report::AREA_WORDS;
+use search::direct;
+use semantics::answer::Checked;
+use semantics::answer::Resolution;
+use semantics::graph::NodeId;
+use semantics::search::Limit;
+use semantics::search::SearchLimits;
+use semantics::search::SearchOrder;
+use storage::check;
+use storage::rows;
+use storage::store;
+use told::refusal;
+
+// More bytes than these are 2, whatever they are; no accepted image has so many.
+const MOST_BYTES: usize = 65_536;
+
+const TOO_MANY_BYTES: u32 = 2;
+
+// The search from one reference, and what is printed of it. The image is accepted and there is no database, so only the search itself may refuse.
+fn resolve(image: &[u8], reference: u32, work: &mut [u32], result: &mut [u32])
+    requires { ⌜ length (now result) ≡ areaWords ⌝ }
+{
+    let limits = SearchLimits {
+        length: Limit::Absent,
+        paths: Limit::Absent,
+        complete: Limit::Absent,
+    };
+    let order = SearchOrder::BreadthFirst;
+    match direct::search(image, NodeId(reference), order, limits, work, result) {
+        Resolution::Done { paths, stats } => report::tell_found(reference, paths, stats, result),
+        Resolution::Image(r) => report::tell_refused(reference, refusal::image(r).number),
+        Resolution::Database(r) => report::tell_refused(reference, refusal::database(r).number),
+        Resolution::Refused(r) => report::tell_refused(reference, refusal::search(r).number),
+    }
+}
+
+// A node that is no reference is passed over.
+fn resolve_node(image: &[u8], index: &[u32], n: u32, work: &mut [u32], result: &mut [u32])
+    requires { ⌜ (length (now index) ≡ INDEX) × (length (now result) ≡ areaWords) ⌝ }
+{
+    if is_reference(store::node(index, NodeId(n))) {
+        resolve(image, n, work, result);
+    }
+}
+
+// Every reference of the loaded graph, by ascending number.
+fn resolve_all(image: &[u8], index: &[u32], nodes: u32, work: &mut [u32], result: &mut [u32])
+    requires { ⌜ (length (now index) ≡ INDEX) × (length (now result) ≡ areaWords) ⌝ }
+{
+    for n in 0..nodes {
+        resolve_node(image, index, n, work, result);
+    }
+}
+
+// The image is checked once here, for its nodes.
+fn resolve_image(image: &[u8], work: &mut [u32], result: &mut [u32])
+    requires { ⌜ length (now result) ≡ areaWords ⌝ }
+{
+    let mut index = [0u32; rows::INDEX];
+    match check::load(image, &mut index) {
+        Checked::Refused(r) => report::tell_image_refused(refusal::image(r).number),
+        Checked::Accepted {
+            files: _,
+            nodes,
+            edges: _,
+        } => resolve_all(image, &index, nodes, work, result),
+    }
+}
+
+fn read_and_resolve(bytes: &mut [u8], work: &mut [u32], result: &mut [u32])
+    requires { ⌜ length (now result) ≡ areaWords ⌝ }
+{
+    let n = io::read_full(STDIN_FILENO, bytes);
+    if MOST_BYTES < n {
+        report::tell_image_refused(TOO_MANY_BYTES);
+        return;
+    }
+    resolve_image(&bytes[0..n], work, result);
+}
+
+fn main() {
+    let mut bytes = [0u8; MOST_BYTES + 1];
+    let mut work = [0u32; AREA_WORDS];
+    let mut result = [0u32; AREA_WORDS];
+    read_and_resolve(&mut bytes, &mut work, &mut result);
+}

@@ -1,0 +1,287 @@
+// Direct search from a reference: every path that waits is tried with each outgoing edge of its end. Document 01, "Answer": `try_compute`.
+ghost use mathlib.Core.Path.{_≡_};
+ghost use Rattle.semantics.specs.Limits.{base};
+ghost use Rattle.semantics.specs.Graph.{Graph, viewOf};
+ghost use Rattle.semantics.specs.Image.{symbolBytes, checkImage};
+ghost use Rattle.semantics.specs.Recorded.{recorded, returned};
+ghost use Rattle.semantics.specs.Told.{toldResolution};
+ghost use Rattle.semantics.specs.Calls.{directCall};
+ghost use Rattle.storage.specs.Rows.{Loaded};
+ghost use Rattle.path.specs.Shadows.Laws.{JumpAt};
+ghost use Rattle.recorded.specs.Beatable.{HoldsGraph};
+ghost use Rattle.recorded.specs.Replies.{replyOf};
+ghost use Rattle.search.specs.Expansions.{Given, Tried, Expanded, Rounding, Rounded, Driving, Ends, DrivenTo};
+ghost use Rattle.search.specs.Requests.{requestOf, directOf, foundOf, Does};
+use crate::trial;
+use crate::trial::Trial;
+use graph_search::path_frontier::Frontier;
+use path::step;
+use path::step::Effect;
+use path::steps;
+use recorded::reply::Reply;
+use recorded::reply::finish;
+use search_state::item;
+use search_state::retrace::retrace;
+use search_state::search::Going;
+use search_state::search::Search;
+use search_state::search::Taken;
+use search_state::state::SearchState;
+use semantics::answer::Checked;
+use semantics::answer::Resolution;
+use semantics::bounds::SLOT_WORDS;
+use semantics::graph::EdgeId;
+use semantics::graph::NodeId;
+use semantics::refusal::SearchRefusal;
+use semantics::search::SearchLimits;
+use semantics::search::SearchOrder;
+use storage::check;
+use storage::rows;
+use storage::store;
+use words::slots;
+
+// The steps of a path of 127 edges, 8 words for each, step 0 being the reference.
+pub const STEP_WORDS: usize = 8 * SLOT_WORDS;
+
+// The search is over, or refused.
+pub enum Driven {
+    Over(SearchState),
+    Refused(SearchRefusal),
+}
+
+// One edge is tried on the path of k edges in the item: counted where it is cut, too long or rejected, else recorded and pushed.
+fn try_edge(
+    index: &[u32],
+    steps: &[u32],
+    item: &mut [u32],
+    k: usize,
+    edge: u32,
+    search: Search,
+    work: &mut [u32],
+    result: &mut [u32],
+) -> Going
+    requires { ⌜ Given 1099511627776 (now index) (now steps) (now item) k search (now work) (now result) ⌝ }
+    ensures { λ r. ⌜ ((v : Given 1099511627776 (now (index .entry)) (now (steps .entry)) (now (item .entry)) k search (now (work .entry)) (now (result .entry))) → Tried 1099511627776 (now (index .entry)) (now (steps .entry)) (now (item .entry)) k search (now (work .entry)) (now (result .entry)) v edge r (now (item .exit)) (now (work .exit)) (now (result .exit))) ⌝ }
+{
+    let state = search.state;
+    let budget = state.budget;
+    match trial::judge(index, steps, &item[1..k + 1], edge, budget) {
+        Trial::Cut => Going::On(search.with_state(state.cut())),
+        Trial::Overlong => Going::On(search.with_state(state.measure(k as u64 + 1))),
+        Trial::Rejected => Going::On(search.with_state(state.reject())),
+        Trial::TooLong => Going::Refused(SearchRefusal::TooLong),
+        Trial::Extended { complete } => {
+            item::with_edge(item, k, edge);
+            search.extend(complete, work, result, item)
+        }
+    }
+}
+
+// Each outgoing edge of the path's end is tried, by ascending number.
+fn expand(
+    index: &[u32],
+    steps: &[u32],
+    item: &mut [u32],
+    k: usize,
+    search: Search,
+    work: &mut [u32],
+    result: &mut [u32],
+) -> Going
+    requires { ⌜ Given 549755813888 (now index) (now steps) (now item) k search (now work) (now result) ⌝ }
+    ensures { λ r. ⌜ ((v : Given 549755813888 (now (index .entry)) (now (steps .entry)) (now (item .entry)) k search (now (work .entry)) (now (result .entry))) → Expanded 549755813888 (now (index .entry)) (now (steps .entry)) (now (item .entry)) k search (now (work .entry)) (now (result .entry)) v r (now (work .exit)) (now (result .exit))) ⌝ }
+{
+    let mut on = search;
+    let mut link = store::first(index, NodeId(steps::get_step(steps, k).end));
+    while 0 < link {
+        let edge = link - 1;
+        let going = try_edge(index, steps, item, k, edge, on, work, result);
+        let Going::On(next) = going else {
+            return going;
+        };
+        on = next;
+        link = store::next(index, EdgeId(edge));
+    }
+    Going::On(on)
+}
+
+// The popped path's steps are laid out again, and the path is expanded.
+fn round(
+    index: &[u32],
+    steps: &mut [u32],
+    item: &mut [u32],
+    search: Search,
+    work: &mut [u32],
+    result: &mut [u32],
+) -> Going
+    requires { ⌜ Rounding 549755813888 (now index) (now steps) (now item) search (now work) (now result) ⌝ }
+    ensures { λ r. ⌜ ((v : Rounding 549755813888 (now (index .entry)) (now (steps .entry)) (now (item .entry)) search (now (work .entry)) (now (result .entry))) → Rounded 549755813888 (now (index .entry)) (now (steps .entry)) (now (item .entry)) search (now (work .entry)) (now (result .entry)) v r (now (steps .exit)) (now (work .exit)) (now (result .exit))) ⌝ }
+{
+    let k = item[0] as usize;
+    retrace(index, steps, &item[1..k + 1]);
+    expand(index, steps, item, k, search, work, result)
+}
+
+// Paths are taken and expanded until none waits, or the path count or a refusal ends the search.
+fn drive(
+    index: &[u32],
+    steps: &mut [u32],
+    item: &mut [u32],
+    search: Search,
+    work: &mut [u32],
+    result: &mut [u32],
+) -> Driven
+    requires { ⌜ Driving (now index) (now steps) (now item) search (now work) (now result) ⌝ }
+    ensures { λ r. ⌜ ((v : Driving (now (index .entry)) (now (steps .entry)) (now (item .entry)) search (now (work .entry)) (now (result .entry))) → DrivenTo (now (index .entry)) (now (steps .entry)) (now (item .entry)) search (now (work .entry)) (now (result .entry)) v r (now (result .exit))) ⌝ }
+{
+    let mut on = search;
+    loop {
+        match on.take(work, item) {
+            Taken::Over(state) => return Driven::Over(state),
+            Taken::TooMany => return Driven::Refused(SearchRefusal::TooManyExpansions),
+            Taken::Expand(next) => {
+                match round(index, steps, item, next, work, result) {
+                    Going::On(s) => {
+                        on = s;
+                    }
+                    Going::Refused(r) => return Driven::Refused(r),
+                }
+            }
+        }
+    }
+}
+
+// The search on a loaded graph: the kept paths stand in the result slots where it is over, and the work area as it was left.
+fn attempt(
+    index: &[u32],
+    reference: u32,
+    order: SearchOrder,
+    limits: SearchLimits,
+    work: &mut [u32],
+    result: &mut [u32],
+) -> Driven
+    requires { ⌜ HoldsGraph (now index) ⌝ }
+    ensures { λ r. ⌜ ((g : Graph) → Loaded g (now (index .entry)) → Ends r (now (result .exit)) (directOf g (requestOf order limits (now (work .entry)) (now (result .entry)) reference))) ⌝ }
+{
+    slots::zero(result);
+    let begun = step::begin(index, reference);
+    match begun {
+        Effect::Refused(r) => Driven::Refused(SearchRefusal::Path(r)),
+        Effect::Done(first) => {
+            let mut steps = [0u32; STEP_WORDS];
+            let mut item = [0u32; SLOT_WORDS];
+            steps::put_step(&mut steps, 0, first);
+            let search = Search {
+                frontier: Frontier::new(order, SLOT_WORDS, work.len() / SLOT_WORDS),
+                state: SearchState::new(limits, result.len() / SLOT_WORDS),
+            };
+            match search.push(work, &item) {
+                Going::On(on) => drive(index, &mut steps, &mut item, on, work, result),
+                Going::Refused(r) => Driven::Refused(r),
+            }
+        }
+    }
+}
+
+// The search on a loaded graph with the paths of the reply; both areas as every call leaves them.
+pub fn search_loaded(
+    index: &[u32],
+    reference: u32,
+    order: SearchOrder,
+    limits: SearchLimits,
+    reply: Reply,
+    work: &mut [u32],
+    result: &mut [u32],
+) -> Resolution
+    requires { ⌜ HoldsGraph (now index) ⌝ }
+    ensures { λ r. ⌜ ((g : Graph) → Loaded g (now (index .entry)) → JumpAt (viewOf g) → Does (foundOf g reply (requestOf order limits (now (work .entry)) (now (result .entry)) reference)) r (now (work .exit)) (now (result .exit))) ⌝ }
+{
+    let driven = attempt(index, reference, order, limits, work, result);
+    slots::zero(work);
+    match driven {
+        Driven::Over(state) => {
+            let paths = finish(index, reply, result, state.kept);
+            Resolution::Done {
+                paths: paths as u64,
+                stats: state.stats(),
+            }
+        }
+        Driven::Refused(r) => {
+            slots::zero(result);
+            Resolution::Refused(r)
+        }
+    }
+}
+
+// The image is checked, then searched; a refused image leaves both areas zero.
+fn search_image(
+    image: &[u8],
+    reference: u32,
+    order: SearchOrder,
+    limits: SearchLimits,
+    reply: Reply,
+    work: &mut [u32],
+    result: &mut [u32],
+) -> Resolution
+    ensures { λ r. ⌜ Does (directCall base (replyOf reply) (checkImage symbolBytes (now (image .entry))) (requestOf order limits (now (work .entry)) (now (result .entry)) reference)) r (now (work .exit)) (now (result .exit)) ⌝ }
+{
+    let mut index = [0u32; rows::INDEX];
+    match check::load_fresh(image, &mut index) {
+        Checked::Refused(r) => {
+            slots::zero(work);
+            slots::zero(result);
+            Resolution::Image(r)
+        }
+        Checked::Accepted {
+            files: _,
+            nodes: _,
+            edges: _,
+        } => search_loaded(&index, reference, order, limits, reply, work, result),
+    }
+}
+
+// Direct search from a reference, on any bytes and numbers: the returned paths.
+pub fn search(
+    image: &[u8],
+    reference: NodeId,
+    order: SearchOrder,
+    limits: SearchLimits,
+    work: &mut [u32],
+    result: &mut [u32],
+) -> Resolution
+    ensures { λ r. ⌜ toldResolution r ≡ toldResolution (directCall base returned (checkImage symbolBytes (now (image .entry))) (requestOf order limits (now (work .entry)) (now (result .entry)) (reference .0)) .answer) ⌝ }
+    ensures { λ _. ⌜ now (work .exit) ≡ directCall base returned (checkImage symbolBytes (now (image .entry))) (requestOf order limits (now (work .entry)) (now (result .entry)) (reference .0)) .work ⌝ }
+    ensures { λ _. ⌜ now (result .exit) ≡ directCall base returned (checkImage symbolBytes (now (image .entry))) (requestOf order limits (now (work .entry)) (now (result .entry)) (reference .0)) .result ⌝ }
+{
+    search_image(
+        image,
+        reference.0,
+        order,
+        limits,
+        Reply::Returned,
+        work,
+        result,
+    )
+}
+
+// The same search with its recorded paths.
+pub fn search_recorded(
+    image: &[u8],
+    reference: NodeId,
+    order: SearchOrder,
+    limits: SearchLimits,
+    work: &mut [u32],
+    result: &mut [u32],
+) -> Resolution
+    ensures { λ r. ⌜ toldResolution r ≡ toldResolution (directCall base recorded (checkImage symbolBytes (now (image .entry))) (requestOf order limits (now (work .entry)) (now (result .entry)) (reference .0)) .answer) ⌝ }
+    ensures { λ _. ⌜ now (work .exit) ≡ directCall base recorded (checkImage symbolBytes (now (image .entry))) (requestOf order limits (now (work .entry)) (now (result .entry)) (reference .0)) .work ⌝ }
+    ensures { λ _. ⌜ now (result .exit) ≡ directCall base recorded (checkImage symbolBytes (now (image .entry))) (requestOf order limits (now (work .entry)) (now (result .entry)) (reference .0)) .result ⌝ }
+{
+    search_image(
+        image,
+        reference.0,
+        order,
+        limits,
+        Reply::Recorded,
+        work,
+        result,
+    )
+}

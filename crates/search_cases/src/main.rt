@@ -1,0 +1,252 @@
+// Replays a list of direct and linear searches against the answers of the Rust library and of document 01.
+// Standard input is the list, which oracle/search_cases.py writes and describes.
+// It prints how many searches of each kind there are and how many answers differ, and before that the first of the kind that differs.
+ghost use mathlib.Core.Path.{_≡_};
+ghost use Prim.Native.Nat.{_<_, _≤_};
+ghost use lib.ListN.{length};
+ghost use Rattle.case_list.specs.Bounds.{mostBytes};
+
+mod answer;
+mod areas;
+mod cases;
+
+use case_list::answer as numbers;
+use case_list::list;
+use case_list::list::Part;
+use case_list::report;
+use libc::STDIN_FILENO;
+use search::direct;
+use search::linear;
+use semantics::answer::LinearResolution;
+use semantics::answer::Resolution;
+
+// The whole list is held here.
+const MOST_BYTES: usize = 600000;
+
+// Room for the longest area: 132 slots.
+const MOST_WORDS: usize = 16896;
+
+// Room for an answer.
+const MOST_NUMBERS: usize = 4096;
+
+fn search_directly(
+    list: &[u8],
+    at: usize,
+    image: Part,
+    kind: u8,
+    work: &mut [u32],
+    result: &mut [u32],
+) -> Resolution
+    requires { ⌜ (at < mostBytes) × (image .from ≤ image .to) × (image .to ≤ length (now list)) ⌝ }
+{
+    let from = image.from;
+    let to = image.to;
+    let reference = cases::reference(list, at);
+    let order = cases::order(list, at);
+    let limits = cases::limits(list, at);
+    if kind == cases::DIRECT {
+        return direct::search(&list[from..to], reference, order, limits, work, result);
+    }
+    direct::search_recorded(&list[from..to], reference, order, limits, work, result)
+}
+
+fn search_linearly(
+    list: &[u8],
+    at: usize,
+    image: Part,
+    kind: u8,
+    result: &mut [u32],
+) -> LinearResolution
+    requires { ⌜ (at < mostBytes) × (image .from ≤ image .to) × (image .to ≤ length (now list)) ⌝ }
+{
+    let from = image.from;
+    let to = image.to;
+    let reference = cases::reference(list, at);
+    let limits = cases::limits(list, at);
+    if kind == cases::LINEAR {
+        return linear::search(&list[from..to], reference, limits, result);
+    }
+    linear::search_recorded(&list[from..to], reference, limits, result)
+}
+
+// Writes what a direct search answers and leaves in both areas, and answers how many numbers that are.
+fn answer_direct(
+    list: &[u8],
+    at: usize,
+    image: Part,
+    kind: u8,
+    work: &mut [u32],
+    result: &mut [u32],
+    out: &mut [u32],
+) -> usize
+    requires { ⌜ (at < mostBytes) × (image .from ≤ image .to) × (image .to ≤ length (now list)) ⌝ }
+{
+    let fill = cases::fill(list, at);
+    areas::fill(work, fill);
+    areas::fill(result, fill);
+    let resolution = search_directly(list, at, image, kind, work, result);
+    let told = answer::put_resolution(out, resolution);
+    let behind = areas::put_area(out, told, result);
+    areas::put_area(out, behind, work)
+}
+
+// The same of a linear search, which takes no work area.
+fn answer_linear(
+    list: &[u8],
+    at: usize,
+    image: Part,
+    kind: u8,
+    result: &mut [u32],
+    out: &mut [u32],
+) -> usize
+    requires { ⌜ (at < mostBytes) × (image .from ≤ image .to) × (image .to ≤ length (now list)) ⌝ }
+{
+    areas::fill(result, cases::fill(list, at));
+    let resolution = search_linearly(list, at, image, kind, result);
+    let told = answer::put_linear_resolution(out, resolution);
+    areas::put_area(out, told, result)
+}
+
+// The search at a place, with areas of just the words that it names.
+fn library_answer(
+    list: &[u8],
+    at: usize,
+    image: Part,
+    work: &mut [u32],
+    result: &mut [u32],
+    out: &mut [u32],
+) -> usize
+    requires { ⌜ (at < mostBytes) × (image .from ≤ image .to) × (image .to ≤ length (now list)) ⌝ }
+{
+    let kind = list::byte(list, at);
+    let w = list::lesser(cases::work_words(list, at), work.len());
+    let r = list::lesser(cases::result_words(list, at), result.len());
+    if cases::is_direct(kind) {
+        return answer_direct(
+            list,
+            at,
+            image,
+            kind,
+            &mut work[0..w],
+            &mut result[0..r],
+            out,
+        );
+    }
+    answer_linear(list, at, image, kind, &mut result[0..r], out)
+}
+
+// 1 if the case at a place is of a kind, else 0.
+fn counts(list: &[u8], at: usize, kind: u8) -> u64
+    ensures { λ r. ⌜ r ≤ 1 ⌝ }
+{
+    if list::byte(list, at) == kind { 1 } else { 0 }
+}
+
+// 1 if the case at a place is of the kind and is answered otherwise than the list expects, else 0.
+fn differs(
+    list: &[u8],
+    at: usize,
+    image: Part,
+    kind: u8,
+    name: &[u8],
+    case: u64,
+    differences: u64,
+    work: &mut [u32],
+    result: &mut [u32],
+    out: &mut [u32],
+) -> u64
+    requires { ⌜ (at < mostBytes) × (image .from ≤ image .to) × (image .to ≤ length (now list)) ⌝ }
+    ensures { λ r. ⌜ r ≤ 1 ⌝ }
+{
+    if list::byte(list, at) != kind {
+        return 0;
+    }
+    let expected = cases::answer_at(list, at);
+    let count = library_answer(list, at, image, work, result, out);
+    if numbers::same(list, expected, out, count) {
+        return 0;
+    }
+    if differences == 0 {
+        report::tell_difference(name, case, list, expected, out, count);
+    }
+    1
+}
+
+// Every case of a kind in its order, numbered from 0.
+fn replay_kind(
+    list: &[u8],
+    kind: u8,
+    name: &[u8],
+    work: &mut [u32],
+    result: &mut [u32],
+    out: &mut [u32],
+)
+    requires { ⌜ length (now list) ≤ mostBytes ⌝ }
+{
+    let mut at: usize = 0;
+    let mut searches: u64 = 0;
+    let mut differences: u64 = 0;
+    let mut image = Part { from: 0, to: 0 };
+    while at < list.len() {
+        image = list::image_part(list, at, image);
+        differences += differs(
+            list,
+            at,
+            image,
+            kind,
+            name,
+            searches,
+            differences,
+            work,
+            result,
+            out,
+        );
+        searches += counts(list, at, kind);
+        at = cases::next_case(list, at);
+    }
+    report::tell_sums(name, searches, differences);
+}
+
+fn replay_direct(list: &[u8], work: &mut [u32], result: &mut [u32], out: &mut [u32])
+    requires { ⌜ length (now list) ≤ mostBytes ⌝ }
+{
+    replay_kind(list, cases::DIRECT, b"direct", work, result, out);
+    replay_kind(
+        list,
+        cases::DIRECT_RECORDED,
+        b"direct recorded",
+        work,
+        result,
+        out,
+    );
+}
+
+fn replay_linear(list: &[u8], work: &mut [u32], result: &mut [u32], out: &mut [u32])
+    requires { ⌜ length (now list) ≤ mostBytes ⌝ }
+{
+    replay_kind(list, cases::LINEAR, b"linear", work, result, out);
+    replay_kind(
+        list,
+        cases::LINEAR_RECORDED,
+        b"linear recorded",
+        work,
+        result,
+        out,
+    );
+}
+
+fn read_and_replay(list: &mut [u8], work: &mut [u32], result: &mut [u32], out: &mut [u32])
+    requires { ⌜ length (now list) ≤ mostBytes ⌝ }
+{
+    let n = io::read_full(STDIN_FILENO, list);
+    replay_direct(&list[0..n], work, result, out);
+    replay_linear(&list[0..n], work, result, out);
+}
+
+fn main() {
+    let mut list = [0u8; MOST_BYTES];
+    let mut work = [0u32; MOST_WORDS];
+    let mut result = [0u32; MOST_WORDS];
+    let mut out = [0u32; MOST_NUMBERS];
+    read_and_replay(&mut list, &mut work, &mut result, &mut out);
+}

@@ -1,0 +1,6 @@
+pub mod Items
+pub mod Retraces
+pub mod States
+pub mod Searches
+pub mod Reps
+pub mod Extensions

@@ -1,0 +1,101 @@
+// A search on the way: what waits, and what is counted and kept. Document 01, "Answer" and "Budget and frontier".
+ghost use mathlib.Core.Path.{_≡_};
+ghost use Prim.Native.Nat.{_+_, _<_, _≤_, _^_};
+ghost use Rattle.words.specs.Slots.{IsSlot, SlotsIn};
+ghost use Rattle.graph_search.specs.Frontier.{Framed};
+ghost use Rattle.search_state.specs.Searches.{withState, Extends, Taking};
+ghost use Rattle.search_state.specs.Extensions.{Extendable, ExtendsTo};
+use crate::state::Recorded;
+use crate::state::SearchState;
+use graph_search::path_frontier::Frontier;
+use graph_search::path_frontier::Popped;
+use graph_search::path_frontier::Pushed;
+use semantics::bounds::MAX_EXPANSIONS;
+use semantics::refusal::SearchRefusal;
+
+pub struct Search {
+    pub frontier: Frontier,
+    pub state: SearchState,
+}
+
+// The search goes on, or ends with a refusal.
+pub enum Going {
+    On(Search),
+    Refused(SearchRefusal),
+}
+
+// At the top of a round: the search is over, or the path in the item is to be expanded, or it would be one expansion too many.
+pub enum Taken {
+    Over(SearchState),
+    Expand(Search),
+    TooMany,
+}
+
+impl Search {
+    // The same frontier, and what is counted and kept by now.
+    pub fn with_state(self, state: SearchState) -> Search
+        ensures { λ r. ⌜ r ≡ withState state self ⌝ }
+    {
+        let frontier = self.frontier;
+        Search { frontier, state }
+    }
+
+    // The path in the item waits; 31 when all waiting slots are taken.
+    pub fn push(self, work: &mut [u32], item: &[u32]) -> Going
+        requires { ⌜ Framed (self .frontier) (now work) × IsSlot (self .frontier .length) (now item) ⌝ }
+        ensures { λ r. ⌜ Extends self (now (work .entry)) (now (item .entry)) r (now (work .exit)) ⌝ }
+    {
+        let frontier = self.frontier;
+        let pushed = frontier.push(work, item);
+        let Pushed::Done(next) = pushed else {
+            return Going::Refused(SearchRefusal::NoWaitingSlot);
+        };
+        let state = self.state;
+        Going::On(Search {
+            frontier: next,
+            state,
+        })
+    }
+
+    // A path was extended: where it is complete it is recorded, 32 when all result slots are taken; then it waits.
+    pub fn extend(self, complete: bool, work: &mut [u32], result: &mut [u32], item: &[u32]) -> Going
+        requires { ⌜ Extendable self (now work) (now result) (now item) ⌝ }
+        ensures { λ r. ⌜ ExtendsTo self complete (now (work .entry)) (now (result .entry)) (now (item .entry)) r (now (work .exit)) (now (result .exit)) ⌝ }
+    {
+        if complete {
+            let state = self.state;
+            let recorded = state.record_complete(result, item);
+            let Recorded::Done(next) = recorded else {
+                return Going::Refused(SearchRefusal::NoResultSlot);
+            };
+            return self.with_state(next).push(work, item);
+        }
+        self.push(work, item)
+    }
+
+    // The next path is taken out of the frontier, and its expansion is put to the budget, then to the bound on expansions.
+    pub fn take(self, work: &mut [u32], item: &mut [u32]) -> Taken
+        requires { ⌜ Framed (self .frontier) (now work) × IsSlot (self .frontier .length) (now item) × (self .state .budget .expanded + 1 < 2 ^ 64) ⌝ }
+        ensures { λ r. ⌜ Taking self (now (work .entry)) r (now (item .exit)) (now (work .exit)) ⌝ }
+    {
+        let frontier = self.frontier;
+        let state = self.state;
+        let popped = frontier.pop(work, item);
+        let Popped::Item(next) = popped else {
+            return Taken::Over(state);
+        };
+        let budget = state.budget;
+        let asked = budget.admitted_expansion();
+        let state = state.with_budget(asked.budget);
+        if asked.allowed {
+            if MAX_EXPANSIONS <= budget.expanded {
+                return Taken::TooMany;
+            }
+            return Taken::Expand(Search {
+                frontier: next,
+                state,
+            });
+        }
+        Taken::Over(state)
+    }
+}

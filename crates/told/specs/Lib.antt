@@ -1,0 +1,2 @@
+-- What a told refusal means.
+pub mod Numbers
