@@ -68,6 +68,11 @@ def reaches(number, limit):
     return limit is not None and number >= limit
 
 
+def exceeds(number, limit):
+    """Whether the limit is there and the number is above it."""
+    return limit is not None and number > limit
+
+
 def first_path(graph, reference):
     """The path without edges, or 10 or 11."""
     if reference >= len(graph.nodes) or graph.nodes[reference].kind == REMOVED:
@@ -108,7 +113,7 @@ def shadows(left, right):
 
 
 class Search:
-    """What both searches count, keep and refuse."""
+    """What every search counts, keeps and refuses; partials.py uses it too."""
 
     def __init__(self, graph, request):
         self.graph, self.request = graph, request
@@ -127,16 +132,23 @@ class Search:
         self.expanded += 1
         return True
 
+    def admits(self, held, added):
+        """Cycle, length, the bound: whether these edges may follow those of a path."""
+        if any(edge in held for edge in added):
+            self.cycles += 1
+            return False
+        length = len(held) + len(added)
+        if exceeds(length, self.request.length):
+            self.long = True
+            return False
+        if exceeds(length, self.request.edges):
+            raise Refused(30)
+        return True
+
     def extended(self, path, edge):
         """Cycle, length, the bound, append: the longer path or None."""
-        if edge in path.edges:
-            self.cycles += 1
+        if not self.admits(path.edges, [edge]):
             return None
-        if reaches(len(path.edges), self.request.length):
-            self.long = True
-            return None
-        if reaches(len(path.edges), self.request.edges):
-            raise Refused(30)
         longer = appended(self.graph, path, edge)
         self.rejected += longer is None
         return longer

@@ -1,16 +1,15 @@
 // Resolves every reference of a graph image. Document 01, "Small graphs": the image is read from standard input, and each reference, ascending,
 // is searched directly, breadth-first, without limits, with 128 waiting and 128 result slots. report.rt says what is printed.
 ghost use mathlib.Core.Path.{_≡_};
-ghost use Prim.Native.Nat.{_<_};
 ghost use lib.ListN.{length};
 ghost use Rattle.storage.specs.Rows.{INDEX};
-ghost use Rattle.resolve.specs.Areas.{areaWords};
+ghost use Rattle.printing.specs.Areas.{areaWords};
 
 mod report;
 
 use libc::STDIN_FILENO;
 use path::node::is_reference;
-use report::AREA_WORDS;
+use printing::paths::AREA_WORDS;
 use search::direct;
 use semantics::answer::Checked;
 use semantics::answer::Resolution;

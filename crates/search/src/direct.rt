@@ -10,17 +10,21 @@ ghost use Rattle.storage.specs.Rows.{Loaded};
 ghost use Rattle.path.specs.Shadows.Laws.{JumpAt};
 ghost use Rattle.recorded.specs.Beatable.{HoldsGraph};
 ghost use Rattle.recorded.specs.Replies.{replyOf};
-ghost use Rattle.search.specs.Expansions.{Given, Tried, Expanded, Rounding, Rounded, Driving, Ends, DrivenTo};
-ghost use Rattle.search.specs.Requests.{requestOf, directOf, foundOf, Does};
-use crate::trial;
-use crate::trial::Trial;
+ghost use Rattle.rounds.specs.Drives.{Rounding, Rounded, Driving, Ends, DrivenTo};
+ghost use Rattle.rounds.specs.Requests.{requestOf, Does};
+ghost use Rattle.search.specs.Expansions.{Given, Tried, Expanded};
+ghost use Rattle.search.specs.Requests.{edgeTries, directOf, foundOf};
+use edge_trial::trial;
+use edge_trial::trial::Trial;
 use graph_search::path_frontier::Frontier;
 use path::step;
 use path::step::Effect;
 use path::steps;
 use recorded::reply::Reply;
-use recorded::reply::finish;
+use rounds::driven::Driven;
+use rounds::driven::conclude;
 use search_state::item;
+use search_state::retrace::STEP_WORDS;
 use search_state::retrace::retrace;
 use search_state::search::Going;
 use search_state::search::Search;
@@ -38,15 +42,6 @@ use storage::check;
 use storage::rows;
 use storage::store;
 use words::slots;
-
-// The steps of a path of 127 edges, 8 words for each, step 0 being the reference.
-pub const STEP_WORDS: usize = 8 * SLOT_WORDS;
-
-// The search is over, or refused.
-pub enum Driven {
-    Over(SearchState),
-    Refused(SearchRefusal),
-}
 
 // One edge is tried on the path of k edges in the item: counted where it is cut, too long or rejected, else recorded and pushed.
 fn try_edge(
@@ -113,7 +108,7 @@ fn round(
     result: &mut [u32],
 ) -> Going
     requires { ⌜ Rounding 549755813888 (now index) (now steps) (now item) search (now work) (now result) ⌝ }
-    ensures { λ r. ⌜ ((v : Rounding 549755813888 (now (index .entry)) (now (steps .entry)) (now (item .entry)) search (now (work .entry)) (now (result .entry))) → Rounded 549755813888 (now (index .entry)) (now (steps .entry)) (now (item .entry)) search (now (work .entry)) (now (result .entry)) v r (now (steps .exit)) (now (work .exit)) (now (result .exit))) ⌝ }
+    ensures { λ r. ⌜ ((v : Rounding 549755813888 (now (index .entry)) (now (steps .entry)) (now (item .entry)) search (now (work .entry)) (now (result .entry))) → Rounded edgeTries 549755813888 (now (index .entry)) (now (steps .entry)) (now (item .entry)) search (now (work .entry)) (now (result .entry)) v r (now (steps .exit)) (now (work .exit)) (now (result .exit))) ⌝ }
 {
     let k = item[0] as usize;
     retrace(index, steps, &item[1..k + 1]);
@@ -130,7 +125,7 @@ fn drive(
     result: &mut [u32],
 ) -> Driven
     requires { ⌜ Driving (now index) (now steps) (now item) search (now work) (now result) ⌝ }
-    ensures { λ r. ⌜ ((v : Driving (now (index .entry)) (now (steps .entry)) (now (item .entry)) search (now (work .entry)) (now (result .entry))) → DrivenTo (now (index .entry)) (now (steps .entry)) (now (item .entry)) search (now (work .entry)) (now (result .entry)) v r (now (result .exit))) ⌝ }
+    ensures { λ r. ⌜ ((v : Driving (now (index .entry)) (now (steps .entry)) (now (item .entry)) search (now (work .entry)) (now (result .entry))) → DrivenTo edgeTries (now (index .entry)) (now (steps .entry)) (now (item .entry)) search (now (work .entry)) (now (result .entry)) v r (now (result .exit))) ⌝ }
 {
     let mut on = search;
     loop {
@@ -195,20 +190,7 @@ pub fn search_loaded(
     ensures { λ r. ⌜ ((g : Graph) → Loaded g (now (index .entry)) → JumpAt (viewOf g) → Does (foundOf g reply (requestOf order limits (now (work .entry)) (now (result .entry)) reference)) r (now (work .exit)) (now (result .exit))) ⌝ }
 {
     let driven = attempt(index, reference, order, limits, work, result);
-    slots::zero(work);
-    match driven {
-        Driven::Over(state) => {
-            let paths = finish(index, reply, result, state.kept);
-            Resolution::Done {
-                paths: paths as u64,
-                stats: state.stats(),
-            }
-        }
-        Driven::Refused(r) => {
-            slots::zero(result);
-            Resolution::Refused(r)
-        }
-    }
+    conclude(index, driven, reply, work, result)
 }
 
 // The image is checked, then searched; a refused image leaves both areas zero.

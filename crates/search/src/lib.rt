@@ -1,4 +1,2 @@
-// Direct and linear search from a reference. Document 01, "Answer".
+// Direct search from a reference. Document 01, "Answer".
 pub mod direct;
-pub mod linear;
-pub mod trial;

@@ -1,37 +1,8 @@
-// The answers of the searches as numbers: 0, the number of paths, the statistics and the flags; or the refusal.
-use case_list::answer::put;
-use case_list::answer::put_flag;
+// The answer of a linear search as numbers: 0, the number of paths, the statistics and the flags; or the refusal.
 use case_list::answer::put_told;
-use case_list::answer::put_wide;
+use case_list::resolution::put_done;
 use semantics::answer::LinearResolution;
-use semantics::answer::Resolution;
-use semantics::search::SearchStats;
 use told::refusal;
-
-fn put_stats(out: &mut [u32], at: usize, stats: SearchStats) -> usize {
-    let complete = put_wide(out, at, stats.expanded);
-    let rejected = put_wide(out, complete, stats.complete);
-    let cycles = put_wide(out, rejected, stats.rejected);
-    let length = put_wide(out, cycles, stats.cycles);
-    let count = put_flag(out, length, stats.lengthLimited);
-    let kept = put_flag(out, count, stats.countLimited);
-    put_flag(out, kept, stats.completeLimited)
-}
-
-fn put_done(out: &mut [u32], paths: u64, stats: SearchStats) -> usize {
-    let behind = put(out, 0, 0);
-    let next = put_wide(out, behind, paths);
-    put_stats(out, next, stats)
-}
-
-pub fn put_resolution(out: &mut [u32], answer: Resolution) -> usize {
-    match answer {
-        Resolution::Done { paths, stats } => put_done(out, paths, stats),
-        Resolution::Image(r) => put_told(out, 0, refusal::image(r)),
-        Resolution::Database(r) => put_told(out, 0, refusal::database(r)),
-        Resolution::Refused(r) => put_told(out, 0, refusal::search(r)),
-    }
-}
 
 pub fn put_linear_resolution(out: &mut [u32], answer: LinearResolution) -> usize {
     match answer {

@@ -7,16 +7,18 @@ ghost use lib.ListN.{length};
 ghost use Rattle.case_list.specs.Bounds.{mostBytes};
 
 mod answer;
-mod areas;
 mod cases;
 
 use case_list::answer as numbers;
+use case_list::areas;
 use case_list::list;
 use case_list::list::Part;
 use case_list::report;
+use case_list::request;
+use case_list::resolution;
 use libc::STDIN_FILENO;
+use linear_search::linear;
 use search::direct;
-use search::linear;
 use semantics::answer::LinearResolution;
 use semantics::answer::Resolution;
 
@@ -41,9 +43,9 @@ fn search_directly(
 {
     let from = image.from;
     let to = image.to;
-    let reference = cases::reference(list, at);
-    let order = cases::order(list, at);
-    let limits = cases::limits(list, at);
+    let reference = request::reference(list, at);
+    let order = request::order(list, at);
+    let limits = request::limits(list, at);
     if kind == cases::DIRECT {
         return direct::search(&list[from..to], reference, order, limits, work, result);
     }
@@ -61,8 +63,8 @@ fn search_linearly(
 {
     let from = image.from;
     let to = image.to;
-    let reference = cases::reference(list, at);
-    let limits = cases::limits(list, at);
+    let reference = request::reference(list, at);
+    let limits = request::limits(list, at);
     if kind == cases::LINEAR {
         return linear::search(&list[from..to], reference, limits, result);
     }
@@ -81,11 +83,11 @@ fn answer_direct(
 ) -> usize
     requires { ⌜ (at < mostBytes) × (image .from ≤ image .to) × (image .to ≤ length (now list)) ⌝ }
 {
-    let fill = cases::fill(list, at);
+    let fill = request::fill(list, at);
     areas::fill(work, fill);
     areas::fill(result, fill);
-    let resolution = search_directly(list, at, image, kind, work, result);
-    let told = answer::put_resolution(out, resolution);
+    let answer = search_directly(list, at, image, kind, work, result);
+    let told = resolution::put_resolution(out, answer);
     let behind = areas::put_area(out, told, result);
     areas::put_area(out, behind, work)
 }
@@ -101,7 +103,7 @@ fn answer_linear(
 ) -> usize
     requires { ⌜ (at < mostBytes) × (image .from ≤ image .to) × (image .to ≤ length (now list)) ⌝ }
 {
-    areas::fill(result, cases::fill(list, at));
+    areas::fill(result, request::fill(list, at));
     let resolution = search_linearly(list, at, image, kind, result);
     let told = answer::put_linear_resolution(out, resolution);
     areas::put_area(out, told, result)
@@ -119,8 +121,8 @@ fn library_answer(
     requires { ⌜ (at < mostBytes) × (image .from ≤ image .to) × (image .to ≤ length (now list)) ⌝ }
 {
     let kind = list::byte(list, at);
-    let w = list::lesser(cases::work_words(list, at), work.len());
-    let r = list::lesser(cases::result_words(list, at), result.len());
+    let w = list::lesser(request::work_words(list, at), work.len());
+    let r = list::lesser(request::result_words(list, at), result.len());
     if cases::is_direct(kind) {
         return answer_direct(
             list,
@@ -161,7 +163,7 @@ fn differs(
     if list::byte(list, at) != kind {
         return 0;
     }
-    let expected = cases::answer_at(list, at);
+    let expected = request::answer_at(list, at);
     let count = library_answer(list, at, image, work, result, out);
     if numbers::same(list, expected, out, count) {
         return 0;

@@ -4,3 +4,4 @@ pub mod States
 pub mod Searches
 pub mod Reps
 pub mod Extensions
+pub mod Runs

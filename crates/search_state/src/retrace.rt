@@ -4,6 +4,10 @@
 ghost use Rattle.search_state.specs.Retraces.{Retraces, Retraced};
 use path::step::Effect;
 use path::steps;
+use semantics::bounds::SLOT_WORDS;
+
+// The steps of a path of 127 edges, 8 words for each, step 0 being the reference.
+pub const STEP_WORDS: usize = 8 * SLOT_WORDS;
 
 pub fn retrace(index: &[u32], steps: &mut [u32], edges: &[u32])
     requires { ⌜ Retraces (now index) (now steps) (now edges) ⌝ }

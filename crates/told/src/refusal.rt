@@ -1,12 +1,13 @@
 // Each refusal as document 01 tells it, "Turned back": its number, then the values that are returned with it. The table is semantics/specs/Told.antt.
 ghost use mathlib.Core.Path.{_≡_};
 ghost use mathlib.Core.List.{[], _∷_};
-ghost use Rattle.semantics.specs.Told.{toldImage, toldPath, toldReplayRefusal, toldSearch, toldLinear, toldDatabase};
+ghost use Rattle.semantics.specs.Told.{toldImage, toldPath, toldReplayRefusal, toldSearch, toldLinear, toldPartial, toldDatabase};
 ghost use Rattle.told.specs.Numbers.{numbersOf};
 use semantics::graph::NodeId;
 use semantics::refusal::DatabaseRefusal;
 use semantics::refusal::ImageRefusal;
 use semantics::refusal::LinearRefusal;
+use semantics::refusal::PartialPathRefusal;
 use semantics::refusal::PathRefusal;
 use semantics::refusal::ReplayRefusal;
 use semantics::refusal::SearchRefusal;
@@ -113,6 +114,17 @@ pub fn linear(refusal: LinearRefusal) -> Told
         LinearRefusal::TooLong => bare(30),
         LinearRefusal::NoResultSlot => bare(32),
         LinearRefusal::TooManyExpansions => bare(36),
+    }
+}
+
+pub fn partial(refusal: PartialPathRefusal) -> Told
+    ensures { λ r. ⌜ numbersOf r ≡ toldPartial refusal ⌝ }
+{
+    match refusal {
+        PartialPathRefusal::UnknownFile(file) => valued(21, file.0),
+        PartialPathRefusal::TooLong => bare(30),
+        PartialPathRefusal::NoWaitingSlot => bare(31),
+        PartialPathRefusal::TooManyExpansions => bare(36),
     }
 }
 

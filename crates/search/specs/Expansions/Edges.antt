@@ -23,15 +23,8 @@ use Rattle.search_state.specs.declared.search.Going.the-variants.{On, Refused}
 use Rattle.search_state.specs.Items.{Carries}
 use Rattle.search_state.specs.Reps.{Frame, frameOf, settingOf, Rep, Tells}
 use Rattle.search_state.specs.Reps.Laws.{tells-on, tells-refused}
+use Rattle.search_state.specs.Runs.{each-one, each-stop}
 use Rattle.search.specs.Expansions.{Given, Tried, Expanded}
-
-each-one : (c : Setting SearchRefusal) (s u : State Path) (t : Try SearchRefusal Path) (ts : List (Try SearchRefusal Path)) → one c s t ≡ ok u → each c s (t ∷ ts) ≡ each c u ts
-unfolding each
-each-one c s u t ts e = rw e
-
-each-stop : (c : Setting SearchRefusal) (s : State Path) (x : SearchRefusal) (t : Try SearchRefusal Path) (ts : List (Try SearchRefusal Path)) → one c s t ≡ refuse x → each c s (t ∷ ts) ≡ refuse x
-unfolding each
-each-stop c s x t ts e = rw e
 
 module _ (most : ℕ) (index steps item₀ : List ℕ) (k : ℕ) (s : S.Search) (ws₀ rs₀ : List ℕ) (v : Given most index steps item₀ k s ws₀ rs₀) where
   abbrev judgeOf : ℕ → Try SearchRefusal Path

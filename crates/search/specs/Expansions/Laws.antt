@@ -33,10 +33,10 @@ use Rattle.search_state.specs.States.{cutOne, rejectedOne, overlongBy}
 use Rattle.search_state.specs.Searches.{withState}
 use Rattle.search_state.specs.Reps.{slotOf, frameOf, Replayed, Rep, Tells}
 use Rattle.search_state.specs.Extensions.{Extendable, ExtendsTo}
-use Rattle.search.specs.declared.trial.Trial.{Trial}
-use Rattle.search.specs.declared.trial.Trial.the-variants.{Cut, Overlong, Rejected, TooLong, Extended}
-use Rattle.search.specs.Trials.{trialBy}
-use Rattle.search.specs.Trials.Laws.{Judged, trial-tells}
+use Rattle.edge_trial.specs.declared.trial.Trial.{Trial}
+use Rattle.edge_trial.specs.declared.trial.Trial.the-variants.{Cut, Overlong, Rejected, TooLong, Extended}
+use Rattle.edge_trial.specs.Trials.{trialBy}
+use Rattle.edge_trial.specs.Trials.Laws.{Judged, trial-tells}
 use Rattle.search.specs.Expansions.{Given, tryOf, Tried}
 
 -- ---- an edge is looked at

@@ -2,7 +2,7 @@ use Rattle.semantics.specs.Image.{symbolBytes, checkImage}
 use Rattle.storage.specs.Rows.Laws.{zeros-fresh}
 use Rattle.storage.specs.Rows.Use.{answer-refused, answer-accepted}
 use Rattle.path.specs.Replays.Calls.{accepted-jump}
-use Rattle.search.specs.Requests.{requestOf}
+use Rattle.rounds.specs.Requests.{requestOf}
 use Rattle.search.specs.Requests.Laws.{image-refused, image-does}
 use borrow.Author.Needs.{needs}
 use Rattle.search.proofs.direct.search_image.Statement.{statement}

@@ -6,8 +6,8 @@ use Rattle.semantics.specs.declared.refusal.SearchRefusal.the-variants as Searc
 use Rattle.semantics.specs.Graph.{viewOf}
 use Rattle.search_state.specs.declared.state.SearchState.{SearchState}
 use Rattle.search_state.specs.Searches.{withState}
-use Rattle.search.specs.declared.trial.Trial.{Trial}
-use Rattle.search.specs.Trials.Laws.{Judged}
+use Rattle.edge_trial.specs.declared.trial.Trial.{Trial}
+use Rattle.edge_trial.specs.Trials.Laws.{Judged}
 use Rattle.search.specs.Expansions.Laws.{given-cycles, given-rejected, given-short, given-slice, given-edges, given-ready, given-trial, tried-cut, tried-rejected, tried-overlong, tried-bound, extended-short, tried-extended, extended-given}
 use borrow.Author.Needs.{needs}
 use Rattle.search.proofs.direct.try_edge.Statement.{statement}

@@ -1,0 +1,2 @@
+pub mod Filings
+pub mod Agreement

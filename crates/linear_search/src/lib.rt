@@ -1,0 +1,2 @@
+// Linear search from a reference. Document 01, "Answer".
+pub mod linear;

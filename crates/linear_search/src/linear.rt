@@ -1,0 +1,258 @@
+// Linear search from a reference: at most one edge of each node may be appended, so one path grows and nothing waits.
+// Document 01, "Answer": `try_compute_linear`, "Linear stops at a second appendable edge of one node".
+ghost use mathlib.Core.Path.{_≡_};
+ghost use Rattle.semantics.specs.Limits.{base};
+ghost use Rattle.semantics.specs.Graph.{Graph, viewOf};
+ghost use Rattle.semantics.specs.Image.{symbolBytes, checkImage};
+ghost use Rattle.semantics.specs.Recorded.{recorded, returned};
+ghost use Rattle.semantics.specs.Told.{toldLinearResolution};
+ghost use Rattle.semantics.specs.Calls.{linearCall};
+ghost use Rattle.storage.specs.Rows.{Loaded};
+ghost use Rattle.path.specs.Shadows.Laws.{JumpAt};
+ghost use Rattle.recorded.specs.Beatable.{HoldsGraph};
+ghost use Rattle.recorded.specs.Replies.{replyOf};
+ghost use Rattle.linear_search.specs.Walks.{withState, Choosing, Chosen, Walk, Paced, Walking, Ends, WalkedTo};
+ghost use Rattle.linear_search.specs.LinearRequests.{linearRequestOf, linearOf, walkedOf, DoesLinear};
+use edge_trial::trial;
+use edge_trial::trial::Trial;
+use path::step;
+use path::step::Effect;
+use path::steps;
+use recorded::reply::Reply;
+use recorded::reply::finish;
+use search_state::item;
+use search_state::retrace::STEP_WORDS;
+use search_state::state::Recorded;
+use search_state::state::SearchState;
+use semantics::answer::Checked;
+use semantics::answer::LinearResolution;
+use semantics::bounds::SLOT_WORDS;
+use semantics::graph::EdgeId;
+use semantics::graph::NodeId;
+use semantics::refusal::LinearRefusal;
+use semantics::search::SearchLimits;
+use storage::check;
+use storage::rows;
+use storage::store;
+use words::slots;
+
+// An expansion on the way: `found` is the link to the edge that was appended, its number plus 1, or 0 for none yet.
+pub struct Expansion {
+    pub state: SearchState,
+    pub found: u32,
+}
+
+impl Expansion {
+    fn with_state(self, state: SearchState) -> Expansion
+        ensures { λ r. ⌜ r ≡ withState state self ⌝ }
+    {
+        Expansion {
+            state,
+            found: self.found,
+        }
+    }
+}
+
+// What one edge does: the expansion goes on, or a second edge could be appended, or the search is refused.
+pub enum Pace {
+    On(Expansion),
+    Second,
+    Refused(LinearRefusal),
+}
+
+// The search is over, or refused.
+pub enum Walked {
+    Over(SearchState),
+    Refused(LinearRefusal),
+}
+
+// The path in the item is the one to go on with, recorded where it is complete.
+fn choose(state: SearchState, link: u32, complete: bool, result: &mut [u32], item: &[u32]) -> Pace
+    requires { ⌜ Choosing state (now result) (now item) ⌝ }
+    ensures { λ r. ⌜ Chosen state link complete (now (result .entry)) (now (item .entry)) r (now (result .exit)) ⌝ }
+{
+    if complete {
+        let recorded = state.record_complete(result, item);
+        let Recorded::Done(next) = recorded else {
+            return Pace::Refused(LinearRefusal::NoResultSlot);
+        };
+        return Pace::On(Expansion {
+            state: next,
+            found: link,
+        });
+    }
+    Pace::On(Expansion { state, found: link })
+}
+
+// One edge is tried on the path of k edges in the item. The test for a second one stands between append and completeness.
+fn try_edge(
+    index: &[u32],
+    steps: &[u32],
+    item: &mut [u32],
+    k: usize,
+    link: u32,
+    on: Expansion,
+    result: &mut [u32],
+) -> Pace
+    requires { ⌜ Walk 1099511627776 (now index) (now steps) (now item) k link on (now result) ⌝ }
+    ensures { λ r. ⌜ ((v : Walk 1099511627776 (now (index .entry)) (now (steps .entry)) (now (item .entry)) k link on (now (result .entry))) → Paced 1099511627776 (now (index .entry)) (now (steps .entry)) (now (item .entry)) k link on (now (result .entry)) v r (now (item .exit)) (now (result .exit))) ⌝ }
+{
+    let state = on.state;
+    let budget = state.budget;
+    let edge = link - 1;
+    match trial::judge(index, steps, &item[1..k + 1], edge, budget) {
+        Trial::Cut => Pace::On(on.with_state(state.cut())),
+        Trial::Overlong => Pace::On(on.with_state(state.measure(k as u64 + 1))),
+        Trial::Rejected => Pace::On(on.with_state(state.reject())),
+        Trial::TooLong => Pace::Refused(LinearRefusal::TooLong),
+        Trial::Extended { complete } => {
+            if 0 < on.found {
+                return Pace::Second;
+            }
+            item::with_edge(item, k, edge);
+            choose(state, link, complete, result, item)
+        }
+    }
+}
+
+// Expansion after expansion, until no edge is appended, or the path count or a refusal ends the search.
+fn walk(
+    index: &[u32],
+    steps: &mut [u32],
+    item: &mut [u32],
+    first: SearchState,
+    result: &mut [u32],
+) -> Walked
+    requires { ⌜ Walking (now index) (now steps) (now item) first (now result) ⌝ }
+    ensures { λ r. ⌜ ((v : Walking (now (index .entry)) (now (steps .entry)) (now (item .entry)) first (now (result .entry))) → WalkedTo (now (index .entry)) (now (steps .entry)) (now (item .entry)) first (now (result .entry)) v r (now (result .exit))) ⌝ }
+{
+    let mut state = first;
+    let mut k: usize = 0;
+    let mut end: u32 = 0;
+    'expansions: loop {
+        let budget = state.budget;
+        let asked = budget.admitted_expansion();
+        state = state.with_budget(asked.budget);
+        if !asked.allowed {
+            return Walked::Over(state);
+        }
+        end = steps::get_step(steps, k).end;
+        let mut on = Expansion { state, found: 0 };
+        let mut link = store::first(index, NodeId(end));
+        while 0 < link {
+            match try_edge(index, steps, item, k, link, on, result) {
+                Pace::On(next) => {
+                    on = next;
+                }
+                Pace::Second => break 'expansions,
+                Pace::Refused(r) => return Walked::Refused(r),
+            }
+            link = store::next(index, EdgeId(link - 1));
+        }
+        state = on.state;
+        if on.found < 1 {
+            return Walked::Over(state);
+        }
+        let effect = steps::append(index, steps, k as u32, on.found - 1);
+        let Effect::Done(_) = effect else {
+            return Walked::Over(state);
+        };
+        k += 1;
+    }
+    Walked::Refused(LinearRefusal::MultipleEdges(NodeId(end)))
+}
+
+// The search on a loaded graph: the kept paths stand in the result slots where it is over.
+fn attempt(index: &[u32], reference: u32, limits: SearchLimits, result: &mut [u32]) -> Walked
+    requires { ⌜ HoldsGraph (now index) ⌝ }
+    ensures { λ r. ⌜ ((g : Graph) → Loaded g (now (index .entry)) → Ends r (now (result .exit)) (linearOf g (linearRequestOf limits (now (result .entry)) reference))) ⌝ }
+{
+    slots::zero(result);
+    let begun = step::begin(index, reference);
+    match begun {
+        Effect::Refused(r) => Walked::Refused(LinearRefusal::Path(r)),
+        Effect::Done(first) => {
+            let mut steps = [0u32; STEP_WORDS];
+            let mut item = [0u32; SLOT_WORDS];
+            steps::put_step(&mut steps, 0, first);
+            let state = SearchState::new(limits, result.len() / SLOT_WORDS);
+            walk(index, &mut steps, &mut item, state, result)
+        }
+    }
+}
+
+// The search on a loaded graph with the paths of the reply; the result area as every call leaves it.
+pub fn search_loaded(
+    index: &[u32],
+    reference: u32,
+    limits: SearchLimits,
+    reply: Reply,
+    result: &mut [u32],
+) -> LinearResolution
+    requires { ⌜ HoldsGraph (now index) ⌝ }
+    ensures { λ r. ⌜ ((g : Graph) → Loaded g (now (index .entry)) → JumpAt (viewOf g) → DoesLinear (walkedOf g reply (linearRequestOf limits (now (result .entry)) reference)) r (now (result .exit))) ⌝ }
+{
+    match attempt(index, reference, limits, result) {
+        Walked::Over(state) => {
+            let paths = finish(index, reply, result, state.kept);
+            LinearResolution::Done {
+                paths: paths as u64,
+                stats: state.stats(),
+            }
+        }
+        Walked::Refused(r) => {
+            slots::zero(result);
+            LinearResolution::Refused(r)
+        }
+    }
+}
+
+// The image is checked, then searched; a refused image leaves the result area zero.
+fn search_image(
+    image: &[u8],
+    reference: u32,
+    limits: SearchLimits,
+    reply: Reply,
+    result: &mut [u32],
+) -> LinearResolution
+    ensures { λ r. ⌜ DoesLinear (linearCall base (replyOf reply) (checkImage symbolBytes (now (image .entry))) (linearRequestOf limits (now (result .entry)) reference)) r (now (result .exit)) ⌝ }
+{
+    let mut index = [0u32; rows::INDEX];
+    match check::load_fresh(image, &mut index) {
+        Checked::Refused(r) => {
+            slots::zero(result);
+            LinearResolution::Image(r)
+        }
+        Checked::Accepted {
+            files: _,
+            nodes: _,
+            edges: _,
+        } => search_loaded(&index, reference, limits, reply, result),
+    }
+}
+
+// Linear search from a reference, on any bytes and numbers: the returned paths.
+pub fn search(
+    image: &[u8],
+    reference: NodeId,
+    limits: SearchLimits,
+    result: &mut [u32],
+) -> LinearResolution
+    ensures { λ r. ⌜ toldLinearResolution r ≡ toldLinearResolution (linearCall base returned (checkImage symbolBytes (now (image .entry))) (linearRequestOf limits (now (result .entry)) (reference .0)) .answer) ⌝ }
+    ensures { λ _. ⌜ now (result .exit) ≡ linearCall base returned (checkImage symbolBytes (now (image .entry))) (linearRequestOf limits (now (result .entry)) (reference .0)) .result ⌝ }
+{
+    search_image(image, reference.0, limits, Reply::Returned, result)
+}
+
+// The same search with its recorded paths.
+pub fn search_recorded(
+    image: &[u8],
+    reference: NodeId,
+    limits: SearchLimits,
+    result: &mut [u32],
+) -> LinearResolution
+    ensures { λ r. ⌜ toldLinearResolution r ≡ toldLinearResolution (linearCall base recorded (checkImage symbolBytes (now (image .entry))) (linearRequestOf limits (now (result .entry)) (reference .0)) .answer) ⌝ }
+    ensures { λ _. ⌜ now (result .exit) ≡ linearCall base recorded (checkImage symbolBytes (now (image .entry))) (linearRequestOf limits (now (result .entry)) (reference .0)) .result ⌝ }
+{
+    search_image(image, reference.0, limits, Reply::Recorded, result)
+}

@@ -1,0 +1,3 @@
+pub mod Expansions
+pub mod Seeds
+pub mod Requests

@@ -1,0 +1,88 @@
+-- A computation and a replacement as they are asked for in code, and what they leave.
+-- Document 01, "Partial paths"; the order of 35, 34, 21 and 33 in "Turned back".
+use Prim.Native.Nat.{ℕ, _+_, _≤_, _<_, _^_}
+use mathlib.Core.Path.{_≡_}
+use mathlib.Core.List.{List}
+use lib.ListN.{length}
+use Rattle.semantics.specs.declared.search.SearchOrder.{SearchOrder}
+use Rattle.semantics.specs.declared.search.Limit.{Limit}
+use Rattle.semantics.specs.declared.refusal.PartialPathRefusal.{PartialPathRefusal}
+use Rattle.semantics.specs.Limits.{base}
+use Rattle.semantics.specs.Answer.{Answer, ok}
+use Rattle.semantics.specs.Graph.{Graph}
+use Rattle.semantics.specs.Enumeration.{State}
+use Rattle.semantics.specs.PartialPaths.{Route, fileRoutes, filePartials}
+use Rattle.semantics.specs.Database.{usedIn, capacity, filesOnly, checkDatabase}
+use Rattle.semantics.specs.Calls.{Change, FileRequest, fileSettingOf, computed, onDatabase}
+use Rattle.semantics.specs.declared.answer.Replacement.{Replacement}
+use Rattle.storage.specs.Rows.{Loaded}
+use Rattle.partial_state.specs.declared.filing.Filing.{Filing}
+use Rattle.partial_state.specs.declared.extraction.Config.{Config}
+use Rattle.partial_state.specs.Filings.{Fits}
+use Rattle.partial.specs.declared.compute.Computed.{Computed}
+use Rattle.partial.specs.declared.replace.Sizes.{Sizes}
+use Rattle.partial.specs.Expansions.{Ends}
+use Rattle.partial.specs.Seeds.{Holds}
+pub mod Laws
+
+-- a file to be replaced with this work area
+abbrev pub requestOf : SearchOrder → Limit → Limit → List ℕ → ℕ → FileRequest
+requestOf order most paths ws file = record { order = order; length = most; paths = paths; work = length ws; file = file }
+
+abbrev pub askedBy : Config → List ℕ → ℕ → FileRequest
+askedBy c ws file = requestOf (c .order) (c .length) (c .paths) ws file
+
+-- the file's partial paths, as the definitions find them
+abbrev pub routesOf : Graph → FileRequest → Answer PartialPathRefusal (State Route)
+routesOf g q = fileRoutes base (q .length) (fileSettingOf base q) g (q .file)
+
+-- A COMPUTATION
+pub record Computing (index : List ℕ) (nodes : ℕ) (f : Filing) (db : List ℕ) : Type 0 where
+  pub holds : Holds index nodes
+  pub fits : Fits f db
+
+abbrev pub ComputedTo : List ℕ → ℕ → Filing → Config → List ℕ → List ℕ → Computed → List ℕ → Type 0
+ComputedTo index nodes f c ws db a db′ = (g : Graph) → Loaded g index → nodes ≡ length (g .nodes) → Ends f db a db′ (routesOf g (askedBy c ws (f .file)))
+
+-- A REPLACEMENT, from its end: the paths were counted and have room
+pub record Storing (index : List ℕ) (n : Sizes) (f : Filing) (c : Config) (ws db : List ℕ) : Type 0 where
+  pub graph : Graph
+  pub loaded : Loaded graph index
+  pub files : n .files ≡ graph .files
+  pub nodes : n .nodes ≡ length (graph .nodes)
+  pub found : State Route
+  pub is : routesOf graph (askedBy c ws (f .file)) ≡ ok found
+  pub first : f .first ≡ usedIn db
+  pub room : f .room ≡ length (found .kept)
+  pub few : f .first + f .room < 2 ^ 32
+  pub fits : Fits f db
+
+-- the words meet neither 35 nor 34
+pub record Replacing (index : List ℕ) (n : Sizes) (db : List ℕ) : Type 0 where
+  pub graph : Graph
+  pub loaded : Loaded graph index
+  pub files : n .files ≡ graph .files
+  pub nodes : n .nodes ≡ length (graph .nodes)
+  pub long : 3 ≤ length db
+  pub used : usedIn db ≤ capacity base db
+
+pub record Inspecting (index : List ℕ) (n : Sizes) : Type 0 where
+  pub graph : Graph
+  pub loaded : Loaded graph index
+  pub files : n .files ≡ graph .files
+  pub nodes : n .nodes ≡ length (graph .nodes)
+
+-- what the definitions answer on sound words, and on any words
+abbrev pub replacedOn : Graph → FileRequest → List ℕ → Change Replacement
+replacedOn g q db = computed base g q db (filePartials base (q .length) (fileSettingOf base q) g (q .file))
+
+abbrev pub inspectedOn : Graph → FileRequest → List ℕ → Change Replacement
+inspectedOn g q db = onDatabase base g q db (checkDatabase base filesOnly g db)
+
+-- the answer and every word of the database
+abbrev pub Leaves : {A : Type 0} → Change A → A → List ℕ → Type 0
+Leaves o a db = (a ≡ o .answer) × (db ≡ o .database)
+
+-- and every word of the work area
+abbrev pub Does : {A : Type 0} → Change A → A → List ℕ → List ℕ → Type 0
+Does o a ws db = (a ≡ o .answer) × (ws ≡ o .work) × (db ≡ o .database)

@@ -1,0 +1,157 @@
+// A file replaced in the database. Document 01, "Partial paths": `replace_file`; 33 follows a finished computation.
+// A refused replacement alters no word, and the words behind the used slots may hold anything: so the paths are computed and counted
+// first, and computed again and filed when all refusals are past.
+ghost use mathlib.Core.Path.{_≡_};
+ghost use Rattle.semantics.specs.Limits.{base};
+ghost use Rattle.semantics.specs.Image.{symbolBytes, checkImage};
+ghost use Rattle.semantics.specs.Told.{toldReplacement};
+ghost use Rattle.semantics.specs.Database.{filesOnly, replaceWords};
+ghost use Rattle.semantics.specs.Calls.{replaceCall};
+ghost use Rattle.partial.specs.Requests.{requestOf, askedBy, Storing, Replacing, Inspecting, replacedOn, inspectedOn, Leaves, Does};
+use crate::compute;
+use crate::compute::Computed;
+use database::check::Inspected;
+use database::layout;
+use database::replace;
+use partial_state::extraction::Config;
+use partial_state::filing::Filing;
+use semantics::answer::Checked;
+use semantics::answer::Replacement;
+use semantics::graph::FileId;
+use semantics::refusal::PartialPathRefusal;
+use semantics::search::Limit;
+use semantics::search::SearchOrder;
+use storage::check;
+use storage::rows;
+use words::slots;
+
+// What an accepted graph counts.
+pub struct Sizes {
+    pub files: u32,
+    pub nodes: u32,
+}
+
+// The found paths are filed in the place of the file's old ones. The second computation takes the course of the first.
+fn store(
+    index: &[u32],
+    sizes: Sizes,
+    filing: Filing,
+    config: Config,
+    work: &mut [u32],
+    words: &mut [u32],
+)
+    requires { ⌜ Storing (now index) sizes filing config (now work) (now words) ⌝ }
+    ensures { λ _. ⌜ ((v : Storing (now (index .entry)) sizes filing config (now (work .entry)) (now (words .entry))) → now (words .exit) ≡ replaceWords base (v .graph) (filing .file) (v .found) (now (words .entry))) ⌝ }
+{
+    replace::clear_file(words, filing.file);
+    compute::compute(index, sizes.nodes, filing, config, work, words);
+    let used = filing.first + filing.room;
+    replace::store_header(words, used as u32, sizes.nodes, sizes.files);
+}
+
+// 21, the computation, then 33.
+fn replace_known(
+    index: &[u32],
+    sizes: Sizes,
+    file: u32,
+    config: Config,
+    work: &mut [u32],
+    words: &mut [u32],
+) -> Replacement
+    requires { ⌜ Replacing (now index) sizes (now words) ⌝ }
+    ensures { λ r. ⌜ ((v : Replacing (now (index .entry)) sizes (now (words .entry))) → Leaves (replacedOn (v .graph) (askedBy config (now (work .entry)) file) (now (words .entry))) r (now (words .exit))) ⌝ }
+{
+    if sizes.files <= file {
+        return Replacement::Refused(PartialPathRefusal::UnknownFile(FileId(file)));
+    }
+    let first = layout::number(words, layout::USED_AT);
+    let counting = Filing {
+        file,
+        first,
+        room: 0,
+    };
+    match compute::compute(index, sizes.nodes, counting, config, work, words) {
+        Computed::Refused(r) => Replacement::Refused(r),
+        Computed::Done(stats) => {
+            if replace::has_room(words, stats.found) {
+                let filing = Filing {
+                    file,
+                    first,
+                    room: stats.found as usize,
+                };
+                store(index, sizes, filing, config, work, words);
+                return Replacement::Done { stats };
+            }
+            Replacement::Full
+        }
+    }
+}
+
+// 35 and 34 before it.
+pub fn replace_loaded(
+    index: &[u32],
+    sizes: Sizes,
+    file: u32,
+    config: Config,
+    work: &mut [u32],
+    words: &mut [u32],
+) -> Replacement
+    requires { ⌜ Inspecting (now index) sizes ⌝ }
+    ensures { λ r. ⌜ ((v : Inspecting (now (index .entry)) sizes) → Leaves (inspectedOn (v .graph) (askedBy config (now (work .entry)) file) (now (words .entry))) r (now (words .exit))) ⌝ }
+{
+    match database::check::check(words, sizes.nodes, sizes.files) {
+        Inspected::Refused(r) => Replacement::Database(r),
+        Inspected::Sound => replace_known(index, sizes, file, config, work, words),
+    }
+}
+
+// The image before that. The work area is zero after every call.
+fn replace_image(
+    image: &[u8],
+    file: u32,
+    config: Config,
+    work: &mut [u32],
+    words: &mut [u32],
+) -> Replacement
+    ensures { λ r. ⌜ Does (replaceCall base filesOnly (checkImage symbolBytes (now (image .entry))) (askedBy config (now (work .entry)) file) (now (words .entry))) r (now (work .exit)) (now (words .exit)) ⌝ }
+{
+    let mut index = [0u32; rows::INDEX];
+    let checked = check::load_fresh(image, &mut index);
+    match checked {
+        Checked::Refused(r) => {
+            slots::zero(work);
+            Replacement::Image(r)
+        }
+        Checked::Accepted {
+            files,
+            nodes,
+            edges: _,
+        } => {
+            let answer = replace_loaded(&index, Sizes { files, nodes }, file, config, work, words);
+            slots::zero(work);
+            answer
+        }
+    }
+}
+
+// Any bytes, numbers and words.
+pub fn replace_file(
+    image: &[u8],
+    file: FileId,
+    order: SearchOrder,
+    length: Limit,
+    paths: Limit,
+    work: &mut [u32],
+    words: &mut [u32],
+) -> Replacement
+    ensures { λ r. ⌜ toldReplacement r ≡ toldReplacement (replaceCall base filesOnly (checkImage symbolBytes (now (image .entry))) (requestOf order length paths (now (work .entry)) (file .0)) (now (words .entry)) .answer) ⌝ }
+    ensures { λ _. ⌜ now (work .exit) ≡ replaceCall base filesOnly (checkImage symbolBytes (now (image .entry))) (requestOf order length paths (now (work .entry)) (file .0)) (now (words .entry)) .work ⌝ }
+    ensures { λ _. ⌜ now (words .exit) ≡ replaceCall base filesOnly (checkImage symbolBytes (now (image .entry))) (requestOf order length paths (now (work .entry)) (file .0)) (now (words .entry)) .database ⌝ }
+{
+    let config = Config {
+        order,
+        length,
+        paths,
+    };
+    replace_image(image, file.0, config, work, words)
+}

@@ -1,0 +1,32 @@
+use Prim.Native.Nat.{ℕ}
+use native.Mathlib.Omega.{arith}
+use mathlib.Core.Path.{ap, _∙_}
+use mathlib.Core.List.{List}
+use lib.ListN.{set}
+use Rattle.semantics.specs.Words.{zeros}
+use Rattle.partial_state.specs.Routes.Laws.{begun}
+use borrow.Author.Needs.{needs}
+use Rattle.partial_state.proofs.route.begin.Statement.{statement}
+use Rattle.partial_state.proofs.route.begin.Tie as tie
+use Rattle.partial_state.proofs.route.begin.Reads as reads
+use Rattle.partial_state.proofs.route.begin.Lts as lts
+use Rattle.words.proofs.slots.zero.Reads as zero-reads
+
+-- src/route.rt:26:5
+zero-requires : tie.Need-zero-requires
+zero-requires c κs = search needs
+
+-- src/route.rt:27:5
+slice-write-item : tie.Need-slice-write-item
+slice-write-item c = search needs
+
+-- src/route.rt:22:1
+same-length : tie.Need-same-length
+same-length c = search needs
+
+-- src/route.rt:22:1
+returns : tie.Need-returns
+returns c = let a = c .before .before .before .before .before .args in let p = c .before .before .before .before .before .pre in ap (λ (l : List ℕ). set l 1 (a .start)) (c .before .before .zero .ensures) ∙ ap (λ (n : ℕ). set (zeros n) 1 (a .start)) p ∙ begun 128 (a .start) (omega arith)
+
+pub begin-spec : {M : Type 1} → statement M
+begin-spec = tie.close (tie.spec zero-requires slice-write-item same-length returns)

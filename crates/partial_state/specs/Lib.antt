@@ -1,0 +1,4 @@
+pub mod Routes
+pub mod Filings
+pub mod Extractions
+pub mod Reps

@@ -1,0 +1,87 @@
+-- What it means that a computation held in code and lent words stands for a state of the enumeration.
+-- Document 01, "Partial paths": waiting routes, statistics and flags, and found paths in the order found.
+use Prim.Native.Nat.{ℕ, _+_, _≤_, _<_, _^_}
+use mathlib.Core.Path.{_≡_}
+use mathlib.Core.Logic.{_⊎_}
+use mathlib.Core.Bool.{Bool}
+use mathlib.Core.List.{List, List·Memᴰ}
+use lib.ListN.{length, getD}
+use Rattle.semantics.specs.declared.search.SearchOrder.{SearchOrder}
+use Rattle.semantics.specs.declared.search.Limit.{Limit}
+use Rattle.semantics.specs.declared.search.SearchStats.{SearchStats}
+use Rattle.semantics.specs.declared.refusal.PartialPathRefusal.{PartialPathRefusal}
+use Rattle.semantics.specs.Answer.{Answer, ok, refuse, andThen}
+use Rattle.semantics.specs.Graph.{View}
+use Rattle.semantics.specs.Enumeration.{State, Setting, keep, pushItem}
+use Rattle.semantics.specs.PartialPaths.{Route, partialSetting}
+use Rattle.words.specs.Slots.{IsSlot}
+use Rattle.graph_search.specs.Frontier.{Framed}
+use Rattle.graph_search.specs.Frontier.Stands.{Stands}
+use Rattle.partial_state.specs.declared.route.Ends.{Ends}
+use Rattle.partial_state.specs.declared.filing.Filing.{Filing}
+use Rattle.partial_state.specs.declared.extraction.Extraction.{Extraction}
+use Rattle.partial_state.specs.declared.extraction.Going.{Going}
+use Rattle.partial_state.specs.declared.extraction.Going.the-variants.{On, Refused}
+use Rattle.partial_state.specs.Routes.{held, endsOf, Traced}
+use Rattle.partial_state.specs.Filings.{Fits, filedIn}
+use Rattle.partial_state.specs.Extractions.{statsIn}
+pub mod Laws
+pub mod Rounds
+
+-- counts and flags
+pub record Counts (x : Extraction) (m : State Route) : Type 0 where
+  pub stats : statsIn x ≡ m .stats
+  pub found : x .found ≡ length (m .kept)
+
+-- no count is above n: a sum of 64 bits holds one more
+pub record Few (n : ℕ) (t : SearchStats) : Type 0 where
+  pub complete : t .complete ≤ n
+  pub cycles : t .cycles ≤ n
+
+-- what a computation never changes: its order, limits, and waiting slots
+pub record Frame : Type 0 where
+  pub order : SearchOrder
+  pub length : Limit
+  pub paths : Limit
+  pub waiting : ℕ
+
+abbrev pub frameOf : Extraction → Frame
+frameOf x = record { order = x .frontier .order; length = x .budget .maxLength; paths = x .budget .maxPaths; waiting = x .frontier .capacity }
+
+abbrev pub settingOf : Frame → Setting PartialPathRefusal
+settingOf f = partialSetting (f .order) (f .paths) (f .waiting)
+
+-- the computation in code, its work area and the database stand for a state of the enumeration; `origin` is the database without what was filed
+pub record Rep (g : View) (f : Filing) (origin : List ℕ) (x : Extraction) (ws db : List ℕ) (m : State Route) : Type 0 where
+  pub sized : x .frontier .length ≡ 128
+  pub stands : Stands (held 128) (x .frontier) ws m
+  pub counts : Counts x m
+  pub few : Few (m .tally .looked) (m .stats)
+  pub filed : db ≡ filedIn f (m .kept) origin
+  pub traced : (r : Route) → List·Memᴰ r (m .rest) ⊎ List·Memᴰ r (m .pending) → Traced g (f .file) r
+
+-- where nothing may be filed the database is as it was
+abbrev pub Untouched : Filing → List ℕ → List ℕ → Type 0
+Untouched f origin db = f .room ≡ 0 → db ≡ origin
+
+-- the computation that goes on stands for the state answered, or it is refused alike
+abbrev pub Tells : View → Filing → List ℕ → Frame → Going → List ℕ → List ℕ → Answer PartialPathRefusal (State Route) → Type 0
+Tells g f origin fr (On x) ws db (ok m) = (frameOf x ≡ fr) × Rep g f origin x ws db m
+Tells g f origin fr (On x) ws db (refuse y) = ⊥
+Tells g f origin fr (Refused r) ws db (ok m) = ⊥
+Tells g f origin fr (Refused r) ws db (refuse y) = (r ≡ y) × Untouched f origin db
+
+-- the areas have their slots, and one more path can be counted and filed
+pub record Extendable (x : Extraction) (f : Filing) (item ws db : List ℕ) : Type 0 where
+  pub framed : Framed (x .frontier) ws
+  pub slot : IsSlot 128 item
+  pub sized : x .frontier .length ≡ 128
+  pub short : getD item 0 0 ≤ 127
+  pub few : x .found + 1 < 2 ^ 64
+  pub fits : Fits f db
+
+-- the enumeration keeps and pushes alike; the edge that led here is among those looked at
+abbrev pub ExtendsTo : Extraction → Bool → Ends → Filing → List ℕ → List ℕ → List ℕ → Going → List ℕ → List ℕ → Type 0
+ExtendsTo x endpoint e f item ws db a ws′ db′ =
+    (g : View) (origin : List ℕ) (m : State Route) (q : Route) (n : ℕ) → Rep g f origin x ws db m → Few n (m .stats) → n + 1 ≡ m .tally .looked → Traced g (f .file) q → e ≡ endsOf q → item ≡ held 128 q
+    → Tells g f origin (frameOf x) a ws′ db′ (andThen (keep endpoint (settingOf (frameOf x)) m q) (pushItem (settingOf (frameOf x)) q))

@@ -1,0 +1,185 @@
+-- The top of a round: the computation is over, or the next route in the order of taking is to be expanded, or it would be one expansion too many.
+-- Serves document 01, "Budget and frontier"; 36 of "Turned back".
+use Prim.Native.Nat.{ℕ, _+_, _<_, _≤_}
+use native.Mathlib.Omega.{arith}
+use mathlib.Core.Path.{_≡_, refl, sym, ap, ap₂, subst, _∙_}
+use mathlib.Core.Logic.{_⊎_, inl, inr, ⊎-elim}
+use mathlib.Core.Bool.{Bool, true, false, not}
+use mathlib.Core.List.{List, [], _∷_, _++_, map, List·Memᴰ, List·Memᴰ·head, List·Memᴰ·tail, List·Memᴰ·append-cases, List·Memᴰ·not-nil}
+use lib.Dec.{T, leb, leb→le, nleb→lt}
+use lib.ListN.{length}
+use Rattle.semantics.specs.declared.search.SearchOrder.{SearchOrder}
+use Rattle.semantics.specs.declared.search.SearchOrder.the-variants.{BreadthFirst, DepthFirst}
+use Rattle.semantics.specs.declared.search.SearchStats.{SearchStats}
+use Rattle.semantics.specs.Lists.{pick}
+use Rattle.semantics.specs.Limits.{below}
+use Rattle.semantics.specs.Graph.{View}
+use Rattle.semantics.specs.PartialPaths.{Route}
+use Rattle.semantics.specs.Enumeration.{State, Setting, Turn, over, expand, turn, popped, admit, merge, addExpanded, flagCount}
+use Rattle.graph_search.specs.declared.path_frontier.Frontier.{Frontier}
+use Rattle.graph_search.specs.declared.path_frontier.Popped.{Popped}
+use Rattle.graph_search.specs.declared.path_frontier.Popped.the-variants as Popped
+use Rattle.graph_search.specs.Budget.{expansion, limitsOf, statsOf}
+use Rattle.graph_search.specs.Budget.Laws.{expansion-allowed, expansion-limits, expansion-granted, expansion-refused}
+use Rattle.graph_search.specs.Frontier.{merged, Waits}
+use Rattle.graph_search.specs.Frontier.Laws.{merge-is, pop-frame}
+use Rattle.graph_search.specs.Frontier.Stands.{stands-item, stands-empty}
+use Rattle.partial_state.specs.declared.filing.Filing.{Filing}
+use Rattle.partial_state.specs.declared.extraction.Extraction.{Extraction}
+use Rattle.partial_state.specs.declared.extraction.Taken.{Taken}
+use Rattle.partial_state.specs.declared.extraction.Taken.the-variants.{Over, Expand, TooMany}
+use Rattle.partial_state.specs.Routes.{held, Traced}
+use Rattle.partial_state.specs.Extractions.{withBudget, withFrontier, counting, admittedOf, takenOf, Taking}
+use Rattle.partial_state.specs.Reps.{Counts, Few, Frame, frameOf, settingOf, Rep}
+
+mem-merged : (o : SearchOrder) (xs ys : List Route) (r : Route) → List·Memᴰ r (merged o xs ys) → List·Memᴰ r xs ⊎ List·Memᴰ r ys
+mem-merged BreadthFirst xs ys r h = List·Memᴰ·append-cases xs h
+mem-merged DepthFirst xs ys r h = ⊎-elim (λ (a : List·Memᴰ r ys). inr a) (λ (a : List·Memᴰ r xs). inl a) (List·Memᴰ·append-cases ys h)
+
+module _ (g : View) (f : Filing) (origin : List ℕ) (x : Extraction) (ws db : List ℕ) (m : State Route) (was : Rep g f origin x ws db m) where
+  abbrev pub roundOf : Turn Route
+  roundOf = turn (settingOf (frameOf x)) (merge (x .frontier .order) m)
+
+  -- the round opens with a route to be expanded
+  pub record Opened (item ws′ : List ℕ) (n : Extraction) : Type 0 where
+    pub route : Route
+    pub model : State Route
+    pub round : roundOf ≡ expand route model
+    pub words : item ≡ held 128 route
+    pub good : Traced g (f .file) route
+    pub frame : frameOf n ≡ frameOf x
+    pub rep : Rep g f origin n ws′ db model
+    pub tally : model .tally ≡ m .tally
+    pub expanded : n .budget .expanded ≡ x .budget .expanded + 1
+    pub before : x .budget .expanded < 16777216
+
+  -- it ends the computation
+  pub record Ended (n : Extraction) : Type 0 where
+    pub model : State Route
+    pub round : roundOf ≡ over model
+    pub counts : Counts n model
+    pub kept : model .kept ≡ m .kept
+
+  -- it would be one expansion too many
+  pub record Exceeded : Type 0 where
+    pub route : Route
+    pub model : State Route
+    pub round : roundOf ≡ expand route model
+    pub before : 16777216 ≤ x .budget .expanded
+
+  abbrev Rounds : Taken → List ℕ → List ℕ → Type 0
+  Rounds (Over n) item ws′ = Ended n
+  Rounds (Expand n) item ws′ = Opened item ws′ n
+  Rounds TooMany item ws′ = Exceeded
+
+  abbrev opened : State Route
+  opened = record { rest = merged (x .frontier .order) (m .rest) (m .pending); pending = []; kept = m .kept; stats = m .stats; tally = m .tally }
+
+  counted : m .stats .expanded ≡ x .budget .expanded
+  counted = ap (λ (t : SearchStats). t .expanded) (sym (was .counts .stats))
+
+  module _ (w : Route) (us : List Route) (taken : merge (x .frontier .order) m .rest ≡ w ∷ us) where
+    first : merged (x .frontier .order) (m .rest) (m .pending) ≡ w ∷ us
+    first = ap (λ (u : State Route). u .rest) (sym (merge-is (x .frontier .order) m)) ∙ taken
+
+    asked-is : (b : Bool) → expansion (x .budget) .allowed ≡ b → roundOf ≡ admit b opened w us
+    unfolding turn popped
+    asked-is b e =
+        ap (turn (settingOf (frameOf x))) (merge-is (x .frontier .order) m)
+        ∙ ap (popped (settingOf (frameOf x)) opened) first
+        ∙ ap (λ (y : Bool). admit y opened w us) (ap (λ (y : ℕ). below y (x .budget .maxPaths)) counted ∙ sym (expansion-allowed (x .budget)) ∙ e)
+
+    is-below : (b : Bool) → expansion (x .budget) .allowed ≡ b → below (x .budget .expanded) (x .budget .maxPaths) ≡ b
+    is-below b e = sym (expansion-allowed (x .budget)) ∙ e
+
+    good-first : Traced g (f .file) w
+    good-first = was .traced w (mem-merged (x .frontier .order) (m .rest) (m .pending) w (subst (λ (l : List Route). List·Memᴰ w l) (sym first) (List·Memᴰ·head refl)))
+
+    good-others : (r : Route) → List·Memᴰ r us → Traced g (f .file) r
+    good-others r h = was .traced r (mem-merged (x .frontier .order) (m .rest) (m .pending) r (subst (λ (l : List Route). List·Memᴰ r l) (sym first) (List·Memᴰ·tail h)))
+
+    onward : (n : Frontier) (item ws′ : List ℕ) → n .order ≡ x .frontier .order → n .capacity ≡ x .frontier .capacity → n .length ≡ x .frontier .length → held 128 w ≡ item → Waits n ws′ (map (held 128) us) []
+        → expansion (x .budget) .allowed ≡ true → x .budget .expanded < 16777216
+        → Opened item ws′ (withFrontier n (withBudget (expansion (x .budget) .budget) x))
+    unfolding admit expansion
+    onward n item ws′ o c l e v a h = record {
+      route = w;
+      model = record { rest = us; pending = []; kept = m .kept; stats = addExpanded (m .stats); tally = m .tally };
+      round = asked-is true a;
+      words = sym e;
+      good = good-first;
+      frame = λ i. record { order = o i; length = expansion-limits (x .budget) i .length; paths = expansion-limits (x .budget) i .paths; waiting = c i };
+      rep = record {
+        sized = l ∙ was .sized;
+        stands = v;
+        counts = record {
+          stats = ap (counting (x .found)) (expansion-granted (x .budget) 0 (x .cycles) (is-below true a)) ∙ ap addExpanded (was .counts .stats);
+          found = was .counts .found;
+        };
+        few = record { complete = was .few .complete; cycles = was .few .cycles };
+        filed = was .filed;
+        traced = λ r k. ⊎-elim (λ (y : List·Memᴰ r us). good-others r y) (λ (y : List·Memᴰ r []). absurd (not-nil y)) k;
+      };
+      tally = refl;
+      expanded = ap (λ (t : SearchStats). t .expanded) (expansion-granted (x .budget) 0 0 (is-below true a));
+      before = h;
+    }
+      where
+        not-nil : {r : Route} → List·Memᴰ r [] → ⊥
+        not-nil h = List·Memᴰ·not-nil h
+
+    ended : expansion (x .budget) .allowed ≡ false → Ended (withBudget (expansion (x .budget) .budget) x)
+    unfolding admit
+    ended a = record {
+      model = record { rest = us; pending = []; kept = m .kept; stats = flagCount (m .stats); tally = m .tally };
+      round = asked-is false a;
+      counts = record {
+        stats = ap (counting (x .found)) (expansion-refused (x .budget) 0 (x .cycles) (is-below false a)) ∙ ap flagCount (was .counts .stats);
+        found = was .counts .found;
+      };
+      kept = refl;
+    }
+
+    exceeded : expansion (x .budget) .allowed ≡ true → 16777216 ≤ x .budget .expanded → Exceeded
+    unfolding admit
+    exceeded a h = record { route = w; model = record { rest = us; pending = []; kept = m .kept; stats = addExpanded (m .stats); tally = m .tally }; round = asked-is true a; before = h }
+
+  pub round-tells : (a : Taken) (item ws′ : List ℕ) → Taking x ws a item ws′ → Rounds a item ws′
+  unfolding turn popped
+  round-tells a item ws′ t = subst (λ (y : Taken). Rounds y item ws′) (sym (t .is)) (on (t .popped) refl)
+    where
+      on : (p : Popped) → t .popped ≡ p → Rounds (takenOf x p) item ws′
+      on Popped.Empty e = record {
+        model = opened;
+        round =
+            ap (turn (settingOf (frameOf x))) (merge-is (x .frontier .order) m)
+            ∙ ap (popped (settingOf (frameOf x)) opened) (ap (λ (u : State Route). u .rest) (sym (merge-is (x .frontier .order) m)) ∙ stands-empty (held 128) (x .frontier) ws m (t .popped) item ws′ (t .pops) (was .stands) e);
+        counts = record { stats = was .counts .stats; found = was .counts .found };
+        kept = refl;
+      }
+      on (Popped.Item n) e = told (expansion (x .budget) .allowed) (leb 16777216 (x .budget .expanded)) refl refl
+        where
+          told : (b d : Bool) → expansion (x .budget) .allowed ≡ b → leb 16777216 (x .budget .expanded) ≡ d
+              → Rounds (pick b (pick d TooMany (Expand (withFrontier n (withBudget (expansion (x .budget) .budget) x)))) (Over (withBudget (expansion (x .budget) .budget) x))) item ws′
+          told b d a h =
+              let v = stands-item (held 128) (x .frontier) ws m (t .popped) item ws′ (t .pops) (was .stands) n e in
+              let k = pop-frame (x .frontier) ws (t .popped) item ws′ (t .pops) n e .0 .kept in
+              by b d a h (v .0) (v .1) (v .2) (v .3) (v .4) (k .order) (k .capacity) (k .length)
+            where
+              by : (b d : Bool) → expansion (x .budget) .allowed ≡ b → leb 16777216 (x .budget .expanded) ≡ d
+                  → (w : Route) (us : List Route) → merge (x .frontier .order) m .rest ≡ w ∷ us → held 128 w ≡ item → Waits n ws′ (map (held 128) us) [] → n .order ≡ x .frontier .order → n .capacity ≡ x .frontier .capacity → n .length ≡ x .frontier .length
+                  → Rounds (pick b (pick d TooMany (Expand (withFrontier n (withBudget (expansion (x .budget) .budget) x)))) (Over (withBudget (expansion (x .budget) .budget) x))) item ws′
+              by false d a h w us u i v o c l = ended w us u a
+              by true true a h w us u i v o c l = exceeded w us u a (leb→le 16777216 (x .budget .expanded) (subst T (sym h) tt))
+              by true false a h w us u i v o c l = onward w us u n item ws′ o c l i v a (nleb→lt 16777216 (x .budget .expanded) (subst T (sym (ap not h)) tt))
+
+  -- ---- what a caller draws from the answer
+
+  pub round-over : (a : Taken) (item ws′ : List ℕ) (n : Extraction) → Taking x ws a item ws′ → a ≡ Over n → Ended n
+  round-over a item ws′ n t e = subst (λ (y : Taken). Rounds y item ws′) e (round-tells a item ws′ t)
+
+  pub round-expand : (a : Taken) (item ws′ : List ℕ) (n : Extraction) → Taking x ws a item ws′ → a ≡ Expand n → Opened item ws′ n
+  round-expand a item ws′ n t e = subst (λ (y : Taken). Rounds y item ws′) e (round-tells a item ws′ t)
+
+  pub round-many : (a : Taken) (item ws′ : List ℕ) → Taking x ws a item ws′ → a ≡ TooMany → Exceeded
+  round-many a item ws′ t e = subst (λ (y : Taken). Rounds y item ws′) e (round-tells a item ws′ t)

@@ -1,0 +1,2 @@
+-- The bound that the contracts of printing programs name.
+pub mod Areas

@@ -1,2 +1,0 @@
--- The bound that the contracts of this program name.
-pub mod Areas

@@ -1,0 +1,4 @@
+pub mod Requests
+pub mod Drives
+pub mod Starts
+pub mod Finishes

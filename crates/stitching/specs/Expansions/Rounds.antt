@@ -1,0 +1,57 @@
+-- A round of a stitched search: the popped path, laid out as steps, is what the expansion is given.
+-- Serves document 01, "Partial paths": `try_compute_from_partials`.
+use Prim.Native.Nat.{ℕ, _+_, _-_, _≤_}
+use native.Mathlib.Omega.{arith}
+use mathlib.Core.Path.{_≡_, ap, _∙_}
+use mathlib.Core.List.{List}
+use lib.ListN.{length, take, drop, getD, length-map}
+use Rattle.semantics.specs.declared.search.Limit.{Limit}
+use Rattle.semantics.specs.Limits.{base}
+use Rattle.semantics.specs.Graph.{View}
+use Rattle.semantics.specs.Path.{Path}
+use Rattle.semantics.specs.Stitching.{judgeSlot}
+use Rattle.semantics.specs.Database.{slotsIn}
+use Rattle.search_state.specs.declared.search.Search as S
+use Rattle.search_state.specs.declared.search.Going.{Going}
+use Rattle.search_state.specs.Retraces.{Retraces, Retraced}
+use Rattle.database.specs.Records.{edgeWords}
+use Rattle.database.specs.Records.Laws.{count-slots}
+use Rattle.stitching_trial.specs.Links.{RECORDS, startingAt, Readable}
+use Rattle.stitching_trial.specs.Links.Laws.{readable-used, starting-length, tries-are}
+use Rattle.rounds.specs.Drives.{Rounding, Rounded}
+use Rattle.rounds.specs.Drives.Laws.{round-long, round-count, round-held, round-traced}
+use Rattle.stitching.specs.Requests.{triesIn}
+use Rattle.stitching.specs.Expansions.{Given, Expanded}
+
+-- an expansion looks at no more partial paths than there are slots
+pub tries-few : (words : List ℕ) → Readable words → (lim : Limit) (g : View) (p : Path) → length (triesIn words lim g p) ≤ RECORDS
+tries-few words r lim g p =
+    let is = startingAt (p .end) 0 (slotsIn base words) in
+    let n : length (triesIn words lim g p) ≡ length is = ap length (tries-are words r lim g p) ∙ length-map is (λ i. judgeSlot base lim g p (edgeWords base i words)) in
+    let l = starting-length (p .end) 0 (slotsIn base words) in
+    let c = count-slots base words in
+    let u = readable-used words r in
+    omega (arith, n, l, c, u)
+
+module _ (words : List ℕ) (most : ℕ) (index steps item : List ℕ) (s : S.Search) (ws rs : List ℕ) (v : Rounding most index steps item s ws rs) (k : ℕ) (at : k ≡ getD item 0 0) (steps′ : List ℕ)
+    (long : length steps′ ≡ length steps) (t : (x : Retraces index steps (take (k + 1 - 1) (drop 1 item))) → Retraced index steps (take (k + 1 - 1) (drop 1 item)) x steps′) where
+  pub round-given : Given most index steps′ item k s ws rs
+  round-given = record {
+    graph = v .graph;
+    loaded = v .loaded;
+    reference = v .reference;
+    path = v .path;
+    count = round-count most index steps item s ws rs v k at;
+    stepped = round-traced most index steps item s ws rs v k at steps′ t .0;
+    long = omega (arith, long, v .long);
+    slot = round-long most index steps item s ws rs v;
+    held = round-held most index steps item s ws rs v k at;
+    good = v .good;
+    model = v .model;
+    rep = v .rep;
+    small = v .small;
+  }
+
+  pub rounded : (a : Going) (steps″ ws′ rs′ : List ℕ) → Expanded words most index steps′ item k s ws rs round-given a steps″ ws′ rs′ → Rounded (triesIn words) most index steps item s ws rs v a steps″ ws′ rs′
+  unfolding round-given
+  rounded a steps″ ws′ rs′ x = record { tells = x .tells; begun = x .kept 0 (v .first) (omega arith) (round-traced most index steps item s ws rs v k at steps′ t .1) }

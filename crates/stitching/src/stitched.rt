@@ -1,0 +1,342 @@
+// Stitched search from a reference: every path that waits is tried with each partial path from its end. Document 01, "Partial paths":
+// `try_compute_from_partials`. The database is lent to be read.
+ghost use mathlib.Core.Path.{_≡_};
+ghost use lib.ListN.{length};
+ghost use Rattle.semantics.specs.Limits.{base};
+ghost use Rattle.semantics.specs.Graph.{Graph, viewOf};
+ghost use Rattle.semantics.specs.Image.{symbolBytes, checkImage};
+ghost use Rattle.semantics.specs.Recorded.{recorded, returned};
+ghost use Rattle.semantics.specs.Database.{filesOnly, checkDatabase};
+ghost use Rattle.semantics.specs.Told.{toldResolution};
+ghost use Rattle.semantics.specs.Calls.{onSlots, stitchedCall};
+ghost use Rattle.storage.specs.Rows.{Loaded};
+ghost use Rattle.path.specs.Shadows.Laws.{JumpAt};
+ghost use Rattle.recorded.specs.Beatable.{HoldsGraph};
+ghost use Rattle.recorded.specs.Replies.{replyOf};
+ghost use Rattle.stitching_trial.specs.Links.{Readable, Linked, Tryable};
+ghost use Rattle.stitching.specs.Expansions.{Given, Tried, Expanded};
+ghost use Rattle.rounds.specs.Drives.{Rounding, Rounded, Driving, Ends, DrivenTo};
+ghost use Rattle.rounds.specs.Requests.{requestOf, Does};
+ghost use Rattle.stitching.specs.Requests.{triesIn, stitchedOf, foundOf, Sized};
+use database::check;
+use database::check::Inspected;
+use database::layout;
+use graph_search::path_frontier::Frontier;
+use path::step;
+use path::step::Effect;
+use path::steps;
+use recorded::reply::Reply;
+use rounds::driven::Driven;
+use rounds::driven::conclude;
+use search_state::retrace::STEP_WORDS;
+use search_state::retrace::retrace;
+use search_state::search::Going;
+use search_state::search::Search;
+use search_state::search::Taken;
+use search_state::state::SearchState;
+use semantics::answer::Checked;
+use semantics::answer::Resolution;
+use semantics::bounds::SLOT_WORDS;
+use semantics::graph::NodeId;
+use semantics::refusal::SearchRefusal;
+use semantics::search::SearchLimits;
+use semantics::search::SearchOrder;
+use stitching_trial::grown;
+use stitching_trial::links;
+use stitching_trial::trial;
+use stitching_trial::trial::Trial;
+use storage::rows;
+use words::slots;
+
+// Partial path i is tried on the path of k edges in the item: counted where it is cut, too long or rejected, else recorded and pushed.
+fn try_partial(
+    index: &[u32],
+    words: &[u32],
+    steps: &mut [u32],
+    item: &mut [u32],
+    k: usize,
+    i: usize,
+    search: Search,
+    work: &mut [u32],
+    result: &mut [u32],
+) -> Going
+    requires { ⌜ Tryable (now words) i × Given 1099511627776 (now index) (now steps) (now item) k search (now work) (now result) ⌝ }
+    ensures { λ r. ⌜ ((v : Given 1099511627776 (now (index .entry)) (now (steps .entry)) (now (item .entry)) k search (now (work .entry)) (now (result .entry))) → Tried (now (words .entry)) 1099511627776 (now (index .entry)) (now (steps .entry)) (now (item .entry)) k search (now (work .entry)) (now (result .entry)) v i r (now (steps .exit)) (now (item .exit)) (now (work .exit)) (now (result .exit))) ⌝ }
+{
+    let state = search.state;
+    let budget = state.budget;
+    let edges = layout::edges(words, i);
+    match trial::judge(index, steps, &item[1..k + 1], edges, budget) {
+        Trial::Cut => Going::On(search.with_state(state.cut())),
+        Trial::Overlong => Going::On(search.with_state(state.measure((k + edges.len()) as u64))),
+        Trial::Rejected => Going::On(search.with_state(state.reject())),
+        Trial::Refused(r) => Going::Refused(r),
+        Trial::Extended { complete } => {
+            grown::with_edges(item, k, edges);
+            search.extend(complete, work, result, item)
+        }
+    }
+}
+
+// Each partial path from the path's end is tried, by ascending number.
+fn expand(
+    index: &[u32],
+    words: &[u32],
+    links: &[u32],
+    steps: &mut [u32],
+    item: &mut [u32],
+    k: usize,
+    search: Search,
+    work: &mut [u32],
+    result: &mut [u32],
+) -> Going
+    requires { ⌜ Linked (now words) (now links) × Given 549755813888 (now index) (now steps) (now item) k search (now work) (now result) ⌝ }
+    ensures { λ r. ⌜ ((v : Given 549755813888 (now (index .entry)) (now (steps .entry)) (now (item .entry)) k search (now (work .entry)) (now (result .entry))) → Expanded (now (words .entry)) 549755813888 (now (index .entry)) (now (steps .entry)) (now (item .entry)) k search (now (work .entry)) (now (result .entry)) v r (now (steps .exit)) (now (work .exit)) (now (result .exit))) ⌝ }
+{
+    let mut on = search;
+    let mut link = links::first(links, steps::get_step(steps, k).end);
+    while 0 < link {
+        let i = (link - 1) as usize;
+        let going = try_partial(index, words, steps, item, k, i, on, work, result);
+        let Going::On(next) = going else {
+            return going;
+        };
+        on = next;
+        link = links::next(links, i);
+    }
+    Going::On(on)
+}
+
+// The popped path's steps are laid out again, and the path is expanded.
+fn round(
+    index: &[u32],
+    words: &[u32],
+    links: &[u32],
+    steps: &mut [u32],
+    item: &mut [u32],
+    search: Search,
+    work: &mut [u32],
+    result: &mut [u32],
+) -> Going
+    requires { ⌜ Linked (now words) (now links) × Rounding 549755813888 (now index) (now steps) (now item) search (now work) (now result) ⌝ }
+    ensures { λ r. ⌜ ((v : Rounding 549755813888 (now (index .entry)) (now (steps .entry)) (now (item .entry)) search (now (work .entry)) (now (result .entry))) → Rounded (triesIn (now (words .entry))) 549755813888 (now (index .entry)) (now (steps .entry)) (now (item .entry)) search (now (work .entry)) (now (result .entry)) v r (now (steps .exit)) (now (work .exit)) (now (result .exit))) ⌝ }
+{
+    let k = item[0] as usize;
+    retrace(index, steps, &item[1..k + 1]);
+    expand(index, words, links, steps, item, k, search, work, result)
+}
+
+// Paths are taken and expanded until none waits, or the path count or a refusal ends the search.
+fn drive(
+    index: &[u32],
+    words: &[u32],
+    links: &[u32],
+    steps: &mut [u32],
+    item: &mut [u32],
+    search: Search,
+    work: &mut [u32],
+    result: &mut [u32],
+) -> Driven
+    requires { ⌜ Linked (now words) (now links) × Driving (now index) (now steps) (now item) search (now work) (now result) ⌝ }
+    ensures { λ r. ⌜ ((v : Driving (now (index .entry)) (now (steps .entry)) (now (item .entry)) search (now (work .entry)) (now (result .entry))) → DrivenTo (triesIn (now (words .entry))) (now (index .entry)) (now (steps .entry)) (now (item .entry)) search (now (work .entry)) (now (result .entry)) v r (now (result .exit))) ⌝ }
+{
+    let mut on = search;
+    loop {
+        match on.take(work, item) {
+            Taken::Over(state) => return Driven::Over(state),
+            Taken::TooMany => return Driven::Refused(SearchRefusal::TooManyExpansions),
+            Taken::Expand(next) => {
+                match round(index, words, links, steps, item, next, work, result) {
+                    Going::On(s) => {
+                        on = s;
+                    }
+                    Going::Refused(r) => return Driven::Refused(r),
+                }
+            }
+        }
+    }
+}
+
+// The search on a loaded graph and a checked database: the kept paths stand in the result slots where it is over, and the work area as it was
+// left.
+fn attempt(
+    index: &[u32],
+    words: &[u32],
+    reference: u32,
+    order: SearchOrder,
+    limits: SearchLimits,
+    work: &mut [u32],
+    result: &mut [u32],
+) -> Driven
+    requires { ⌜ HoldsGraph (now index) × Readable (now words) ⌝ }
+    ensures { λ r. ⌜ ((g : Graph) → Loaded g (now (index .entry)) → Ends r (now (result .exit)) (stitchedOf g (now (words .entry)) (requestOf order limits (now (work .entry)) (now (result .entry)) reference))) ⌝ }
+{
+    slots::zero(result);
+    let begun = step::begin(index, reference);
+    match begun {
+        Effect::Refused(r) => Driven::Refused(SearchRefusal::Path(r)),
+        Effect::Done(first) => {
+            let mut steps = [0u32; STEP_WORDS];
+            let mut item = [0u32; SLOT_WORDS];
+            steps::put_step(&mut steps, 0, first);
+            let search = Search {
+                frontier: Frontier::new(order, SLOT_WORDS, work.len() / SLOT_WORDS),
+                state: SearchState::new(limits, result.len() / SLOT_WORDS),
+            };
+            match search.push(work, &item) {
+                Going::On(on) => {
+                    let mut links = [0u32; links::LINKS];
+                    links::link(words, &mut links);
+                    drive(
+                        index,
+                        words,
+                        &links,
+                        &mut steps,
+                        &mut item,
+                        on,
+                        work,
+                        result,
+                    )
+                }
+                Going::Refused(r) => Driven::Refused(r),
+            }
+        }
+    }
+}
+
+// The search with the paths of the reply; both areas as every call leaves them.
+pub fn search_loaded(
+    index: &[u32],
+    words: &[u32],
+    reference: u32,
+    order: SearchOrder,
+    limits: SearchLimits,
+    reply: Reply,
+    work: &mut [u32],
+    result: &mut [u32],
+) -> Resolution
+    requires { ⌜ HoldsGraph (now index) × Readable (now words) ⌝ }
+    ensures { λ r. ⌜ ((g : Graph) → Loaded g (now (index .entry)) → JumpAt (viewOf g) → Does (foundOf g (now (words .entry)) reply (requestOf order limits (now (work .entry)) (now (result .entry)) reference)) r (now (work .exit)) (now (result .exit))) ⌝ }
+{
+    let driven = attempt(index, words, reference, order, limits, work, result);
+    conclude(index, driven, reply, work, result)
+}
+
+// The database is checked against a graph of so many nodes and files: 35, then 34. Then it is searched.
+fn search_database(
+    index: &[u32],
+    words: &[u32],
+    nodes: u32,
+    files: u32,
+    reference: u32,
+    order: SearchOrder,
+    limits: SearchLimits,
+    reply: Reply,
+    work: &mut [u32],
+    result: &mut [u32],
+) -> Resolution
+    requires { ⌜ Sized (now index) nodes files ⌝ }
+    ensures { λ r. ⌜ ((g : Graph) → Loaded g (now (index .entry)) → JumpAt (viewOf g) → nodes ≡ length (g .nodes) → files ≡ g .files → Does (onSlots base (replyOf reply) g (requestOf order limits (now (work .entry)) (now (result .entry)) reference) (checkDatabase base filesOnly g (now (words .entry)))) r (now (work .exit)) (now (result .exit))) ⌝ }
+{
+    match check::check(words, nodes, files) {
+        Inspected::Refused(r) => {
+            slots::zero(work);
+            slots::zero(result);
+            Resolution::Database(r)
+        }
+        Inspected::Sound => {
+            search_loaded(index, words, reference, order, limits, reply, work, result)
+        }
+    }
+}
+
+// The image is checked, then the database; a refused image leaves both areas zero.
+fn search_image(
+    image: &[u8],
+    words: &[u32],
+    reference: u32,
+    order: SearchOrder,
+    limits: SearchLimits,
+    reply: Reply,
+    work: &mut [u32],
+    result: &mut [u32],
+) -> Resolution
+    ensures { λ r. ⌜ Does (stitchedCall base (replyOf reply) filesOnly (checkImage symbolBytes (now (image .entry))) (now (words .entry)) (requestOf order limits (now (work .entry)) (now (result .entry)) reference)) r (now (work .exit)) (now (result .exit)) ⌝ }
+{
+    let mut index = [0u32; rows::INDEX];
+    match storage::check::load_fresh(image, &mut index) {
+        Checked::Refused(r) => {
+            slots::zero(work);
+            slots::zero(result);
+            Resolution::Image(r)
+        }
+        Checked::Accepted {
+            files,
+            nodes,
+            edges: _,
+        } => search_database(
+            &index,
+            words,
+            nodes,
+            files,
+            reference,
+            order,
+            limits,
+            reply,
+            work,
+            result,
+        ),
+    }
+}
+
+// Stitched search from a reference, on any bytes, words and numbers: the returned paths.
+pub fn search(
+    image: &[u8],
+    words: &[u32],
+    reference: NodeId,
+    order: SearchOrder,
+    limits: SearchLimits,
+    work: &mut [u32],
+    result: &mut [u32],
+) -> Resolution
+    ensures { λ r. ⌜ toldResolution r ≡ toldResolution (stitchedCall base returned filesOnly (checkImage symbolBytes (now (image .entry))) (now (words .entry)) (requestOf order limits (now (work .entry)) (now (result .entry)) (reference .0)) .answer) ⌝ }
+    ensures { λ _. ⌜ now (work .exit) ≡ stitchedCall base returned filesOnly (checkImage symbolBytes (now (image .entry))) (now (words .entry)) (requestOf order limits (now (work .entry)) (now (result .entry)) (reference .0)) .work ⌝ }
+    ensures { λ _. ⌜ now (result .exit) ≡ stitchedCall base returned filesOnly (checkImage symbolBytes (now (image .entry))) (now (words .entry)) (requestOf order limits (now (work .entry)) (now (result .entry)) (reference .0)) .result ⌝ }
+{
+    search_image(
+        image,
+        words,
+        reference.0,
+        order,
+        limits,
+        Reply::Returned,
+        work,
+        result,
+    )
+}
+
+// The same search with its recorded paths.
+pub fn search_recorded(
+    image: &[u8],
+    words: &[u32],
+    reference: NodeId,
+    order: SearchOrder,
+    limits: SearchLimits,
+    work: &mut [u32],
+    result: &mut [u32],
+) -> Resolution
+    ensures { λ r. ⌜ toldResolution r ≡ toldResolution (stitchedCall base recorded filesOnly (checkImage symbolBytes (now (image .entry))) (now (words .entry)) (requestOf order limits (now (work .entry)) (now (result .entry)) (reference .0)) .answer) ⌝ }
+    ensures { λ _. ⌜ now (work .exit) ≡ stitchedCall base recorded filesOnly (checkImage symbolBytes (now (image .entry))) (now (words .entry)) (requestOf order limits (now (work .entry)) (now (result .entry)) (reference .0)) .work ⌝ }
+    ensures { λ _. ⌜ now (result .exit) ≡ stitchedCall base recorded filesOnly (checkImage symbolBytes (now (image .entry))) (now (words .entry)) (requestOf order limits (now (work .entry)) (now (result .entry)) (reference .0)) .result ⌝ }
+{
+    search_image(
+        image,
+        words,
+        reference.0,
+        order,
+        limits,
+        Reply::Recorded,
+        work,
+        result,
+    )
+}

@@ -1,0 +1,75 @@
+-- The partial paths of each start node as rows of links, and what it means that the rows hold those of a database.
+-- Document 01, "Partial paths": "Stitching tries partial paths from the path's end by ascending number".
+use Prim.Native.Nat.{ℕ, suc, _+_, _<_, _≤_}
+use mathlib.Core.Path.{_≡_}
+use mathlib.Core.Bool.{true}
+use mathlib.Core.List.{List, [], _∷_}
+use lib.Dec.{eqb}
+use lib.ListN.{length, getD, set, drop}
+use Rattle.semantics.specs.Lists.{consIf}
+use Rattle.semantics.specs.Limits.{base}
+use Rattle.semantics.specs.PartialPaths.{Slot, dead, slot}
+use Rattle.semantics.specs.Database.{nodesIn, filesOnly, slotsIn, wellFormed}
+use Rattle.storage.specs.Rows.{NODES, cell}
+use Rattle.database.specs.Records.{InWords, countWord}
+pub mod Laws
+
+-- THE LAYOUT: the first record of each start node, then for each record the next one with the same start
+abbrev pub RECORDS : ℕ
+RECORDS = 4096
+
+abbrev pub NEXT : ℕ
+NEXT = 2048
+
+abbrev pub LINKS : ℕ
+LINKS = 6144
+
+-- a link is a record's number plus 1; 0 is none
+abbrev pub firstLink : List ℕ → ℕ → ℕ
+firstLink links n = cell links 0 NODES n
+
+abbrev pub nextLink : List ℕ → ℕ → ℕ
+nextLink links i = cell links NEXT RECORDS i
+
+-- following the links from `link` on passes just these records
+abbrev pub Passes : List ℕ → ℕ → List ℕ → Type 0
+Passes links link [] = link ≡ 0
+Passes links link (i ∷ is) = (link ≡ i + 1) × Passes links (nextLink links i) is
+
+-- record i is put in front of those that start at node s
+unfoldable pub putLink : ℕ → ℕ → List ℕ → List ℕ
+putLink i s links = set (set links (NEXT + i) (getD links s 0)) s (i + 1)
+
+-- the numbers of the live slots that start at a node, the first of these slots being number i
+unfoldable pub startingAt : ℕ → ℕ → List Slot → List ℕ
+startingAt n i [] = []
+startingAt n i (dead ∷ ss) = startingAt n (suc i) ss
+startingAt n i (slot f s e es ∷ ss) = consIf (eqb s n) i (startingAt n (suc i) ss)
+
+-- words that meet neither 35 nor, with any loaded graph, 34
+pub record Readable (words : List ℕ) : Type 0 where
+  pub formed : wellFormed base filesOnly words ≡ true
+  pub nodes : nodesIn words ≤ NODES
+
+-- the records from i on are linked
+pub record LinkedFrom (words links : List ℕ) (i : ℕ) : Type 0 where
+  pub long : length links ≡ LINKS
+  pub passes : (n : ℕ) → Passes links (firstLink links n) (startingAt n i (drop i (slotsIn base words)))
+
+-- all records of such words are
+pub record Linked (words links : List ℕ) : Type 0 where
+  pub readable : Readable words
+  pub long : length links ≡ LINKS
+  pub passes : (n : ℕ) → Passes links (firstLink links n) (startingAt n 0 (slotsIn base words))
+
+-- a live record of such words: it lies in them and has 1 to 127 edges
+pub record Tryable (words : List ℕ) (i : ℕ) : Type 0 where
+  pub known : i < RECORDS
+  pub inside : InWords base i words
+  pub some : 1 ≤ countWord base i words
+  pub few : countWord base i words ≤ 127
+
+-- each of the numbers is so
+abbrev pub Each : (ℕ → Type 0) → List ℕ → Type 0
+Each P [] = Unit {0}
+Each P (x ∷ xs) = P x × Each P xs

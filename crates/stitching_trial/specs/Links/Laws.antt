@@ -1,0 +1,272 @@
+-- One record more is linked; following the links passes the live slots of a node by ascending number, and the tries of a path are these.
+-- Serves document 01, "Partial paths": "Stitching tries partial paths from the path's end by ascending number".
+use Prim.Native.Nat.{ℕ, zero, suc, _+_, _-_, _<_, _≤_}
+use native.Mathlib.Omega.{arith}
+use native.Mathlib.Numerals.{add-one}
+use native.Mathlib.Nat.{zero-add, add-zero, add-suc, suc-add}
+use native.Mathlib.Decide.{decLt, ℕ-discrete}
+use mathlib.Core.Path.{_≡_, refl, sym, ap, subst, _∙_}
+use mathlib.Core.Bool.{Bool, true, false}
+use mathlib.Core.List.{List, [], _∷_, map}
+use borrow.Author.Tests.{eq-eqb, ne-eqb}
+use lib.Dec.{eqb}
+use lib.ListN.{length, getD, set, drop, length-set, length-replicate, getD-replicate, drop-of-length-le}
+use lib.Seq.{drop-cons, getD-set-same, getD-set-other}
+use Rattle.semantics.specs.declared.search.Limit.{Limit}
+use Rattle.semantics.specs.declared.refusal.SearchRefusal.{SearchRefusal}
+use Rattle.semantics.specs.Lists.{pick, consIf}
+use Rattle.semantics.specs.Limits.{Bounds, base}
+use Rattle.semantics.specs.Graph.{View}
+use Rattle.semantics.specs.Path.{Path}
+use Rattle.semantics.specs.Enumeration.{Try}
+use Rattle.semantics.specs.PartialPaths.{Slot, dead, slot}
+use Rattle.semantics.specs.Words.{zeros}
+use Rattle.semantics.specs.Database.{usedIn, filesOnly, slotsIn}
+use Rattle.semantics.specs.Stitching.{judgeSlot, slotTries}
+use Rattle.storage.specs.Rows.{NODES, cell}
+use Rattle.storage.specs.Rows.Laws.{cell-in, cell-out, cell-other, cell-same}
+use Rattle.database.specs.Records.{InWords, ownerWord, startWord, endWord, countWord, edgeWords}
+use Rattle.database.specs.Records.Laws.{within, slot-dead, count-slots}
+use Rattle.database.specs.Checks.Laws.{capacity-most, formed-used, formed-whole, formed-live, formed-slot}
+use Rattle.stitching_trial.specs.Links.{RECORDS, NEXT, LINKS, firstLink, nextLink, Passes, putLink, startingAt, Readable, LinkedFrom, Linked, Tryable, Each}
+
+-- ---- words that were checked
+
+module _ (words : List ℕ) (r : Readable words) where
+  pub readable-front : 3 ≤ length words
+  readable-front = omega (arith, formed-whole base filesOnly words (r .formed))
+
+  pub readable-used : usedIn words ≤ RECORDS
+  readable-used = omega (arith, formed-used base filesOnly words (r .formed), capacity-most base words .0)
+
+  module _ (i : ℕ) (h : i < usedIn words) where
+    pub readable-inside : InWords base i words
+    readable-inside = within base i words h (formed-whole base filesOnly words (r .formed))
+
+    -- a live record has a file behind its first word
+    owned : 0 < ownerWord base i words → ownerWord base i words ≡ suc (ownerWord base i words - 1)
+    owned l = omega (arith, l)
+
+    pub readable-start : 0 < ownerWord base i words → startWord base i words < NODES
+    readable-start l = omega (arith, formed-live base filesOnly words (r .formed) i (ownerWord base i words - 1) h (owned l) .starts, r .nodes)
+
+    pub readable-try : 0 < ownerWord base i words → Tryable words i
+    readable-try l =
+        let v = formed-live base filesOnly words (r .formed) i (ownerWord base i words - 1) h (owned l) in
+        record { known = omega (arith, h, readable-used); inside = readable-inside; some = v .some; few = v .few }
+
+    readable-slot : 0 < ownerWord base i words → getD (slotsIn base words) i dead ≡ slot (ownerWord base i words - 1) (startWord base i words) (endWord base i words) (edgeWords base i words)
+    readable-slot l = formed-slot base filesOnly words (r .formed) i (ownerWord base i words - 1) h (owned l)
+
+    -- so a live slot is the record's
+    readable-is : (f s e : ℕ) (es : List ℕ) → getD (slotsIn base words) i dead ≡ slot f s e es → (0 < ownerWord base i words) × (es ≡ edgeWords base i words)
+    readable-is f s e es q = on (decLt 0 (ownerWord base i words))
+      where
+        never : dead ≡ slot f s e es → ⊥
+        never z = let y : _≡_ {A = ℕ} 0 1 = cc in omega arith
+
+        same : (a b c : ℕ) (d : List ℕ) → slot f s e es ≡ slot a b c d → es ≡ d
+        same a b c d z = cc
+
+        on : Dec (0 < ownerWord base i words) → (0 < ownerWord base i words) × (es ≡ edgeWords base i words)
+        on (yes l) = (l, same (ownerWord base i words - 1) (startWord base i words) (endWord base i words) (edgeWords base i words) (sym q ∙ readable-slot l))
+        on (no l) = absurd (never (sym (slot-dead base i words h (omega (arith, l))) ∙ q))
+
+-- ---- the numbers of the slots that start at a node
+
+consIf-length : (b : Bool) (x : ℕ) (l : List ℕ) → length (consIf b x l) ≤ suc (length l)
+consIf-length true x l = omega arith
+consIf-length false x l = omega arith
+
+pub starting-length : (n i : ℕ) (ss : List Slot) → length (startingAt n i ss) ≤ length ss
+unfolding startingAt
+starting-length n i [] = omega arith
+starting-length n i (dead ∷ ss) = let h = starting-length n (suc i) ss in omega (arith, h)
+starting-length n i (slot f s e es ∷ ss) =
+    let h = starting-length n (suc i) ss in
+    let k = consIf-length (eqb s n) i (startingAt n (suc i) ss) in omega (arith, h, k)
+
+module _ (P : ℕ → Type 0) where
+  consIf-each : (b : Bool) (x : ℕ) (l : List ℕ) → P x → Each P l → Each P (consIf b x l)
+  consIf-each true x l p h = (p, h)
+  consIf-each false x l p h = h
+
+  -- what holds of every live slot's number
+  starting-each : (n i : ℕ) (ss : List Slot) → ((k f s e : ℕ) (es : List ℕ) → k < length ss → getD ss k dead ≡ slot f s e es → P (i + k)) → Each P (startingAt n i ss)
+  unfolding startingAt
+  starting-each n i [] h = tt
+  starting-each n i (dead ∷ ss) h = starting-each n (suc i) ss (λ k f s e es l q. subst P (let z : i + suc k ≡ suc i + k = omega arith in z) (h (suc k) f s e es (omega (arith, l)) q))
+  starting-each n i (slot g a b ds ∷ ss) h =
+      consIf-each (eqb a n) i (startingAt n (suc i) ss) (subst P (add-zero i) (h zero g a b ds (omega arith) refl))
+      (starting-each n (suc i) ss (λ k f s e es l q. subst P (let z : i + suc k ≡ suc i + k = omega arith in z) (h (suc k) f s e es (omega (arith, l)) q)))
+
+starting-above : (n i : ℕ) (ss : List Slot) → Each (λ j. i ≤ j) (startingAt n i ss)
+starting-above n i ss = starting-each (λ j. i ≤ j) n i ss (λ k f s e es l q. omega arith)
+
+pub starting-tryable : (words : List ℕ) → Readable words → (n : ℕ) → Each (Tryable words) (startingAt n 0 (slotsIn base words))
+starting-tryable words r n = starting-each (Tryable words) n 0 (slotsIn base words) (λ k f s e es l q. subst (Tryable words) (sym (zero-add k)) (live k f s e es (omega (arith, l, count-slots base words)) q))
+  where
+    live : (k f s e : ℕ) (es : List ℕ) → k < usedIn words → getD (slotsIn base words) k dead ≡ slot f s e es → Tryable words k
+    live k f s e es h q = readable-try words r k h (readable-is words r k h f s e es q .0)
+
+-- ---- what is tried on a path
+
+module _ (bd : Bounds) (lim : Limit) (g : View) (p : Path) (edges : ℕ → List ℕ) where
+  abbrev tried : ℕ → Try SearchRefusal Path
+  tried i = judgeSlot bd lim g p (edges i)
+
+  consIf-map : (b : Bool) (i : ℕ) (es : List ℕ) (l : List ℕ) → es ≡ edges i → consIf b (judgeSlot bd lim g p es) (map tried l) ≡ map tried (consIf b i l)
+  consIf-map true i es l e = ap (λ (x : List ℕ). judgeSlot bd lim g p x ∷ map tried l) e
+  consIf-map false i es l e = refl
+
+  -- the slots from number i on, whose edges are read by number
+  tries-from : (i : ℕ) (ss : List Slot) → ((k f s e : ℕ) (es : List ℕ) → k < length ss → getD ss k dead ≡ slot f s e es → es ≡ edges (i + k)) → slotTries bd lim g ss p ≡ map tried (startingAt (p .end) i ss)
+  unfolding slotTries startingAt
+  tries-from i [] h = refl
+  tries-from i (dead ∷ ss) h = tries-from (suc i) ss (λ k f s e es l q. h (suc k) f s e es (omega (arith, l)) q ∙ ap edges (let z : i + suc k ≡ suc i + k = omega arith in z))
+  tries-from i (slot a b c ds ∷ ss) h =
+      ap (consIf (eqb b (p .end)) (judgeSlot bd lim g p ds)) (tries-from (suc i) ss (λ k f s e es l q. h (suc k) f s e es (omega (arith, l)) q ∙ ap edges (let z : i + suc k ≡ suc i + k = omega arith in z)))
+      ∙ consIf-map (eqb b (p .end)) i ds (startingAt (p .end) (suc i) ss) (h zero a b c ds (omega arith) refl ∙ ap edges (add-zero i))
+
+pub tries-are : (words : List ℕ) → Readable words → (lim : Limit) (g : View) (p : Path)
+    → slotTries base lim g (slotsIn base words) p ≡ map (λ i. judgeSlot base lim g p (edgeWords base i words)) (startingAt (p .end) 0 (slotsIn base words))
+tries-are words r lim g p =
+    tries-from base lim g p (λ i. edgeWords base i words) 0 (slotsIn base words)
+    (λ k f s e es l q. readable-is words r k (omega (arith, l, count-slots base words)) f s e es q .1 ∙ ap (λ (j : ℕ). edgeWords base j words) (sym (zero-add k)))
+
+-- ---- one record more is linked
+
+first-in : (links : List ℕ) (n : ℕ) → n < NODES → firstLink links n ≡ getD links n 0
+first-in links n h = cell-in links 0 NODES n h ∙ ap (λ (k : ℕ). getD links k 0) (zero-add n)
+
+-- what the code reads
+pub first-known : (links : List ℕ) (n v : ℕ) → n < NODES → v ≡ getD links n 0 → v ≡ firstLink links n
+first-known links n v h e = e ∙ sym (first-in links n h)
+
+pub first-none : (links : List ℕ) (n : ℕ) → NODES ≤ n → 0 ≡ firstLink links n
+first-none links n h = sym (cell-out links 0 NODES n h)
+
+pub next-known : (links : List ℕ) (i : ℕ) → i < RECORDS → getD links (NEXT + i) 0 ≡ nextLink links i
+next-known links i h = sym (cell-in links NEXT RECORDS i h)
+
+module _ (links : List ℕ) (long : length links ≡ LINKS) (i s : ℕ) (h : i < RECORDS) (b : s < NODES) where
+  abbrev half : List ℕ
+  half = set links (NEXT + i) (getD links s 0)
+
+  half-long : length half ≡ LINKS
+  half-long = length-set links (NEXT + i) (getD links s 0) ∙ long
+
+  put-long : length (putLink i s links) ≡ LINKS
+  unfolding putLink
+  put-long = length-set half s (i + 1) ∙ half-long
+
+  put-first : firstLink (putLink i s links) s ≡ i + 1
+  unfolding putLink
+  put-first = first-in (set half s (i + 1)) s b ∙ getD-set-same half s (i + 1) 0 (let z = half-long in omega (arith, z, b))
+
+  put-other : (n : ℕ) → (n ≡ s → ⊥) → firstLink (putLink i s links) n ≡ firstLink links n
+  unfolding putLink
+  put-other n d = cell-other half 0 NODES n s (i + 1) (λ l q. d (omega (arith, q))) ∙ cell-other links 0 NODES n (NEXT + i) (getD links s 0) (λ l q. omega (arith, l, q))
+
+  put-next : nextLink (putLink i s links) i ≡ firstLink links s
+  unfolding putLink
+  put-next = cell-other half NEXT RECORDS i s (i + 1) (λ l q. omega (arith, b, q)) ∙ cell-same links NEXT RECORDS i (getD links s 0) h (omega (arith, long, h)) ∙ sym (first-in links s b)
+
+  put-later : (j : ℕ) → i < j → nextLink (putLink i s links) j ≡ nextLink links j
+  unfolding putLink
+  put-later j l = cell-other half NEXT RECORDS j s (i + 1) (λ m q. omega (arith, b, q)) ∙ cell-other links NEXT RECORDS j (NEXT + i) (getD links s 0) (λ m q. omega (arith, l, q))
+
+  -- later records are passed as before
+  passes-later : (is : List ℕ) (link : ℕ) → Each (λ j. suc i ≤ j) is → Passes links link is → Passes (putLink i s links) link is
+  passes-later [] link e p = p
+  passes-later (j ∷ is) link e p = (p .0, subst (λ (x : ℕ). Passes (putLink i s links) x is) (sym (put-later j (omega (arith, e .0)))) (passes-later is (nextLink links j) (e .1) (p .1)))
+
+  -- and record i in front of them, where it starts at the node
+  passes-more : (n : ℕ) (is : List ℕ) → Each (λ j. suc i ≤ j) is → Passes links (firstLink links n) is → Passes (putLink i s links) (firstLink (putLink i s links) n) (consIf (eqb s n) i is)
+  passes-more n is e p = on (ℕ-discrete s n)
+    where
+      on : Dec (s ≡ n) → Passes (putLink i s links) (firstLink (putLink i s links) n) (consIf (eqb s n) i is)
+      on (yes q) =
+          rw (eq-eqb s n q)
+          (ap (firstLink (putLink i s links)) (sym q) ∙ put-first, subst (λ (x : ℕ). Passes (putLink i s links) x is) (sym (put-next ∙ ap (firstLink links) q)) (passes-later is (firstLink links n) e p))
+      on (no q) = rw (ne-eqb s n q) (subst (λ (x : ℕ). Passes (putLink i s links) x is) (sym (put-other n (λ z. q (sym z)))) (passes-later is (firstLink links n) e p))
+
+module _ (words links : List ℕ) (r : Readable words) (i : ℕ) (h : i < usedIn words) (was : LinkedFrom words links (i + 1)) where
+  -- record i and those behind it
+  from-here : drop i (slotsIn base words) ≡ getD (slotsIn base words) i dead ∷ drop (suc i) (slotsIn base words)
+  from-here = drop-cons (slotsIn base words) i dead (omega (arith, h, count-slots base words))
+
+  behind : (n : ℕ) → Passes links (firstLink links n) (startingAt n (suc i) (drop (suc i) (slotsIn base words)))
+  behind n = subst (λ (k : ℕ). Passes links (firstLink links n) (startingAt n k (drop k (slotsIn base words)))) (add-one i) (was .passes n)
+
+  pub linked-dead : ownerWord base i words ≤ 0 → LinkedFrom words links i
+  unfolding startingAt
+  linked-dead e = record { long = was .long; passes = λ n. rw (from-here, slot-dead base i words h (omega (arith, e))) (behind n) }
+
+  pub linked-live : 0 < ownerWord base i words → LinkedFrom words (putLink i (startWord base i words) links) i
+  unfolding startingAt
+  linked-live e =
+      let s = startWord base i words in
+      let b = readable-start words r i h e in
+      record {
+        long = put-long links (was .long) i s less-records b;
+        passes = λ n. rw (from-here, readable-slot words r i h e) (passes-more links (was .long) i s less-records b n (startingAt n (suc i) (drop (suc i) (slotsIn base words))) (starting-above n (suc i) (drop (suc i) (slotsIn base words))) (behind n));
+      }
+    where
+      less-records : i < RECORDS
+      less-records = omega (arith, h, readable-used words r)
+
+-- ---- the loop
+
+pub link-start : (words links : List ℕ) → links ≡ zeros LINKS → (i : ℕ) → i ≡ usedIn words → LinkedFrom words links i
+unfolding startingAt
+link-start words links e i q = record {
+  long = ap length e ∙ length-replicate {A = ℕ} LINKS 0;
+  passes = λ n. rw (drop-of-length-le (slotsIn base words) {i = i} (omega (arith, q, count-slots base words))) (none n (decLt n NODES));
+}
+  where
+    none : (n : ℕ) → Dec (n < NODES) → firstLink links n ≡ 0
+    none n (yes l) = first-in links n l ∙ ap (λ (x : List ℕ). getD x n 0) e ∙ getD-replicate LINKS n 0 0 (omega (arith, l))
+    none n (no l) = cell-out links 0 NODES n (omega (arith, l))
+
+pub link-end : (words links : List ℕ) → Readable words → (i : ℕ) → i ≤ 0 → LinkedFrom words links i → Linked words links
+link-end words links r i h k =
+    let z : i ≡ 0 = omega (arith, h) in
+    record { readable = r; long = k .long; passes = λ n. subst (λ (j : ℕ). Passes links (firstLink links n) (startingAt n j (drop j (slotsIn base words)))) z (k .passes n) }
+
+-- ---- following the links: 0 ends it, every other link is the next record plus 1
+
+pub passes-end : (links is : List ℕ) → Passes links 0 is → is ≡ []
+passes-end links [] r = refl
+passes-end links (i ∷ is) r = absurd (omega (arith, r .0))
+
+pub passes-next : (links : List ℕ) (link : ℕ) (is : List ℕ) → 0 < link → Passes links link is → (rest : List ℕ) × (is ≡ (link - 1) ∷ rest) × Passes links (nextLink links (link - 1)) rest
+passes-next links link [] h r = absurd (omega (arith, r))
+passes-next links link (i ∷ is) h r =
+    let z : i ≡ link - 1 = omega (arith, r .0) in
+    (is, ap (λ (x : ℕ). x ∷ is) z, subst (λ (x : ℕ). Passes links (nextLink links x) is) z (r .1))
+
+-- how many records are still passed, at most `most`: the measure of a loop over them
+unfoldable pub toPass : List ℕ → ℕ → ℕ → ℕ
+toPass links zero link = 0
+toPass links (suc most) link = pick (eqb link 0) 0 (suc (toPass links most (nextLink links (link - 1))))
+
+passes-count : (links : List ℕ) (most link : ℕ) (is : List ℕ) → Passes links link is → length is ≤ most → toPass links most link ≡ length is
+unfolding toPass
+passes-count links zero link [] r h = refl
+passes-count links zero link (i ∷ is) r h = absurd (omega (arith, h))
+passes-count links (suc most) link [] r h = rw (eq-eqb link 0 r)
+passes-count links (suc most) link (i ∷ is) r h =
+    let z : link - 1 ≡ i = omega (arith, r .0) in
+    rw (ne-eqb link 0 (λ q. omega (arith, q, r .0)), z) (ap suc (passes-count links most (nextLink links i) is (r .1) (omega (arith, h))))
+
+abbrev pub left : List ℕ → ℕ → ℕ
+left links link = toPass links RECORDS link
+
+pub left-less : (links : List ℕ) (link : ℕ) (is : List ℕ) → 0 < link → Passes links link is → length is ≤ RECORDS → left links (nextLink links (link - 1)) < left links link
+left-less links link is h r b =
+    let n = passes-next links link is h r in
+    let c : length is ≡ suc (length (n .0)) = ap length (n .1) in
+    let x : left links link ≡ length is = passes-count links RECORDS link is r b in
+    let y : left links (nextLink links (link - 1)) ≡ length (n .0) = passes-count links RECORDS (nextLink links (link - 1)) (n .0) (n .2) (omega (arith, b, c)) in
+    omega (arith, c, x, y)
