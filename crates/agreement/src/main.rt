@@ -12,7 +12,6 @@ mod sets;
 
 use filing::file_all;
 use libc::STDIN_FILENO;
-use path::node::is_reference;
 use printing::paths::AREA_WORDS;
 use semantics::answer::Checked;
 use semantics::graph::NodeId;
@@ -21,6 +20,7 @@ use semantics::search::SearchLimits;
 use semantics::search::SearchOrder;
 use sets::Asked;
 use sets::record_both;
+use stepping::node::is_reference;
 use storage::check;
 use storage::rows;
 use storage::store;

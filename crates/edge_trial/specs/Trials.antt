@@ -4,9 +4,9 @@ use Prim.Native.Nat.{ℕ}
 use mathlib.Core.Bool.{Bool}
 use Rattle.semantics.specs.declared.graph.Node.{Node}
 use Rattle.semantics.specs.Lists.{pick}
-use Rattle.path.specs.declared.step.Effect.{Effect}
-use Rattle.path.specs.declared.step.Effect.the-variants.{Done, Refused}
-use Rattle.path.specs.Judged.{completeStep}
+use Rattle.stepping.specs.declared.step.Effect.{Effect}
+use Rattle.stepping.specs.declared.step.Effect.the-variants.{Done, Refused}
+use Rattle.stepping.specs.Judged.{completeStep}
 use Rattle.edge_trial.specs.declared.trial.Trial.{Trial}
 use Rattle.edge_trial.specs.declared.trial.Trial.the-variants.{Cut, Overlong, Rejected, TooLong, Extended}
 pub mod Laws

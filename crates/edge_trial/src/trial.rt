@@ -7,14 +7,14 @@ ghost use lib.ListN.{length};
 ghost use Rattle.semantics.specs.Lists.{has};
 ghost use Rattle.semantics.specs.Limits.{within};
 ghost use Rattle.storage.specs.Rows.{nodeRow, edgeRow};
-ghost use Rattle.path.specs.Judged.{Ready, judgedOf};
+ghost use Rattle.stepping.specs.Judged.{Ready, judgedOf};
 ghost use Rattle.edge_trial.specs.Trials.{triedBy, trialBy};
 use graph_search::path_budget::Budget;
-use path::step;
-use path::step::Effect;
-use path::steps;
 use search_state::item;
 use semantics::bounds::MAX_EDGES;
+use stepping::step;
+use stepping::step::Effect;
+use stepping::steps;
 
 pub enum Trial {
     Cut,

@@ -1,9 +1,9 @@
 // Where a partial path of a file may start and end. Document 01, "Partial paths": "Starts", "Endpoints", "An edge belongs to a file if either end does".
 ghost use mathlib.Core.Path.{_≡_};
 ghost use Rattle.semantics.specs.Graph.{fileOf, isFile, isStart, isEndpoint};
-use path::node::is_exported;
-use path::node::is_reference;
 use semantics::graph::Node;
+use stepping::node::is_exported;
+use stepping::node::is_reference;
 
 // A live node of the file. Root and jump have none.
 pub fn is_of_file(node: Node, file: u32) -> bool

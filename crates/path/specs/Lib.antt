@@ -1,6 +1,3 @@
-pub mod Steps
-pub mod StepWords
-pub mod Judged
 pub mod Shadows
 pub mod Values
 pub mod Replays

@@ -10,8 +10,8 @@ use Rattle.semantics.specs.declared.answer.Judgement.{Judgement}
 use Rattle.semantics.specs.declared.answer.Judgement.the-variants as Judgement
 use Rattle.semantics.specs.Answer.{Answer, ok, refuse}
 use Rattle.semantics.specs.Path as Rules
-use Rattle.path.specs.declared.step.Effect.{Effect}
-use Rattle.path.specs.declared.step.Effect.the-variants.{Done, Refused}
+use Rattle.stepping.specs.declared.step.Effect.{Effect}
+use Rattle.stepping.specs.declared.step.Effect.the-variants.{Done, Refused}
 use Rattle.path.specs.declared.replay.ReplayOutcome as R
 use Rattle.path.specs.Values.{emptyPath, Shows}
 pub mod Laws

@@ -11,14 +11,14 @@ use Rattle.semantics.specs.declared.graph.Edge.the-variants as E
 use Rattle.semantics.specs.Lists.{consIf}
 use Rattle.semantics.specs.Path as Rules
 use Rattle.semantics.specs.Calls.{Passage, edge, jump, passages, ReplayedPath}
-use Rattle.path.specs.declared.step.Step.{Step}
-use Rattle.path.specs.declared.step.Effect.{Effect}
-use Rattle.path.specs.declared.step.Effect.the-variants.{Done, Refused}
+use Rattle.stepping.specs.declared.step.Step.{Step}
+use Rattle.stepping.specs.declared.step.Effect.{Effect}
+use Rattle.stepping.specs.declared.step.Effect.the-variants.{Done, Refused}
 use Rattle.path.specs.declared.path.Path.{Path}
 use Rattle.path.specs.declared.path.Grown.{Grown}
-use Rattle.path.specs.Steps.{symbolsOf, scopesOf}
-use Rattle.path.specs.StepWords.{stepAt, withStep}
-use Rattle.path.specs.Judged.{Ready, Stepped}
+use Rattle.stepping.specs.Steps.{symbolsOf, scopesOf}
+use Rattle.stepping.specs.StepWords.{stepAt, withStep}
+use Rattle.stepping.specs.Judged.{Ready, Stepped}
 pub mod Laws
 
 abbrev pub emptyPath : Path

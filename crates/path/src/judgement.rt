@@ -13,12 +13,12 @@ ghost use Rattle.path.specs.Shadows.Laws.{JumpAt};
 ghost use Rattle.path.specs.Replays.{judgedAs};
 use crate::replay::replay_loaded;
 use crate::shadows;
-use crate::step;
-use crate::steps::get_step;
 use semantics::answer::Checked;
 use semantics::answer::Judgement;
 use semantics::answer::Replayed;
 use semantics::graph::NodeId;
+use stepping::step;
+use stepping::steps::get_step;
 use storage::check;
 use storage::rows;
 

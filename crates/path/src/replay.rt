@@ -16,12 +16,12 @@ use crate::path::Path;
 use crate::path::append;
 use crate::path::empty;
 use crate::path::from_reference;
-use crate::step::Effect;
 use semantics::answer::Checked;
 use semantics::answer::Replayed;
 use semantics::bounds::MAX_EDGES;
 use semantics::graph::NodeId;
 use semantics::refusal::ReplayRefusal;
+use stepping::step::Effect;
 use storage::check;
 use storage::rows;
 

@@ -8,7 +8,6 @@ ghost use Rattle.printing.specs.Areas.{areaWords};
 mod report;
 
 use libc::STDIN_FILENO;
-use path::node::is_reference;
 use printing::paths::AREA_WORDS;
 use search::direct;
 use semantics::answer::Checked;
@@ -17,6 +16,7 @@ use semantics::graph::NodeId;
 use semantics::search::Limit;
 use semantics::search::SearchLimits;
 use semantics::search::SearchOrder;
+use stepping::node::is_reference;
 use storage::check;
 use storage::rows;
 use storage::store;

@@ -12,9 +12,10 @@ use Rattle.semantics.specs.Path.{Path, fromReference}
 use Rattle.semantics.specs.Enumeration.{State, Try, each, run, merge}
 use Rattle.words.specs.Slots.{IsSlot}
 use Rattle.storage.specs.Rows.{Loaded}
-use Rattle.path.specs.Judged.{Stepped}
+use Rattle.stepping.specs.Judged.{Stepped}
 use Rattle.search_state.specs.declared.search.Search as S
 use Rattle.search_state.specs.declared.search.Going.{Going}
+use Rattle.search_state.specs.Retraces.{Laid}
 use Rattle.search_state.specs.Reps.{slotOf, Counts, Frame, frameOf, settingOf, Replayed, Rep, Tells}
 use Rattle.rounds.specs.declared.driven.Driven.{Driven}
 use Rattle.rounds.specs.declared.driven.Driven.the-variants.{Over, Refused}
@@ -24,14 +25,15 @@ pub mod Laws
 abbrev pub Tries : Type 0
 Tries = Limit → View → Path → List (Try SearchRefusal Path)
 
--- A ROUND: the path in the item was popped, step 0 stands in the steps; at most `most` were looked at
-pub record Rounding (most : ℕ) (index steps item : List ℕ) (s : S.Search) (ws rs : List ℕ) : Type 0 where
+-- A ROUND: the path in the item was popped, steps 0 to n stand in the steps; at most `most` were looked at
+pub record Rounding (most : ℕ) (index steps item : List ℕ) (n : ℕ) (s : S.Search) (ws rs : List ℕ) : Type 0 where
   pub graph : Graph
   pub loaded : Loaded graph index
   pub reference : ℕ
   pub first : Path
   pub starts : fromReference (viewOf graph) reference ≡ ok first
   pub begun : Stepped steps 0 first
+  pub laid : Laid (viewOf graph) first steps n
   pub long : 1024 ≤ length steps
   pub path : Path
   pub words : item ≡ slotOf path
@@ -40,9 +42,10 @@ pub record Rounding (most : ℕ) (index steps item : List ℕ) (s : S.Search) (w
   pub rep : Rep (viewOf graph) reference s ws rs model
   pub small : model .tally .looked ≤ most
 
-pub record Rounded (tries : Tries) (most : ℕ) (index steps item : List ℕ) (s : S.Search) (ws rs : List ℕ) (v : Rounding most index steps item s ws rs) (a : Going) (steps′ ws′ rs′ : List ℕ) : Type 0 where
+pub record Rounded (tries : Tries) (most : ℕ) (index steps item : List ℕ) (n : ℕ) (s : S.Search) (ws rs : List ℕ) (v : Rounding most index steps item n s ws rs) (a : Going) (steps′ ws′ rs′ : List ℕ) : Type 0 where
   pub tells : Tells (viewOf (v .graph)) (v .reference) (frameOf s) a ws′ rs′ (each (settingOf (frameOf s)) (v .model) (tries (frameOf s .limits .length) (viewOf (v .graph)) (v .path)))
   pub begun : Stepped steps′ 0 (v .first)
+  pub laid : Laid (viewOf (v .graph)) (v .first) steps′ (length (v .path .edges))
 
 -- THE WHOLE SEARCH, from a state of the enumeration on
 pub record Driving (index steps item : List ℕ) (s : S.Search) (ws rs : List ℕ) : Type 0 where

@@ -24,12 +24,12 @@ use Rattle.semantics.specs.Words.{zeros, encode}
 use Rattle.semantics.specs.Words.Laws.{area-none, whole-fits}
 use Rattle.semantics.specs.Calls.{settingOf}
 use Rattle.storage.specs.Rows.{nodeRow, Loaded}
-use Rattle.path.specs.declared.step.Step.{Step}
-use Rattle.path.specs.declared.step.Effect.{Effect}
-use Rattle.path.specs.declared.step.Effect.the-variants as Effect
-use Rattle.path.specs.StepWords.{withStep}
-use Rattle.path.specs.Judged.{Stepped, begunOf}
-use Rattle.path.specs.Judged.Laws.{Begun, begun-done, begun-refused}
+use Rattle.stepping.specs.declared.step.Step.{Step}
+use Rattle.stepping.specs.declared.step.Effect.{Effect}
+use Rattle.stepping.specs.declared.step.Effect.the-variants as Effect
+use Rattle.stepping.specs.StepWords.{withStep}
+use Rattle.stepping.specs.Judged.{Stepped, begunOf}
+use Rattle.stepping.specs.Judged.Laws.{Begun, begun-done, begun-refused}
 use Rattle.path.specs.Replays.Laws.{nodes-are}
 use Rattle.path.specs.Values.Laws.{empty-room}
 use Rattle.graph_search.specs.declared.path_frontier.Frontier.{Frontier}

@@ -17,9 +17,6 @@ ghost use Rattle.search.specs.Requests.{edgeTries, directOf, foundOf};
 use edge_trial::trial;
 use edge_trial::trial::Trial;
 use graph_search::path_frontier::Frontier;
-use path::step;
-use path::step::Effect;
-use path::steps;
 use recorded::reply::Reply;
 use rounds::driven::Driven;
 use rounds::driven::conclude;
@@ -38,6 +35,9 @@ use semantics::graph::NodeId;
 use semantics::refusal::SearchRefusal;
 use semantics::search::SearchLimits;
 use semantics::search::SearchOrder;
+use stepping::step;
+use stepping::step::Effect;
+use stepping::steps;
 use storage::check;
 use storage::rows;
 use storage::store;
@@ -98,20 +98,21 @@ fn expand(
     Going::On(on)
 }
 
-// The popped path's steps are laid out again, and the path is expanded.
+// The popped path's steps are laid out, where steps up to `laid` stand there for the path before, and the path is expanded.
 fn round(
     index: &[u32],
     steps: &mut [u32],
     item: &mut [u32],
+    laid: usize,
     search: Search,
     work: &mut [u32],
     result: &mut [u32],
 ) -> Going
-    requires { ⌜ Rounding 549755813888 (now index) (now steps) (now item) search (now work) (now result) ⌝ }
-    ensures { λ r. ⌜ ((v : Rounding 549755813888 (now (index .entry)) (now (steps .entry)) (now (item .entry)) search (now (work .entry)) (now (result .entry))) → Rounded edgeTries 549755813888 (now (index .entry)) (now (steps .entry)) (now (item .entry)) search (now (work .entry)) (now (result .entry)) v r (now (steps .exit)) (now (work .exit)) (now (result .exit))) ⌝ }
+    requires { ⌜ Rounding 549755813888 (now index) (now steps) (now item) laid search (now work) (now result) ⌝ }
+    ensures { λ r. ⌜ ((v : Rounding 549755813888 (now (index .entry)) (now (steps .entry)) (now (item .entry)) laid search (now (work .entry)) (now (result .entry))) → Rounded edgeTries 549755813888 (now (index .entry)) (now (steps .entry)) (now (item .entry)) laid search (now (work .entry)) (now (result .entry)) v r (now (steps .exit)) (now (work .exit)) (now (result .exit))) ⌝ }
 {
     let k = item[0] as usize;
-    retrace(index, steps, &item[1..k + 1]);
+    retrace(index, steps, &item[1..k + 1], laid);
     expand(index, steps, item, k, search, work, result)
 }
 
@@ -128,14 +129,17 @@ fn drive(
     ensures { λ r. ⌜ ((v : Driving (now (index .entry)) (now (steps .entry)) (now (item .entry)) search (now (work .entry)) (now (result .entry))) → DrivenTo edgeTries (now (index .entry)) (now (steps .entry)) (now (item .entry)) search (now (work .entry)) (now (result .entry)) v r (now (result .exit))) ⌝ }
 {
     let mut on = search;
+    let mut laid: usize = 0;
     loop {
         match on.take(work, item) {
             Taken::Over(state) => return Driven::Over(state),
             Taken::TooMany => return Driven::Refused(SearchRefusal::TooManyExpansions),
             Taken::Expand(next) => {
-                match round(index, steps, item, next, work, result) {
+                let k = item[0] as usize;
+                match round(index, steps, item, laid, next, work, result) {
                     Going::On(s) => {
                         on = s;
+                        laid = k;
                     }
                     Going::Refused(r) => return Driven::Refused(r),
                 }

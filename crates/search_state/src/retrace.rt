@@ -1,19 +1,40 @@
 // The steps of a path that was popped. A waiting slot holds edges alone, so they are appended again behind the reference.
 // Document 01, "Answer": "Waiting paths are held likewise". None of them is refused, as each was appended before: the branch of a
 // refusal is proved never to be taken.
-ghost use Rattle.search_state.specs.Retraces.{Retraces, Retraced};
-use path::step::Effect;
-use path::steps;
+ghost use Prim.Native.Nat.{_+_, _*_, _≤_};
+ghost use lib.ListN.{length};
+ghost use Rattle.search_state.specs.Retraces.{Retraces, Retraced, Shared};
 use semantics::bounds::SLOT_WORDS;
+use stepping::step::Effect;
+use stepping::steps;
 
 // The steps of a path of 127 edges, 8 words for each, step 0 being the reference.
 pub const STEP_WORDS: usize = 8 * SLOT_WORDS;
 
-pub fn retrace(index: &[u32], steps: &mut [u32], edges: &[u32])
-    requires { ⌜ Retraces (now index) (now steps) (now edges) ⌝ }
-    ensures { λ _. ⌜ ((t : Retraces (now (index .entry)) (now (steps .entry)) (now (edges .entry))) → Retraced (now (index .entry)) (now (steps .entry)) (now (edges .entry)) t (now (steps .exit))) ⌝ }
+// How many of the first edges stand in the steps already, which are laid out up to step n.
+fn shared(steps: &[u32], edges: &[u32], n: usize) -> usize
+    requires { ⌜ (length (now edges) ≤ 127) × (8 * length (now edges) + 8 ≤ length (now steps)) ⌝ }
+    ensures { λ r. ⌜ Shared (now (steps .entry)) (now (edges .entry)) n r ⌝ }
 {
     let mut i: usize = 0;
+    while i < edges.len() {
+        if n <= i {
+            return i;
+        }
+        if steps::get_step(steps, i + 1).edge != edges[i] {
+            return i;
+        }
+        i += 1;
+    }
+    i
+}
+
+// The steps of these edges. Those that the path before has in common with it, of which steps 0 to n stand there, are not laid out again.
+pub fn retrace(index: &[u32], steps: &mut [u32], edges: &[u32], n: usize)
+    requires { ⌜ Retraces (now index) (now steps) (now edges) n ⌝ }
+    ensures { λ _. ⌜ ((t : Retraces (now (index .entry)) (now (steps .entry)) (now (edges .entry)) n) → Retraced (now (index .entry)) (now (steps .entry)) (now (edges .entry)) n t (now (steps .exit))) ⌝ }
+{
+    let mut i = shared(steps, edges, n);
     while i < edges.len() {
         let effect = steps::append(index, steps, i as u32, edges[i]);
         let Effect::Done(_) = effect else {

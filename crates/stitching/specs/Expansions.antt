@@ -12,7 +12,7 @@ use Rattle.semantics.specs.Path.{Path}
 use Rattle.semantics.specs.Enumeration.{State, one, each}
 use Rattle.semantics.specs.Stitching.{judgeSlot}
 use Rattle.storage.specs.Rows.{Loaded}
-use Rattle.path.specs.Judged.{Stepped}
+use Rattle.stepping.specs.Judged.{Stepped}
 use Rattle.search_state.specs.declared.search.Search as S
 use Rattle.search_state.specs.declared.search.Going.{Going}
 use Rattle.search_state.specs.Reps.{frameOf, settingOf, Replayed, Rep, Tells}

@@ -22,9 +22,6 @@ use database::check;
 use database::check::Inspected;
 use database::layout;
 use graph_search::path_frontier::Frontier;
-use path::step;
-use path::step::Effect;
-use path::steps;
 use recorded::reply::Reply;
 use rounds::driven::Driven;
 use rounds::driven::conclude;
@@ -41,6 +38,9 @@ use semantics::graph::NodeId;
 use semantics::refusal::SearchRefusal;
 use semantics::search::SearchLimits;
 use semantics::search::SearchOrder;
+use stepping::step;
+use stepping::step::Effect;
+use stepping::steps;
 use stitching_trial::grown;
 use stitching_trial::links;
 use stitching_trial::trial;
@@ -107,22 +107,23 @@ fn expand(
     Going::On(on)
 }
 
-// The popped path's steps are laid out again, and the path is expanded.
+// The popped path's steps are laid out, where steps up to `laid` stand there for the path before, and the path is expanded.
 fn round(
     index: &[u32],
     words: &[u32],
     links: &[u32],
     steps: &mut [u32],
     item: &mut [u32],
+    laid: usize,
     search: Search,
     work: &mut [u32],
     result: &mut [u32],
 ) -> Going
-    requires { ⌜ Linked (now words) (now links) × Rounding 549755813888 (now index) (now steps) (now item) search (now work) (now result) ⌝ }
-    ensures { λ r. ⌜ ((v : Rounding 549755813888 (now (index .entry)) (now (steps .entry)) (now (item .entry)) search (now (work .entry)) (now (result .entry))) → Rounded (triesIn (now (words .entry))) 549755813888 (now (index .entry)) (now (steps .entry)) (now (item .entry)) search (now (work .entry)) (now (result .entry)) v r (now (steps .exit)) (now (work .exit)) (now (result .exit))) ⌝ }
+    requires { ⌜ Linked (now words) (now links) × Rounding 549755813888 (now index) (now steps) (now item) laid search (now work) (now result) ⌝ }
+    ensures { λ r. ⌜ ((v : Rounding 549755813888 (now (index .entry)) (now (steps .entry)) (now (item .entry)) laid search (now (work .entry)) (now (result .entry))) → Rounded (triesIn (now (words .entry))) 549755813888 (now (index .entry)) (now (steps .entry)) (now (item .entry)) laid search (now (work .entry)) (now (result .entry)) v r (now (steps .exit)) (now (work .exit)) (now (result .exit))) ⌝ }
 {
     let k = item[0] as usize;
-    retrace(index, steps, &item[1..k + 1]);
+    retrace(index, steps, &item[1..k + 1], laid);
     expand(index, words, links, steps, item, k, search, work, result)
 }
 
@@ -141,14 +142,17 @@ fn drive(
     ensures { λ r. ⌜ ((v : Driving (now (index .entry)) (now (steps .entry)) (now (item .entry)) search (now (work .entry)) (now (result .entry))) → DrivenTo (triesIn (now (words .entry))) (now (index .entry)) (now (steps .entry)) (now (item .entry)) search (now (work .entry)) (now (result .entry)) v r (now (result .exit))) ⌝ }
 {
     let mut on = search;
+    let mut laid: usize = 0;
     loop {
         match on.take(work, item) {
             Taken::Over(state) => return Driven::Over(state),
             Taken::TooMany => return Driven::Refused(SearchRefusal::TooManyExpansions),
             Taken::Expand(next) => {
-                match round(index, words, links, steps, item, next, work, result) {
+                let k = item[0] as usize;
+                match round(index, words, links, steps, item, laid, next, work, result) {
                     Going::On(s) => {
                         on = s;
+                        laid = k;
                     }
                     Going::Refused(r) => return Driven::Refused(r),
                 }

@@ -17,10 +17,10 @@ use Rattle.semantics.specs.Path.{Path, appendAll}
 use Rattle.semantics.specs.Enumeration.{cut, overlong, reject, stop, go}
 use Rattle.semantics.specs.Stitching.{judgeSlot}
 use Rattle.storage.specs.Rows.{Loaded}
-use Rattle.path.specs.declared.step.Effect.{Effect}
-use Rattle.path.specs.declared.step.Effect.the-variants as Effect
-use Rattle.path.specs.StepWords.{stepAt}
-use Rattle.path.specs.Judged.{Stepped}
+use Rattle.stepping.specs.declared.step.Effect.{Effect}
+use Rattle.stepping.specs.declared.step.Effect.the-variants as Effect
+use Rattle.stepping.specs.StepWords.{stepAt}
+use Rattle.stepping.specs.Judged.{Stepped}
 use Rattle.stitching_trial.specs.declared.trial.Trial.{Trial}
 use Rattle.stitching_trial.specs.declared.trial.Trial.the-variants.{Cut, Overlong, Rejected, Refused, Extended}
 pub mod Laws

@@ -4,13 +4,13 @@ ghost use mathlib.Core.Path.{_≡_};
 ghost use Rattle.semantics.specs.Lists.{shares};
 ghost use Rattle.stitching_trial.specs.Trials.{Appends, AppendsTo, endedBy, Judging, JudgedAs};
 use graph_search::path_budget::Budget;
-use path::step;
-use path::step::Effect;
-use path::steps;
 use search_state::item;
 use semantics::bounds::MAX_EDGES;
 use semantics::refusal::PathRefusal;
 use semantics::refusal::SearchRefusal;
+use stepping::step;
+use stepping::step::Effect;
+use stepping::steps;
 
 pub enum Trial {
     Cut,

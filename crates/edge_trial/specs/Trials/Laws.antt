@@ -18,13 +18,13 @@ use Rattle.semantics.specs.Path.Laws.{append-ok}
 use Rattle.semantics.specs.Enumeration.{cut, overlong, reject, stop, go}
 use Rattle.semantics.specs.Direct.{extended, ifRoom, ifShort, unlessCycle, judge}
 use Rattle.storage.specs.Rows.{nodeRow, edgeRow, Loaded}
-use Rattle.path.specs.declared.step.Step.{Step}
-use Rattle.path.specs.declared.step.Effect.{Effect}
-use Rattle.path.specs.declared.step.Effect.the-variants.{Done, Refused}
-use Rattle.path.specs.StepWords.{withStep}
-use Rattle.path.specs.StepWords.Laws.{step-same}
-use Rattle.path.specs.Judged.{Stepped, judgedOf, completeStep}
-use Rattle.path.specs.Judged.Laws.{complete-is}
+use Rattle.stepping.specs.declared.step.Step.{Step}
+use Rattle.stepping.specs.declared.step.Effect.{Effect}
+use Rattle.stepping.specs.declared.step.Effect.the-variants.{Done, Refused}
+use Rattle.stepping.specs.StepWords.{withStep}
+use Rattle.stepping.specs.StepWords.Laws.{step-same}
+use Rattle.stepping.specs.Judged.{Stepped, judgedOf, completeStep}
+use Rattle.stepping.specs.Judged.Laws.{complete-is}
 use Rattle.path.specs.Replays.Laws.{nodes-are}
 use Rattle.graph_search.specs.declared.path_budget.Budget.{Budget}
 use Rattle.graph_search.specs.declared.path_budget.Admitted.{Admitted}

@@ -36,13 +36,13 @@ use Rattle.semantics.specs.Words.Laws.{area-none, whole-fits}
 use Rattle.semantics.specs.Recorded.{edgeLists}
 use Rattle.semantics.specs.Calls.{LinearRequest, linearly, linearCall}
 use Rattle.storage.specs.Rows.{nodeRow, Loaded}
-use Rattle.path.specs.declared.step.Step.{Step}
-use Rattle.path.specs.declared.step.Effect.{Effect}
-use Rattle.path.specs.declared.step.Effect.the-variants.{Done, Refused}
+use Rattle.stepping.specs.declared.step.Step.{Step}
+use Rattle.stepping.specs.declared.step.Effect.{Effect}
+use Rattle.stepping.specs.declared.step.Effect.the-variants.{Done, Refused}
 use Rattle.path.specs.Shadows.Laws.{JumpAt}
-use Rattle.path.specs.StepWords.{withStep}
-use Rattle.path.specs.Judged.{Stepped, begunOf}
-use Rattle.path.specs.Judged.Laws.{Begun, begun-done, begun-refused}
+use Rattle.stepping.specs.StepWords.{withStep}
+use Rattle.stepping.specs.Judged.{Stepped, begunOf}
+use Rattle.stepping.specs.Judged.Laws.{Begun, begun-done, begun-refused}
 use Rattle.path.specs.Replays.Laws.{nodes-are}
 use Rattle.path.specs.Values.Laws.{empty-room}
 use Rattle.search_state.specs.declared.state.SearchState.{SearchState}

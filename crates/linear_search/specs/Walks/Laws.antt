@@ -23,7 +23,7 @@ use Rattle.semantics.specs.Enumeration.Statistics.{one-moved}
 use Rattle.semantics.specs.Linear.{first, later}
 use Rattle.semantics.specs.Words.{encode}
 use Rattle.storage.specs.Rows.{nodeRow, edgeRow}
-use Rattle.path.specs.Judged.{Ready, Stepped, judgedOf}
+use Rattle.stepping.specs.Judged.{Ready, Stepped, judgedOf}
 use Rattle.path.specs.Replays.Calls.{from-a-reference, few-edges}
 use Rattle.graph_search.specs.Budget.Laws.{lengthening-limits, lengthening-refused}
 use Rattle.search_state.specs.declared.state.SearchState.{SearchState}

@@ -22,11 +22,11 @@ use Rattle.semantics.specs.Path.Laws.{append-ok, appendUnder-is, replay-of, rep
 use Rattle.semantics.specs.Enumeration.{State, Try, expand, each, turn, popped, admit, run, merge, addExpanded, flagCount}
 use Rattle.semantics.specs.Linear.{onlyTries}
 use Rattle.storage.specs.Rows.{nodeRow, edgeRow}
-use Rattle.path.specs.declared.step.Step.{Step}
-use Rattle.path.specs.declared.step.Effect.{Effect}
-use Rattle.path.specs.declared.step.Effect.the-variants.{Done, Refused}
-use Rattle.path.specs.StepWords.{stepAt, withStep}
-use Rattle.path.specs.Judged.{Ready, Stepped, judgedOf, wordsAfter}
+use Rattle.stepping.specs.declared.step.Step.{Step}
+use Rattle.stepping.specs.declared.step.Effect.{Effect}
+use Rattle.stepping.specs.declared.step.Effect.the-variants.{Done, Refused}
+use Rattle.stepping.specs.StepWords.{stepAt, withStep}
+use Rattle.stepping.specs.Judged.{Ready, Stepped, judgedOf, wordsAfter}
 use Rattle.path.specs.Replays.Calls.{few-edges}
 use Rattle.graph_search.specs.declared.path_budget.Admitted.{Admitted}
 use Rattle.graph_search.specs.Budget.{expansion}

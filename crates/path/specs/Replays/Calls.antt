@@ -28,9 +28,9 @@ use Rattle.semantics.specs.Calls.{replayedAs, completed, shadowedBy, leftFirst,
 use Rattle.storage.specs.Rows.{nodeRow, edgeRow, Loaded}
 use Rattle.path.specs.declared.path.Path.{Path}
 use Rattle.path.specs.declared.replay.ReplayOutcome as R
-use Rattle.path.specs.StepWords.{stepAt}
-use Rattle.path.specs.Judged.{completeStep}
-use Rattle.path.specs.Judged.Laws.{complete-is}
+use Rattle.stepping.specs.StepWords.{stepAt}
+use Rattle.stepping.specs.Judged.{completeStep}
+use Rattle.stepping.specs.Judged.Laws.{complete-is}
 use Rattle.path.specs.Shadows.{shadowsEdges}
 use Rattle.path.specs.Shadows.Laws.{JumpAt, shadows-edges}
 use Rattle.path.specs.Values.{emptyPath, readPath}

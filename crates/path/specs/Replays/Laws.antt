@@ -21,16 +21,16 @@ use Rattle.semantics.specs.Path as Rules
 use Rattle.semantics.specs.Path.{appendIf, appendUnder, appendAll, replay}
 use Rattle.semantics.specs.Path.Laws.{appendUnder-is}
 use Rattle.storage.specs.Rows.{nodeRow, edgeRow, Loaded}
-use Rattle.path.specs.declared.step.Step.{Step}
-use Rattle.path.specs.declared.step.Effect.{Effect}
-use Rattle.path.specs.declared.step.Effect.the-variants.{Done, Refused}
+use Rattle.stepping.specs.declared.step.Step.{Step}
+use Rattle.stepping.specs.declared.step.Effect.{Effect}
+use Rattle.stepping.specs.declared.step.Effect.the-variants.{Done, Refused}
 use Rattle.path.specs.declared.path.Path.{Path}
 use Rattle.path.specs.declared.path.Grown as G
 use Rattle.path.specs.declared.replay.ReplayOutcome as R
-use Rattle.path.specs.Steps.{Low}
-use Rattle.path.specs.StepWords.{stepAt}
-use Rattle.path.specs.Judged.{begunOf, judgedOf}
-use Rattle.path.specs.Judged.Laws.{begun-low, judged-low, begun-done, begun-refused, judged-done, judged-refused, written-low}
+use Rattle.stepping.specs.Steps.{Low}
+use Rattle.stepping.specs.StepWords.{stepAt}
+use Rattle.stepping.specs.Judged.{begunOf, judgedOf}
+use Rattle.stepping.specs.Judged.Laws.{begun-low, judged-low, begun-done, begun-refused, judged-done, judged-refused, written-low}
 use Rattle.path.specs.Shadows.Laws.{JumpAt}
 use Rattle.path.specs.Values.{emptyPath, isJumpEdge, startedBy, longerPath, appendedBy, Sized, Growing, Shows}
 use Rattle.path.specs.Values.Laws.{empty-room, start-sized, more-sized, shows-start, more-room, shows-more}

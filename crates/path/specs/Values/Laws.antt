@@ -10,9 +10,9 @@ use lib.ListN.{length, getD, set, take, replicate, length-set, length-replicate}
 use lib.Seq.{getD-set-same, getD-set-other, take-suc-set}
 use borrow.Author.Tests.{eq-eqb, ne-eqb}
 use Rattle.semantics.specs.declared.refusal.PathRefusal.{PathRefusal}
-use Rattle.path.specs.declared.step.Step.{Step}
-use Rattle.path.specs.declared.step.Effect.{Effect}
-use Rattle.path.specs.declared.step.Effect.the-variants.{Done, Refused}
+use Rattle.stepping.specs.declared.step.Step.{Step}
+use Rattle.stepping.specs.declared.step.Effect.{Effect}
+use Rattle.stepping.specs.declared.step.Effect.the-variants.{Done, Refused}
 use Rattle.path.specs.declared.path.Path.{Path}
 use Rattle.path.specs.declared.path.Grown as G
 use Rattle.semantics.specs.Lists.{consIf}
@@ -22,11 +22,11 @@ use Rattle.semantics.specs.Path as Rules
 use Rattle.semantics.specs.Path.{along, jumped, append}
 use Rattle.semantics.specs.Path.Laws.{Appended, append-ok}
 use Rattle.semantics.specs.Calls.{Passage, edge, jump, passages, noPath}
-use Rattle.path.specs.Steps.{scopesFrom, symbolsFrom}
-use Rattle.path.specs.StepWords.{stepAt, withStep}
-use Rattle.path.specs.StepWords.Laws.{step-same, step-other}
-use Rattle.path.specs.Judged.{begunOf}
-use Rattle.path.specs.Judged.Laws.{Begun, Grown}
+use Rattle.stepping.specs.Steps.{scopesFrom, symbolsFrom}
+use Rattle.stepping.specs.StepWords.{stepAt, withStep}
+use Rattle.stepping.specs.StepWords.Laws.{step-same, step-other}
+use Rattle.stepping.specs.Judged.{begunOf}
+use Rattle.stepping.specs.Judged.Laws.{Begun, Grown}
 use Rattle.path.specs.Shadows.Laws.{JumpAt, Went, plainly, jumping, went}
 use Rattle.path.specs.Values.{emptyPath, isJumpEdge, startedBy, longerPath, appendedBy, Sized, passagesTo, readPath, Shows}
 

@@ -16,7 +16,7 @@ use Rattle.semantics.specs.Enumeration.Statistics.{one-moved}
 use Rattle.semantics.specs.Direct.{judge, tries}
 use Rattle.storage.specs.Rows.{firstRow, nextRow, Runs}
 use Rattle.storage.specs.Rows.Use.{runs-end, runs-next, left, left-less, out-bounded}
-use Rattle.path.specs.StepWords.{stepAt}
+use Rattle.stepping.specs.StepWords.{stepAt}
 use Rattle.search_state.specs.declared.search.Search as S
 use Rattle.search_state.specs.declared.search.Going.{Going}
 use Rattle.search_state.specs.declared.search.Going.the-variants.{On, Refused}

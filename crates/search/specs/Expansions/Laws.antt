@@ -20,7 +20,7 @@ use Rattle.semantics.specs.Path.Laws.{append-ok, appendUnder-is, replay-snoc}
 use Rattle.semantics.specs.Enumeration.{State, one, judged, withStats, withTally, addLooked, addOverlong, addCycle, addRejected, flagLength}
 use Rattle.storage.specs.Rows.{nodeRow, edgeRow}
 use Rattle.semantics.specs.Words.{encode}
-use Rattle.path.specs.Judged.{Ready, Stepped, judgedOf}
+use Rattle.stepping.specs.Judged.{Ready, Stepped, judgedOf}
 use Rattle.path.specs.Replays.Calls.{from-a-reference, few-edges}
 use Rattle.graph_search.specs.Budget.Laws.{lengthening-limits, lengthening-refused}
 use Rattle.search_state.specs.declared.search.Search as S

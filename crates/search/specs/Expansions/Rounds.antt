@@ -32,8 +32,8 @@ tries-few g index loaded lim p =
     let h = out-bounded g index loaded (p .end) in
     omega (arith, n, h)
 
-module _ (most : ℕ) (index steps item : List ℕ) (s : S.Search) (ws rs : List ℕ) (v : Rounding most index steps item s ws rs) (k : ℕ) (at : k ≡ getD item 0 0) (steps′ : List ℕ)
-    (long : length steps′ ≡ length steps) (t : (x : Retraces index steps (take (k + 1 - 1) (drop 1 item))) → Retraced index steps (take (k + 1 - 1) (drop 1 item)) x steps′) where
+module _ (most : ℕ) (index steps item : List ℕ) (n : ℕ) (s : S.Search) (ws rs : List ℕ) (v : Rounding most index steps item n s ws rs) (k : ℕ) (at : k ≡ getD item 0 0) (steps′ : List ℕ)
+    (long : length steps′ ≡ length steps) (t : (x : Retraces index steps (take (k + 1 - 1) (drop 1 item)) n) → Retraced index steps (take (k + 1 - 1) (drop 1 item)) n x steps′) where
   carried : Carries 128 item (v .path .edges)
   carried = subst (λ (l : List ℕ). Carries 128 l (v .path .edges)) (sym (v .words)) (carries-slot 127 (v .path .edges) (few-edges (viewOf (v .graph)) (v .reference) (v .path .edges) (v .path) (v .good)))
 
@@ -43,8 +43,8 @@ module _ (most : ℕ) (index steps item : List ℕ) (s : S.Search) (ws rs : List
     loaded = v .loaded;
     reference = v .reference;
     path = v .path;
-    count = round-count most index steps item s ws rs v k at;
-    stepped = round-traced most index steps item s ws rs v k at steps′ t .0;
+    count = round-count most index steps item n s ws rs v k at;
+    stepped = round-traced most index steps item n s ws rs v k at steps′ t .0;
     long = omega (arith, long, v .long);
     carries = carried;
     good = v .good;
@@ -53,6 +53,6 @@ module _ (most : ℕ) (index steps item : List ℕ) (s : S.Search) (ws rs : List
     small = v .small;
   }
 
-  pub rounded : (a : Going) (ws′ rs′ : List ℕ) → Expanded most index steps′ item k s ws rs round-given a ws′ rs′ → Rounded edgeTries most index steps item s ws rs v a steps′ ws′ rs′
+  pub rounded : (a : Going) (ws′ rs′ : List ℕ) → Expanded most index steps′ item k s ws rs round-given a ws′ rs′ → Rounded edgeTries most index steps item n s ws rs v a steps′ ws′ rs′
   unfolding round-given
-  rounded a ws′ rs′ x = record { tells = x; begun = round-traced most index steps item s ws rs v k at steps′ t .1 }
+  rounded a ws′ rs′ x = record { tells = x; begun = round-traced most index steps item n s ws rs v k at steps′ t .1; laid = round-traced most index steps item n s ws rs v k at steps′ t .2 }

@@ -3,31 +3,34 @@
 use Prim.Native.Nat.{ℕ, suc, _+_, _*_, _<_, _≤_}
 use native.Mathlib.Omega.{arith}
 use native.Mathlib.Numerals.{add-one}
-use mathlib.Core.Path.{_≡_, sym, ap, subst, _∙_}
-use mathlib.Core.List.{List}
-use lib.ListN.{length, drop, getD, drop-of-length-le}
-use lib.Seq.{drop-cons}
+use mathlib.Core.Path.{_≡_, refl, sym, ap, subst, _∙_}
+use mathlib.Core.Bool.{Bool, true, false}
+use mathlib.Core.List.{List, [], _∷_, _++_}
+use borrow.Author.Tests.{ltb-true, ltb-false}
+use lib.Dec.{ltb}
+use lib.ListN.{length, take, drop, getD, take-append-drop, drop-of-length-le}
+use lib.Seq.{length-take-le, getD-take, drop-cons}
 use Rattle.semantics.specs.declared.graph.Node.{Node}
 use Rattle.semantics.specs.declared.graph.Edge.{Edge}
 use Rattle.semantics.specs.declared.refusal.PathRefusal.{PathRefusal}
 use Rattle.semantics.specs.Limits.{base}
 use Rattle.semantics.specs.Answer.{ok, refuse}
 use Rattle.semantics.specs.Answer.Laws.{ok-inj, ok-refuse, andThen-ok}
-use Rattle.semantics.specs.Graph.{Graph, viewOf}
+use Rattle.semantics.specs.Graph.{Graph, View, viewOf}
 use Rattle.semantics.specs.Path.{Path, append, appendAll, appendUnder}
-use Rattle.semantics.specs.Path.Laws.{appendUnder-ok}
+use Rattle.semantics.specs.Path.Laws.{appendUnder-ok, appendAll-append, appendAll-edges}
 use Rattle.storage.specs.Rows.{nodeRow, edgeRow, Loaded}
-use Rattle.path.specs.declared.step.Step.{Step}
-use Rattle.path.specs.declared.step.Effect.{Effect}
-use Rattle.path.specs.declared.step.Effect.the-variants.{Done, Refused}
-use Rattle.path.specs.Steps.{Low, stacksOf}
-use Rattle.path.specs.Steps.Laws.{scopes-kept, symbols-kept}
-use Rattle.path.specs.StepWords.{stepAt, withStep}
-use Rattle.path.specs.StepWords.Laws.{step-other}
-use Rattle.path.specs.Judged.{Ready, Stepped, judgedOf, wordsAfter}
-use Rattle.path.specs.Judged.Laws.{Grown, judged-done, judged-refused}
+use Rattle.stepping.specs.declared.step.Step.{Step}
+use Rattle.stepping.specs.declared.step.Effect.{Effect}
+use Rattle.stepping.specs.declared.step.Effect.the-variants.{Done, Refused}
+use Rattle.stepping.specs.Steps.{Low, stacksOf}
+use Rattle.stepping.specs.Steps.Laws.{scopes-kept, symbols-kept}
+use Rattle.stepping.specs.StepWords.{stepAt, withStep}
+use Rattle.stepping.specs.StepWords.Laws.{step-other}
+use Rattle.stepping.specs.Judged.{Ready, Stepped, judgedOf, wordsAfter}
+use Rattle.stepping.specs.Judged.Laws.{Grown, judged-done, judged-refused}
 use Rattle.path.specs.Replays.Laws.{nodes-are, edges-are}
-use Rattle.search_state.specs.Retraces.{Retraces, Retraced}
+use Rattle.search_state.specs.Retraces.{Laid, Retraces, Retraced, Shared}
 
 -- ---- steps below a new one stay
 
@@ -67,19 +70,73 @@ module _ (g : Graph) (index : List ℕ) (loaded : Loaded g index) (ws : List ℕ
   pub effect-refused : (z : PathRefusal) → x ≡ Refused z → append (viewOf g) p e ≡ refuse z
   effect-refused z d = judged-refused (viewOf g) ws k p st room e z (judged-in ∙ d)
 
+-- ---- the edges that stand there already
+
+same-entries : (l m : List ℕ) → length l ≡ length m → ((j : ℕ) → j < length l → getD l j 0 ≡ getD m j 0) → l ≡ m
+same-entries [] [] e h = refl
+same-entries [] (y ∷ m) e h = absurd (omega (arith, e))
+same-entries (x ∷ l) [] e h = absurd (omega (arith, e))
+same-entries (x ∷ l) (y ∷ m) e h =
+    let a : x ≡ y = h 0 (omega arith) in
+    let b : l ≡ m = same-entries l m (omega (arith, e)) (λ j k. h (suc j) (omega (arith, k))) in
+    λ i. a i ∷ b i
+
+append-split : (g : View) (l m : List ℕ) (p q x : Path) → appendAll base g p (l ++ m) ≡ ok x → appendAll base g p l ≡ ok q → appendAll base g q m ≡ ok x
+unfolding appendAll
+append-split g [] m p q x e f = subst (λ (z : Path). appendAll base g z m ≡ ok x) (ok-inj p q f) e
+append-split g (y ∷ l) m p q x e f =
+    let a = andThen-ok (appendUnder base g p y) (λ z. appendAll base g z (l ++ m)) x e in
+    let b = andThen-ok (appendUnder base g p y) (λ z. appendAll base g z l) q f in
+    let z : a .0 ≡ b .0 = ok-inj (a .0) (b .0) (sym (a .1) ∙ b .1) in
+    append-split g l m (b .0) q x (subst (λ (w : Path). appendAll base g w (l ++ m) ≡ ok x) z (a .2)) (b .2)
+
+-- edge by edge
+pub shared-none : (ws edges : List ℕ) (n : ℕ) → Shared ws edges n 0
+shared-none ws edges n = record { within = omega arith; inside = omega arith; same = λ j h. absurd (omega (arith, h)) }
+
+pub shared-more : (ws edges : List ℕ) (n i : ℕ) → Shared ws edges n i → i < n → i < length edges → stepAt ws (i + 1) .edge ≡ getD edges i 0 → Shared ws edges n (i + 1)
+shared-more ws edges n i h a b e = record { within = omega (arith, a); inside = omega (arith, b); same = λ j k. by j k (ltb j i) refl }
+  where
+    by : (j : ℕ) → j < i + 1 → (b : Bool) → ltb j i ≡ b → stepAt ws (j + 1) .edge ≡ getD edges j 0
+    by j k true t = h .same j (ltb-true j i t)
+    by j k false t = let l = ltb-false j i t in let z : i ≡ j = omega (arith, l, k) in subst (λ (m : ℕ). stepAt ws (m + 1) .edge ≡ getD edges m 0) z e
+
+-- a step more below which all stays
+laid-more : (g : View) (first : Path) (ws : List ℕ) (n : ℕ) (s : Step) (q : Path) → Laid g first ws n → Stepped (withStep ws (n + 1) s) (n + 1) q → appendAll base g first (q .edges) ≡ ok q → Laid g first (withStep ws (n + 1) s) (n + 1)
+laid-more g first ws n s q h st e j k = by (ltb j (n + 1)) refl
+  where
+    by : (b : Bool) → ltb j (n + 1) ≡ b → (p : Path) × Stepped (withStep ws (n + 1) s) j p × (appendAll base g first (p .edges) ≡ ok p)
+    by true t = let l = ltb-true j (n + 1) t in let u = h j (omega (arith, l)) in (u .0, stepped-kept ws (n + 1) j s (u .0) l (u .1), u .2)
+    by false t = let l = ltb-false j (n + 1) t in let z : n + 1 ≡ j = omega (arith, l, k) in (q, subst (λ (i : ℕ). Stepped (withStep ws (n + 1) s) i q) z st, e)
+
 -- ---- the loop
 
-pub record Mid (index ws₀ edges : List ℕ) (t : Retraces index ws₀ edges) (ws : List ℕ) (i : ℕ) : Type 0 where
+pub record Mid (index ws₀ edges : List ℕ) (n : ℕ) (t : Retraces index ws₀ edges n) (ws : List ℕ) (i : ℕ) : Type 0 where
   pub path : Path
   pub stepped : Stepped ws i path
   pub begun : Stepped ws 0 (t .first)
+  pub led : appendAll base (viewOf (t .graph)) (t .first) (path .edges) ≡ ok path
+  pub laid : Laid (viewOf (t .graph)) (t .first) ws i
   pub onward : appendAll base (viewOf (t .graph)) path (drop i edges) ≡ ok (t .path)
 
-module _ (index ws₀ edges : List ℕ) (t : Retraces index ws₀ edges) where
-  pub mid-start : Mid index ws₀ edges t ws₀ 0
-  mid-start = record { path = t .first; stepped = t .begun; begun = t .begun; onward = t .appended }
+module _ (index ws₀ edges : List ℕ) (n : ℕ) (t : Retraces index ws₀ edges n) where
+  pub mid-start : (c : ℕ) → Shared ws₀ edges n c → Mid index ws₀ edges n t ws₀ c
+  mid-start c h =
+      let u = t .laid c (h .within) in
+      let l : length (u .0 .edges) ≡ c = u .1 .count in
+      let m : length (take c edges) ≡ c = length-take-le c edges (h .inside) in
+      let z : u .0 .edges ≡ take c edges = same-entries (u .0 .edges) (take c edges) (l ∙ sym m) (λ j k. sym (u .1 .edges j (omega (arith, k, l))) ∙ h .same j (omega (arith, k, l)) ∙ sym (getD-take c edges j 0 (omega (arith, k, l)))) in
+      let d : appendAll base (viewOf (t .graph)) (t .first) (take c edges) ≡ ok (u .0) = subst (λ (x : List ℕ). appendAll base (viewOf (t .graph)) (t .first) x ≡ ok (u .0)) z (u .2) in
+      record {
+        path = u .0;
+        stepped = u .1;
+        begun = t .begun;
+        led = u .2;
+        laid = λ j k. t .laid j (omega (arith, k, h .within));
+        onward = append-split (viewOf (t .graph)) (take c edges) (drop c edges) (t .first) (u .0) (t .path) (subst (λ (x : List ℕ). appendAll base (viewOf (t .graph)) (t .first) x ≡ ok (t .path)) (sym (take-append-drop c edges)) (t .appended)) d;
+      }
 
-  module _ (ws : List ℕ) (long : length ws ≡ length ws₀) (i : ℕ) (mid : Mid index ws₀ edges t ws i) where
+  module _ (ws : List ℕ) (long : length ws ≡ length ws₀) (i : ℕ) (mid : Mid index ws₀ edges n t ws i) where
     pub mid-ready : i < length edges → Ready ws i
     mid-ready h = ready-of ws i (mid .path) (mid .stepped) (omega (arith, h, t .few)) (omega (arith, h, t .room, long))
 
@@ -87,36 +144,50 @@ module _ (index ws₀ edges : List ℕ) (t : Retraces index ws₀ edges) where
     mid-room h = omega (arith, h, t .room, long)
 
     module _ (h : i < length edges) (x : Effect) (is : x ≡ judgedOf (nodeRow index) ws i (getD edges i 0) (edgeRow index (getD edges i 0))) where
-      parts : (q : Path) × (append (viewOf (t .graph)) (mid .path) (getD edges i 0) ≡ ok q) × (appendAll base (viewOf (t .graph)) q (drop (i + 1) edges) ≡ ok (t .path))
+      parts : (q : Path) × (appendUnder base (viewOf (t .graph)) (mid .path) (getD edges i 0) ≡ ok q) × (append (viewOf (t .graph)) (mid .path) (getD edges i 0) ≡ ok q) × (appendAll base (viewOf (t .graph)) q (drop (i + 1) edges) ≡ ok (t .path))
       unfolding appendAll
       parts =
           let o = subst (λ (l : List ℕ). appendAll base (viewOf (t .graph)) (mid .path) l ≡ ok (t .path)) (drop-cons edges i 0 h) (mid .onward) in
           let a = andThen-ok (appendUnder base (viewOf (t .graph)) (mid .path) (getD edges i 0)) (λ y. appendAll base (viewOf (t .graph)) y (drop (suc i) edges)) (t .path) o in
-          (a .0, appendUnder-ok base (viewOf (t .graph)) (mid .path) (a .0) (getD edges i 0) (a .1) .1, rw add-one (a .2))
+          (a .0, a .1, appendUnder-ok base (viewOf (t .graph)) (mid .path) (a .0) (getD edges i 0) (a .1) .1, rw add-one (a .2))
+
+      -- one edge more leads to the next path
+      more : appendAll base (viewOf (t .graph)) (mid .path) (getD edges i 0 ∷ []) ≡ ok (parts .0)
+      unfolding appendAll
+      more = rw (parts .1)
+
+      more-led : appendAll base (viewOf (t .graph)) (t .first) (parts .0 .edges) ≡ ok (parts .0)
+      more-led =
+          subst (λ (l : List ℕ). appendAll base (viewOf (t .graph)) (t .first) l ≡ ok (parts .0)) (sym (appendAll-edges base (viewOf (t .graph)) (getD edges i 0 ∷ []) (mid .path) (parts .0) more))
+          (appendAll-append base (viewOf (t .graph)) (mid .path .edges) (getD edges i 0 ∷ []) (t .first) (mid .path) (parts .0) (mid .led) more)
 
       pub never-refused : (z : PathRefusal) → x ≡ Refused z → ⊥
-      never-refused z d = let q = parts in ok-refuse z (q .0) (sym (q .1) ∙ effect-refused (t .graph) index (t .loaded) ws i (mid .path) (mid .stepped) (mid-room h) (getD edges i 0) x is z d)
+      never-refused z d = let q = parts in ok-refuse z (q .0) (sym (q .2) ∙ effect-refused (t .graph) index (t .loaded) ws i (mid .path) (mid .stepped) (mid-room h) (getD edges i 0) x is z d)
 
-      pub mid-again : (s : Step) → x ≡ Done s → (ws′ : List ℕ) → ws′ ≡ wordsAfter ws (i + 1) x → Mid index ws₀ edges t ws′ (i + 1)
+      pub mid-again : (s : Step) → x ≡ Done s → (ws′ : List ℕ) → ws′ ≡ wordsAfter ws (i + 1) x → Mid index ws₀ edges n t ws′ (i + 1)
       unfolding wordsAfter
       mid-again s d ws′ w =
           let q = parts in
-          let n = effect-done (t .graph) index (t .loaded) ws i (mid .path) (mid .stepped) (mid-room h) (getD edges i 0) x is s d in
+          let m = effect-done (t .graph) index (t .loaded) ws i (mid .path) (mid .stepped) (mid-room h) (getD edges i 0) x is s d in
           let y : ws′ ≡ withStep ws (i + 1) s = w ∙ ap (wordsAfter ws (i + 1)) d in
-          let z : q .0 ≡ n .path = ok-inj (q .0) (n .path) (sym (q .1) ∙ n .appended) in
+          let z : q .0 ≡ m .path = ok-inj (q .0) (m .path) (sym (q .2) ∙ m .appended) in
+          let e : appendAll base (viewOf (t .graph)) (t .first) (m .path .edges) ≡ ok (m .path) = subst (λ (p : Path). appendAll base (viewOf (t .graph)) (t .first) (p .edges) ≡ ok p) z more-led in
           record {
-            path = n .path;
-            stepped = subst (λ (l : List ℕ). Stepped l (i + 1) (n .path)) (sym y) (n .stepped);
+            path = m .path;
+            stepped = subst (λ (l : List ℕ). Stepped l (i + 1) (m .path)) (sym y) (m .stepped);
             begun = subst (λ (l : List ℕ). Stepped l 0 (t .first)) (sym y) (stepped-kept ws (i + 1) 0 s (t .first) (omega arith) (mid .begun));
-            onward = subst (λ (p : Path). appendAll base (viewOf (t .graph)) p (drop (i + 1) edges) ≡ ok (t .path)) z (q .2);
+            led = e;
+            laid = subst (λ (l : List ℕ). Laid (viewOf (t .graph)) (t .first) l (i + 1)) (sym y) (laid-more (viewOf (t .graph)) (t .first) ws i s (m .path) (mid .laid) (m .stepped) e);
+            onward = subst (λ (p : Path). appendAll base (viewOf (t .graph)) p (drop (i + 1) edges) ≡ ok (t .path)) z (q .3);
           }
 
-    pub mid-end : i ≤ length edges → length edges ≤ i → Retraced index ws₀ edges t ws
+    pub mid-end : i ≤ length edges → length edges ≤ i → Retraced index ws₀ edges n t ws
     unfolding appendAll
     mid-end a b =
-        let n : i ≡ length edges = omega (arith, a, b) in
+        let m : i ≡ length edges = omega (arith, a, b) in
         let o = subst (λ (l : List ℕ). appendAll base (viewOf (t .graph)) (mid .path) l ≡ ok (t .path)) (drop-of-length-le edges b) (mid .onward) in
         record {
-          stepped = subst (λ (p : Path). Stepped ws (length edges) p) (ok-inj (mid .path) (t .path) o) (subst (λ (k : ℕ). Stepped ws k (mid .path)) n (mid .stepped));
+          stepped = subst (λ (p : Path). Stepped ws (length edges) p) (ok-inj (mid .path) (t .path) o) (subst (λ (k : ℕ). Stepped ws k (mid .path)) m (mid .stepped));
           begun = mid .begun;
+          laid = subst (λ (k : ℕ). Laid (viewOf (t .graph)) (t .first) ws k) m (mid .laid);
         }

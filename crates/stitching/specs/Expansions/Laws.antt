@@ -17,7 +17,7 @@ use Rattle.semantics.specs.Path.Laws.{appendAll-edges, replay-append}
 use Rattle.semantics.specs.Enumeration.{Try, go, one}
 use Rattle.semantics.specs.Stitching.{judgeSlot}
 use Rattle.semantics.specs.Words.{encode}
-use Rattle.path.specs.Judged.{Stepped}
+use Rattle.stepping.specs.Judged.{Stepped}
 use Rattle.path.specs.Replays.Calls.{from-a-reference, few-edges}
 use Rattle.search_state.specs.declared.search.Search as S
 use Rattle.search_state.specs.declared.search.Going.{Going}

@@ -14,7 +14,7 @@ use Rattle.semantics.specs.Enumeration.{State, Try, one, each}
 use Rattle.semantics.specs.Enumeration.Statistics.{one-moved}
 use Rattle.semantics.specs.Stitching.{judgeSlot}
 use Rattle.semantics.specs.Database.{slotsIn}
-use Rattle.path.specs.StepWords.{stepAt}
+use Rattle.stepping.specs.StepWords.{stepAt}
 use Rattle.search_state.specs.declared.search.Search as S
 use Rattle.search_state.specs.declared.search.Going.{Going}
 use Rattle.search_state.specs.declared.search.Going.the-variants.{On, Refused}

@@ -33,25 +33,32 @@ tries-few words r lim g p =
     let u = readable-used words r in
     omega (arith, n, l, c, u)
 
-module _ (words : List ℕ) (most : ℕ) (index steps item : List ℕ) (s : S.Search) (ws rs : List ℕ) (v : Rounding most index steps item s ws rs) (k : ℕ) (at : k ≡ getD item 0 0) (steps′ : List ℕ)
-    (long : length steps′ ≡ length steps) (t : (x : Retraces index steps (take (k + 1 - 1) (drop 1 item))) → Retraced index steps (take (k + 1 - 1) (drop 1 item)) x steps′) where
+module _ (words : List ℕ) (most : ℕ) (index steps item : List ℕ) (n : ℕ) (s : S.Search) (ws rs : List ℕ) (v : Rounding most index steps item n s ws rs) (k : ℕ) (at : k ≡ getD item 0 0) (steps′ : List ℕ)
+    (long : length steps′ ≡ length steps) (t : (x : Retraces index steps (take (k + 1 - 1) (drop 1 item)) n) → Retraced index steps (take (k + 1 - 1) (drop 1 item)) n x steps′) where
   pub round-given : Given most index steps′ item k s ws rs
   round-given = record {
     graph = v .graph;
     loaded = v .loaded;
     reference = v .reference;
     path = v .path;
-    count = round-count most index steps item s ws rs v k at;
-    stepped = round-traced most index steps item s ws rs v k at steps′ t .0;
+    count = round-count most index steps item n s ws rs v k at;
+    stepped = round-traced most index steps item n s ws rs v k at steps′ t .0;
     long = omega (arith, long, v .long);
-    slot = round-long most index steps item s ws rs v;
-    held = round-held most index steps item s ws rs v k at;
+    slot = round-long most index steps item n s ws rs v;
+    held = round-held most index steps item n s ws rs v k at;
     good = v .good;
     model = v .model;
     rep = v .rep;
     small = v .small;
   }
 
-  pub rounded : (a : Going) (steps″ ws′ rs′ : List ℕ) → Expanded words most index steps′ item k s ws rs round-given a steps″ ws′ rs′ → Rounded (triesIn words) most index steps item s ws rs v a steps″ ws′ rs′
+  pub rounded : (a : Going) (steps″ ws′ rs′ : List ℕ) → Expanded words most index steps′ item k s ws rs round-given a steps″ ws′ rs′ → Rounded (triesIn words) most index steps item n s ws rs v a steps″ ws′ rs′
   unfolding round-given
-  rounded a steps″ ws′ rs′ x = record { tells = x .tells; begun = x .kept 0 (v .first) (omega arith) (round-traced most index steps item s ws rs v k at steps′ t .1) }
+  rounded a steps″ ws′ rs′ x =
+      let l = round-traced most index steps item n s ws rs v k at steps′ t in
+      let c = round-count most index steps item n s ws rs v k at in
+      record {
+        tells = x .tells;
+        begun = x .kept 0 (v .first) (omega arith) (l .1);
+        laid = λ j h. let u = l .2 j h in (u .0, x .kept j (u .0) (omega (arith, h, c)) (u .1), u .2);
+      }

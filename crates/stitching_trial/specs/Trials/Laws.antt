@@ -27,12 +27,12 @@ use Rattle.semantics.specs.Answer.Laws.{ok-inj, andThen-ok}
 use Rattle.semantics.specs.Enumeration.{Try, go}
 use Rattle.semantics.specs.Stitching.{ended, extended, ifRoom, ifShort, unlessCycle, judgeSlot}
 use Rattle.storage.specs.Rows.{nodeRow, edgeRow}
-use Rattle.path.specs.declared.step.Step.{Step}
-use Rattle.path.specs.declared.step.Effect.{Effect}
-use Rattle.path.specs.declared.step.Effect.the-variants as Effect
-use Rattle.path.specs.StepWords.{stepAt, withStep}
-use Rattle.path.specs.Judged.{Ready, Stepped, judgedOf, wordsAfter, completeStep}
-use Rattle.path.specs.Judged.Laws.{complete-is}
+use Rattle.stepping.specs.declared.step.Step.{Step}
+use Rattle.stepping.specs.declared.step.Effect.{Effect}
+use Rattle.stepping.specs.declared.step.Effect.the-variants as Effect
+use Rattle.stepping.specs.StepWords.{stepAt, withStep}
+use Rattle.stepping.specs.Judged.{Ready, Stepped, judgedOf, wordsAfter, completeStep}
+use Rattle.stepping.specs.Judged.Laws.{complete-is}
 use Rattle.path.specs.Replays.Laws.{nodes-are}
 use Rattle.graph_search.specs.declared.path_budget.Budget.{Budget}
 use Rattle.graph_search.specs.declared.path_budget.Admitted.{Admitted}

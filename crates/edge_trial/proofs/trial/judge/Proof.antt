@@ -8,7 +8,7 @@ use lib.ListN.{length}
 use Rattle.semantics.specs.Lists.{has}
 use Rattle.semantics.specs.Limits.{within}
 use Rattle.storage.specs.Rows.{nodeRow, edgeRow}
-use Rattle.path.specs.Judged.{judgedOf}
+use Rattle.stepping.specs.Judged.{judgedOf}
 use Rattle.edge_trial.specs.Trials.Laws.{trial-cut, trial-overlong, trial-bound, trial-tried, asked-within}
 use borrow.Author.Needs.{needs}
 use Rattle.edge_trial.proofs.trial.judge.Statement.{statement}

@@ -6,7 +6,7 @@ use lib.ListN.{length}
 use Rattle.semantics.specs.declared.refusal.LinearRefusal.the-variants as Linear
 use Rattle.semantics.specs.Graph.{nodeId}
 use Rattle.storage.specs.Rows.Use.{left}
-use Rattle.path.specs.declared.step.Step.{Step}
+use Rattle.stepping.specs.declared.step.Step.{Step}
 use Rattle.linear_search.specs.declared.linear.Pace.{Pace}
 use Rattle.linear_search.specs.Walks.{Paced, Walking}
 use Rattle.linear_search.specs.Walks.Edges.{Opening, Mid, mid-start, mid-walk, mid-less, mid-second, mid-refused, mid-again}

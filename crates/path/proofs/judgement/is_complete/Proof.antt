@@ -1,6 +1,6 @@
 use mathlib.Core.Path.{ap, _∙_}
 use denote.Enum.Declared
-use Rattle.path.specs.Judged.{completeStep}
+use Rattle.stepping.specs.Judged.{completeStep}
 use Rattle.storage.specs.Rows.{nodeRow}
 use Rattle.semantics.specs.Image.{symbolBytes, checkImage}
 use Rattle.semantics.specs.Told.{toldJudgement}

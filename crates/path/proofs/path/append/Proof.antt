@@ -3,7 +3,7 @@ use mathlib.Core.Path.{_≡_, sym, ap, ap₂, _∙_}
 use mathlib.Core.Bool.{Bool}
 use lib.ListN.{length}
 use Rattle.storage.specs.Rows.{edgeRow}
-use Rattle.path.specs.declared.step.Effect.{Effect}
+use Rattle.stepping.specs.declared.step.Effect.{Effect}
 use Rattle.path.specs.Values.{isJumpEdge, appendedBy}
 use Rattle.path.specs.Values.Laws.{appended-refused, appended-done}
 use borrow.Author.Needs.{needs}

@@ -1,7 +1,7 @@
 use native.Mathlib.Omega.{arith}
 use mathlib.Core.Path.{_≡_}
 use lib.ListN.{length}
-use Rattle.path.specs.StepWords.Laws.{no-step}
+use Rattle.stepping.specs.StepWords.Laws.{no-step}
 use borrow.Author.Needs.{needs}
 use Rattle.path.proofs.path.step.Statement.{statement}
 use Rattle.path.proofs.path.step.Tie as tie

@@ -1,7 +1,7 @@
 use mathlib.Core.Path.{sym, ap, _∙_}
 use Rattle.semantics.specs.declared.answer.Replayed.the-variants as Replayed
 use Rattle.semantics.specs.declared.refusal.ReplayRefusal.the-variants as ReplayRefusal
-use Rattle.path.specs.declared.step.Effect.the-variants.{Done, Refused}
+use Rattle.stepping.specs.declared.step.Effect.the-variants.{Done, Refused}
 use Rattle.path.specs.Replays.{refusedBy}
 use borrow.Author.Needs.{needs}
 use Rattle.path.proofs.replay.refused.Statement.{statement}

@@ -3,7 +3,7 @@ use Prim.Native.Nat.{ℕ, _<_}
 use mathlib.Core.Path.{_≡_, refl, sym, ap, subst, _∙_}
 use lib.ListN.{length}
 use Rattle.storage.specs.Rows.Use.{left}
-use Rattle.path.specs.declared.step.Step.{Step}
+use Rattle.stepping.specs.declared.step.Step.{Step}
 use Rattle.search.specs.Expansions.{Given}
 use Rattle.search.specs.Expansions.Laws.{given-short}
 use Rattle.search.specs.Expansions.Edges.{Mid, mid-start, mid-given, mid-less, mid-again, mid-refused, mid-end}

@@ -2,7 +2,7 @@ use Prim.Native.Nat.{ℕ, _<_}
 use native.Mathlib.Omega.{arith}
 use mathlib.Core.Path.{_≡_, refl, sym, ap, subst, _∙_}
 use lib.ListN.{length}
-use Rattle.path.specs.declared.step.Step.{Step}
+use Rattle.stepping.specs.declared.step.Step.{Step}
 use Rattle.stitching_trial.specs.Links.{Linked}
 use Rattle.stitching_trial.specs.Links.Laws.{left}
 use Rattle.stitching.specs.Expansions.{Given}

@@ -1,0 +1,64 @@
+//! What is searched under which limits: `NAME.img.cfg` holds six words, L C K
+//! of searches, L C of partial paths, and how many references are searched, 0
+//! for all; `-` is no limit. Without it there are no limits.
+
+use crate::Job;
+use crate::load::load;
+use cfglib::graph::stack::StackNodeId;
+use pozhdaghi::{Limits, Order, Request};
+
+const NO_LIMITS: &str = "- - - - - 0";
+
+pub struct Settings {
+    pub search: Limits,
+    pub partial: Limits,
+    pub references: Vec<u32>,
+    pub files: u32,
+}
+
+impl Settings {
+    pub fn read(name: &str, bytes: &[u8]) -> Settings {
+        let text = std::fs::read_to_string(format!("{name}.cfg"));
+        let text = text.as_deref().unwrap_or(NO_LIMITS);
+        let words: Vec<&str> = text.split_whitespace().collect();
+        let limit = |at: usize| (words[at] != "-").then(|| words[at].parse().expect("a limit"));
+        let count: usize = words[5].parse().expect("a number of references");
+        let graph = load(bytes);
+        let is_reference = |&node: &StackNodeId| graph.node(node).kind().is_reference();
+        let references = graph.node_ids().filter(is_reference).map(StackNodeId::raw);
+        Settings {
+            search: Limits {
+                length: limit(0),
+                paths: limit(1),
+                complete: limit(2),
+            },
+            partial: Limits {
+                length: limit(3),
+                paths: limit(4),
+                complete: None,
+            },
+            references: references
+                .take(if count > 0 { count } else { usize::MAX })
+                .collect(),
+            files: graph.file_count() as u32,
+        }
+    }
+
+    /// How many calls a job makes.
+    pub fn calls(&self, job: Job) -> usize {
+        match job {
+            Job::Replace => self.files as usize,
+            Job::Direct | Job::Linear | Job::Stitched => self.references.len(),
+        }
+    }
+
+    pub fn request(&self, job: Job) -> Request {
+        Request {
+            order: Order::BreadthFirst,
+            limits: match job {
+                Job::Replace => self.partial,
+                Job::Direct | Job::Linear | Job::Stitched => self.search,
+            },
+        }
+    }
+}

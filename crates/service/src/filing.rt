@@ -1,0 +1,79 @@
+// Exported: the database of partial paths in the caller's words.
+ghost use mathlib.Core.Path.{_≡_};
+ghost use Prim.Native.Nat.{_+_, _*_};
+ghost use lib.ListN.{length};
+ghost use Rattle.semantics.specs.Limits.{base};
+ghost use Rattle.semantics.specs.Image.{symbolBytes, checkImage};
+ghost use Rattle.semantics.specs.Database.{filesOnly, lookupPart};
+ghost use Rattle.semantics.specs.Told.{toldCreation, toldReplacement};
+ghost use Rattle.semantics.specs.Calls.{freshCall, replaceCall};
+ghost use Rattle.service.specs.Asked.{fileAsked};
+ghost use Rattle.service.specs.Written.{numbersIn, written, toldPart};
+use crate::asked;
+use crate::numbers;
+use crate::numbers::Numbers;
+use database::fresh;
+use database::layout;
+use database::lookup;
+use partial::replace;
+use semantics::bounds;
+use semantics::graph::FileId;
+use semantics::graph::PartialPathId;
+
+// 0; or the refusal.
+#[no_mangle]
+pub extern "C" fn pozhdaghi_fresh(image: &[u8], words: &mut [u32], answer: &mut [u64])
+    ensures { λ _. ⌜ now (answer .exit) ≡ written (length (now (answer .entry))) (toldCreation (freshCall (checkImage symbolBytes (now (image .entry))) (now (words .entry)) .answer)) ⌝ }
+    ensures { λ _. ⌜ now (words .exit) ≡ freshCall (checkImage symbolBytes (now (image .entry))) (now (words .entry)) .database ⌝ }
+{
+    let created = fresh::fresh(image, words);
+    numbers::write(numbers::of_creation(created), answer);
+}
+
+// 0, three counts and two flags; or the refusal.
+#[no_mangle]
+pub extern "C" fn pozhdaghi_replace_file(
+    image: &[u8],
+    file: u32,
+    asked: &[u64],
+    work: &mut [u32],
+    words: &mut [u32],
+    answer: &mut [u64],
+)
+    ensures { λ _. ⌜ now (answer .exit) ≡ written (length (now (answer .entry))) (toldReplacement (replaceCall base filesOnly (checkImage symbolBytes (now (image .entry))) (fileAsked (now (asked .entry)) (now (work .entry)) file) (now (words .entry)) .answer)) ⌝ }
+    ensures { λ _. ⌜ now (work .exit) ≡ replaceCall base filesOnly (checkImage symbolBytes (now (image .entry))) (fileAsked (now (asked .entry)) (now (work .entry)) file) (now (words .entry)) .work ⌝ }
+    ensures { λ _. ⌜ now (words .exit) ≡ replaceCall base filesOnly (checkImage symbolBytes (now (image .entry))) (fileAsked (now (asked .entry)) (now (work .entry)) file) (now (words .entry)) .database ⌝ }
+{
+    let order = asked::order(asked);
+    let length = asked::length(asked);
+    let paths = asked::paths(asked);
+    let replaced = replace::replace_file(image, FileId(file), order, length, paths, work, words);
+    numbers::write(numbers::of_replacement(replaced), answer);
+}
+
+// Where the edges of a record stand in the words.
+fn place_of(number: u32) -> u64
+    ensures { λ r. ⌜ r ≡ 3 + 131 * number + 4 ⌝ }
+{
+    (layout::FIRST_RECORD + bounds::RECORD_WORDS * number as usize + layout::EDGES) as u64
+}
+
+// The part that a lookup hands back, as its place and its length; the empty part is at 0. A live record has an edge, so only an empty part has none.
+fn part_of(words: &[u32], number: u32) -> Numbers
+    ensures { λ r. ⌜ numbersIn r ≡ toldPart (lookupPart base filesOnly number (now (words .entry))) ⌝ }
+{
+    let part = lookup::lookup(words, PartialPathId(number));
+    let length = part.len();
+    if length < 1 {
+        return numbers::pair(0, length as u64);
+    }
+    numbers::pair(place_of(number), length as u64)
+}
+
+// The place and the length of the part of the words that holds the edges of a partial path; 0 and 0 for an empty part.
+#[no_mangle]
+pub extern "C" fn pozhdaghi_lookup(words: &[u32], number: u32, answer: &mut [u64])
+    ensures { λ _. ⌜ now (answer .exit) ≡ written (length (now (answer .entry))) (toldPart (lookupPart base filesOnly number (now (words .entry)))) ⌝ }
+{
+    numbers::write(part_of(words, number), answer);
+}

@@ -1,0 +1,141 @@
+// Exported: the searches. Each answers 0, the number of paths in the result slots, four counts and three flags; or the refusal.
+ghost use mathlib.Core.Path.{_≡_};
+ghost use lib.ListN.{length};
+ghost use Rattle.semantics.specs.Limits.{base};
+ghost use Rattle.semantics.specs.Image.{symbolBytes, checkImage};
+ghost use Rattle.semantics.specs.Recorded.{recorded, returned};
+ghost use Rattle.semantics.specs.Database.{filesOnly};
+ghost use Rattle.semantics.specs.Told.{toldResolution, toldLinearResolution};
+ghost use Rattle.semantics.specs.Calls.{directCall, linearCall, stitchedCall};
+ghost use Rattle.service.specs.Asked.{searchAsked, linearAsked};
+ghost use Rattle.service.specs.Written.{written};
+use crate::asked;
+use crate::numbers;
+use linear_search::linear;
+use search::direct;
+use semantics::graph::NodeId;
+use stitching::stitched;
+
+// Direct search: the returned paths.
+#[no_mangle]
+pub extern "C" fn pozhdaghi_direct(
+    image: &[u8],
+    reference: u32,
+    asked: &[u64],
+    work: &mut [u32],
+    result: &mut [u32],
+    answer: &mut [u64],
+)
+    ensures { λ _. ⌜ now (answer .exit) ≡ written (length (now (answer .entry))) (toldResolution (directCall base returned (checkImage symbolBytes (now (image .entry))) (searchAsked (now (asked .entry)) (now (work .entry)) (now (result .entry)) reference) .answer)) ⌝ }
+    ensures { λ _. ⌜ now (work .exit) ≡ directCall base returned (checkImage symbolBytes (now (image .entry))) (searchAsked (now (asked .entry)) (now (work .entry)) (now (result .entry)) reference) .work ⌝ }
+    ensures { λ _. ⌜ now (result .exit) ≡ directCall base returned (checkImage symbolBytes (now (image .entry))) (searchAsked (now (asked .entry)) (now (work .entry)) (now (result .entry)) reference) .result ⌝ }
+{
+    let order = asked::order(asked);
+    let limits = asked::limits(asked);
+    let found = direct::search(image, NodeId(reference), order, limits, work, result);
+    numbers::write(numbers::of_resolution(found), answer);
+}
+
+// Direct search: the recorded paths.
+#[no_mangle]
+pub extern "C" fn pozhdaghi_direct_recorded(
+    image: &[u8],
+    reference: u32,
+    asked: &[u64],
+    work: &mut [u32],
+    result: &mut [u32],
+    answer: &mut [u64],
+)
+    ensures { λ _. ⌜ now (answer .exit) ≡ written (length (now (answer .entry))) (toldResolution (directCall base recorded (checkImage symbolBytes (now (image .entry))) (searchAsked (now (asked .entry)) (now (work .entry)) (now (result .entry)) reference) .answer)) ⌝ }
+    ensures { λ _. ⌜ now (work .exit) ≡ directCall base recorded (checkImage symbolBytes (now (image .entry))) (searchAsked (now (asked .entry)) (now (work .entry)) (now (result .entry)) reference) .work ⌝ }
+    ensures { λ _. ⌜ now (result .exit) ≡ directCall base recorded (checkImage symbolBytes (now (image .entry))) (searchAsked (now (asked .entry)) (now (work .entry)) (now (result .entry)) reference) .result ⌝ }
+{
+    let order = asked::order(asked);
+    let limits = asked::limits(asked);
+    let found = direct::search_recorded(image, NodeId(reference), order, limits, work, result);
+    numbers::write(numbers::of_resolution(found), answer);
+}
+
+// Linear search: the returned paths. It has no order and takes no work area.
+#[no_mangle]
+pub extern "C" fn pozhdaghi_linear(
+    image: &[u8],
+    reference: u32,
+    asked: &[u64],
+    result: &mut [u32],
+    answer: &mut [u64],
+)
+    ensures { λ _. ⌜ now (answer .exit) ≡ written (length (now (answer .entry))) (toldLinearResolution (linearCall base returned (checkImage symbolBytes (now (image .entry))) (linearAsked (now (asked .entry)) (now (result .entry)) reference) .answer)) ⌝ }
+    ensures { λ _. ⌜ now (result .exit) ≡ linearCall base returned (checkImage symbolBytes (now (image .entry))) (linearAsked (now (asked .entry)) (now (result .entry)) reference) .result ⌝ }
+{
+    let limits = asked::limits(asked);
+    let found = linear::search(image, NodeId(reference), limits, result);
+    numbers::write(numbers::of_linear(found), answer);
+}
+
+// Linear search: the recorded paths.
+#[no_mangle]
+pub extern "C" fn pozhdaghi_linear_recorded(
+    image: &[u8],
+    reference: u32,
+    asked: &[u64],
+    result: &mut [u32],
+    answer: &mut [u64],
+)
+    ensures { λ _. ⌜ now (answer .exit) ≡ written (length (now (answer .entry))) (toldLinearResolution (linearCall base recorded (checkImage symbolBytes (now (image .entry))) (linearAsked (now (asked .entry)) (now (result .entry)) reference) .answer)) ⌝ }
+    ensures { λ _. ⌜ now (result .exit) ≡ linearCall base recorded (checkImage symbolBytes (now (image .entry))) (linearAsked (now (asked .entry)) (now (result .entry)) reference) .result ⌝ }
+{
+    let limits = asked::limits(asked);
+    let found = linear::search_recorded(image, NodeId(reference), limits, result);
+    numbers::write(numbers::of_linear(found), answer);
+}
+
+// Stitched search over the database in the words: the returned paths.
+#[no_mangle]
+pub extern "C" fn pozhdaghi_stitched(
+    image: &[u8],
+    words: &[u32],
+    reference: u32,
+    asked: &[u64],
+    work: &mut [u32],
+    result: &mut [u32],
+    answer: &mut [u64],
+)
+    ensures { λ _. ⌜ now (answer .exit) ≡ written (length (now (answer .entry))) (toldResolution (stitchedCall base returned filesOnly (checkImage symbolBytes (now (image .entry))) (now (words .entry)) (searchAsked (now (asked .entry)) (now (work .entry)) (now (result .entry)) reference) .answer)) ⌝ }
+    ensures { λ _. ⌜ now (work .exit) ≡ stitchedCall base returned filesOnly (checkImage symbolBytes (now (image .entry))) (now (words .entry)) (searchAsked (now (asked .entry)) (now (work .entry)) (now (result .entry)) reference) .work ⌝ }
+    ensures { λ _. ⌜ now (result .exit) ≡ stitchedCall base returned filesOnly (checkImage symbolBytes (now (image .entry))) (now (words .entry)) (searchAsked (now (asked .entry)) (now (work .entry)) (now (result .entry)) reference) .result ⌝ }
+{
+    let order = asked::order(asked);
+    let limits = asked::limits(asked);
+    let found = stitched::search(image, words, NodeId(reference), order, limits, work, result);
+    numbers::write(numbers::of_resolution(found), answer);
+}
+
+// Stitched search over the database in the words: the recorded paths.
+#[no_mangle]
+pub extern "C" fn pozhdaghi_stitched_recorded(
+    image: &[u8],
+    words: &[u32],
+    reference: u32,
+    asked: &[u64],
+    work: &mut [u32],
+    result: &mut [u32],
+    answer: &mut [u64],
+)
+    ensures { λ _. ⌜ now (answer .exit) ≡ written (length (now (answer .entry))) (toldResolution (stitchedCall base recorded filesOnly (checkImage symbolBytes (now (image .entry))) (now (words .entry)) (searchAsked (now (asked .entry)) (now (work .entry)) (now (result .entry)) reference) .answer)) ⌝ }
+    ensures { λ _. ⌜ now (work .exit) ≡ stitchedCall base recorded filesOnly (checkImage symbolBytes (now (image .entry))) (now (words .entry)) (searchAsked (now (asked .entry)) (now (work .entry)) (now (result .entry)) reference) .work ⌝ }
+    ensures { λ _. ⌜ now (result .exit) ≡ stitchedCall base recorded filesOnly (checkImage symbolBytes (now (image .entry))) (now (words .entry)) (searchAsked (now (asked .entry)) (now (work .entry)) (now (result .entry)) reference) .result ⌝ }
+{
+    let order = asked::order(asked);
+    let limits = asked::limits(asked);
+    let found = stitched::search_recorded(
+        image,
+        words,
+        NodeId(reference),
+        order,
+        limits,
+        work,
+        result,
+    );
+    numbers::write(numbers::of_resolution(found), answer);
+}

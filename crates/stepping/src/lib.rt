@@ -1,0 +1,4 @@
+// What a node does to the two stacks, and the steps of a path in lent words. Document 01, "Path".
+pub mod node;
+pub mod step;
+pub mod steps;

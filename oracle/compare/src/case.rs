@@ -1,0 +1,123 @@
+//! One call with everything that it is given, and what it leaves behind.
+
+use crate::budget::Asked;
+
+#[derive(Clone, Copy, PartialEq, Eq, PartialOrd, Ord, Debug)]
+pub enum Call {
+    Check,
+    IsComplete,
+    Shadows,
+    Direct,
+    DirectRecorded,
+    Linear,
+    LinearRecorded,
+    Fresh,
+    ReplaceFile,
+    Lookup,
+    Stitched,
+    StitchedRecorded,
+}
+
+impl Call {
+    pub fn is_recorded(self) -> bool {
+        matches!(
+            self,
+            Self::DirectRecorded | Self::LinearRecorded | Self::StitchedRecorded
+        )
+    }
+}
+
+/// What a call does not take stays empty.
+#[derive(Clone, PartialEq, Eq, Debug)]
+pub struct Case {
+    pub call: Call,
+    pub image: Vec<u8>,
+    /// The reference, the file or the partial path; of the left path in `shadows`.
+    pub number: u32,
+    pub edges: Vec<u32>,
+    pub right_number: u32,
+    pub right_edges: Vec<u32>,
+    /// The order, then each limit as whether there is one and its value.
+    pub asked: Vec<u64>,
+    pub words: Vec<u32>,
+    pub work: Vec<u32>,
+    pub result: Vec<u32>,
+    /// How many numbers of the answer are asked for.
+    pub answer_length: usize,
+}
+
+/// The longest answer has 9 numbers.
+pub const LONGEST_ANSWER: usize = 9;
+
+impl Case {
+    pub fn new(call: Call, image: &[u8]) -> Self {
+        Self {
+            call,
+            image: image.to_vec(),
+            number: 0,
+            edges: vec![],
+            right_number: 0,
+            right_edges: vec![],
+            asked: vec![],
+            words: vec![],
+            work: vec![],
+            result: vec![],
+            answer_length: LONGEST_ANSWER,
+        }
+    }
+
+    /// What the numbers of `asked` mean; those that are missing count as 0.
+    pub fn meaning(&self) -> Asked {
+        let number = |at: usize| self.asked.get(at).copied().unwrap_or(0);
+        let limit = |at: usize| (number(at) != 0).then(|| number(at + 1));
+        Asked {
+            depth_first: number(0) != 0,
+            length: limit(1),
+            count: limit(3),
+            complete: limit(5),
+        }
+    }
+}
+
+/// The answer's numbers and every word of what was lent to be written.
+#[derive(Clone, PartialEq, Eq, Debug)]
+pub struct Outcome {
+    pub answer: Vec<u64>,
+    pub words: Vec<u32>,
+    pub work: Vec<u32>,
+    pub result: Vec<u32>,
+}
+
+impl Outcome {
+    /// An answer whose number is told whole, with zero areas and the words as they were.
+    pub fn new(case: &Case, answer: Vec<u64>) -> Self {
+        Self {
+            answer,
+            words: case.words.clone(),
+            work: vec![0; case.work.len()],
+            result: vec![0; case.result.len()],
+        }
+    }
+
+    /// The number of the answer; 0 for a call that was not refused.
+    pub fn number(&self) -> u64 {
+        self.answer.first().copied().unwrap_or(0)
+    }
+
+    /// As many numbers of the answer as are asked for, zeros behind them.
+    pub fn cut(mut self, case: &Case) -> Self {
+        self.answer.resize(case.answer_length, 0);
+        self
+    }
+
+    /// The edge lists in the first result slots: "edge count, edges, zeros".
+    pub fn put_paths(&mut self, paths: &[Vec<u32>]) {
+        for (edges, slot) in paths
+            .iter()
+            .zip(self.result.chunks_exact_mut(crate::budget::SLOT))
+        {
+            slot[0] = edges.len() as u32;
+            slot[1..=edges.len()].copy_from_slice(edges);
+        }
+    }
+}

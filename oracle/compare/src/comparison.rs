@@ -1,0 +1,54 @@
+//! A case put to all three, and where they differ.
+
+use crate::case::{Call, Case, Outcome};
+use crate::{given, ours, second};
+use std::panic::{AssertUnwindSafe, catch_unwind, set_hook, take_hook};
+
+/// What the three left behind; the given library only where it has the answer.
+pub struct Compared {
+    /// The number of the second implementation's answer, whole.
+    pub number: u64,
+    pub ours: Outcome,
+    pub second: Outcome,
+    /// None within where the given library panicked.
+    pub given: Option<Option<Outcome>>,
+}
+
+impl Compared {
+    pub fn differs(&self) -> bool {
+        let from_given = self
+            .given
+            .as_ref()
+            .is_some_and(|given| given.as_ref() != Some(&self.ours));
+        self.ours != self.second || from_given
+    }
+}
+
+/// None for a case that is not tried: 36.
+pub fn compare(case: &Case) -> Option<Compared> {
+    let whole = second::run(case);
+    let number = if case.call == Call::Lookup {
+        0
+    } else {
+        whole.number()
+    };
+    if number == 36 {
+        return None;
+    }
+    let given = given::has(case, number).then(|| given_or_panic(case));
+    Some(Compared {
+        number,
+        ours: ours::run(case),
+        second: whole.cut(case),
+        given,
+    })
+}
+
+/// A panic of the given library is its answer; a report of it would only repeat that.
+fn given_or_panic(case: &Case) -> Option<Outcome> {
+    let hook = take_hook();
+    set_hook(Box::new(|_| {}));
+    let ran = catch_unwind(AssertUnwindSafe(|| given::run(case).cut(case)));
+    set_hook(hook);
+    ran.ok()
+}

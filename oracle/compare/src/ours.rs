@@ -1,0 +1,92 @@
+//! A call answered by our static library. A slice is passed as pointer and length.
+
+use crate::case::{Call, Case, Outcome};
+
+#[rustfmt::skip]
+unsafe extern "C" {
+    fn pozhdaghi_check(image: *const u8, image_len: usize, answer: *mut u64, answer_len: usize);
+    fn pozhdaghi_is_complete(image: *const u8, image_len: usize, reference: u32,
+        edges: *const u32, edges_len: usize, answer: *mut u64, answer_len: usize);
+    fn pozhdaghi_shadows(image: *const u8, image_len: usize,
+        left: u32, left_edges: *const u32, left_edges_len: usize,
+        right: u32, right_edges: *const u32, right_edges_len: usize,
+        answer: *mut u64, answer_len: usize);
+    fn pozhdaghi_direct(image: *const u8, image_len: usize, reference: u32,
+        asked: *const u64, asked_len: usize, work: *mut u32, work_len: usize,
+        result: *mut u32, result_len: usize, answer: *mut u64, answer_len: usize);
+    fn pozhdaghi_direct_recorded(image: *const u8, image_len: usize, reference: u32,
+        asked: *const u64, asked_len: usize, work: *mut u32, work_len: usize,
+        result: *mut u32, result_len: usize, answer: *mut u64, answer_len: usize);
+    fn pozhdaghi_linear(image: *const u8, image_len: usize, reference: u32,
+        asked: *const u64, asked_len: usize,
+        result: *mut u32, result_len: usize, answer: *mut u64, answer_len: usize);
+    fn pozhdaghi_linear_recorded(image: *const u8, image_len: usize, reference: u32,
+        asked: *const u64, asked_len: usize,
+        result: *mut u32, result_len: usize, answer: *mut u64, answer_len: usize);
+    fn pozhdaghi_fresh(image: *const u8, image_len: usize, words: *mut u32, words_len: usize,
+        answer: *mut u64, answer_len: usize);
+    fn pozhdaghi_replace_file(image: *const u8, image_len: usize, file: u32,
+        asked: *const u64, asked_len: usize, work: *mut u32, work_len: usize,
+        words: *mut u32, words_len: usize, answer: *mut u64, answer_len: usize);
+    fn pozhdaghi_lookup(words: *const u32, words_len: usize, number: u32,
+        answer: *mut u64, answer_len: usize);
+    fn pozhdaghi_stitched(image: *const u8, image_len: usize, words: *const u32, words_len: usize,
+        reference: u32, asked: *const u64, asked_len: usize, work: *mut u32, work_len: usize,
+        result: *mut u32, result_len: usize, answer: *mut u64, answer_len: usize);
+    fn pozhdaghi_stitched_recorded(image: *const u8, image_len: usize,
+        words: *const u32, words_len: usize,
+        reference: u32, asked: *const u64, asked_len: usize, work: *mut u32, work_len: usize,
+        result: *mut u32, result_len: usize, answer: *mut u64, answer_len: usize);
+}
+
+/// What an unwritten number of the answer would show.
+const UNWRITTEN: u64 = 0xABAD_1DEA_ABAD_1DEA;
+
+/// What the call left behind, as many numbers of the answer as were asked for.
+pub fn run(case: &Case) -> Outcome {
+    let mut outcome = Outcome {
+        answer: vec![UNWRITTEN; case.answer_length],
+        words: case.words.clone(),
+        work: case.work.clone(),
+        result: case.result.clone(),
+    };
+    call(case, &mut outcome);
+    outcome
+}
+
+/// SAFETY of every call: each pointer and length come from one vector that lives
+/// until the call has ended, and those that are written are lent nowhere else.
+#[rustfmt::skip]
+fn call(c: &Case, o: &mut Outcome) {
+    let (image, n) = (c.image.as_ptr(), c.image.len());
+    let (asked, asked_n) = (c.asked.as_ptr(), c.asked.len());
+    let (words, words_n) = (o.words.as_mut_ptr(), o.words.len());
+    let (work, work_n) = (o.work.as_mut_ptr(), o.work.len());
+    let (result, result_n) = (o.result.as_mut_ptr(), o.result.len());
+    let (answer, answer_n) = (o.answer.as_mut_ptr(), o.answer.len());
+    unsafe {
+        match c.call {
+            Call::Check => pozhdaghi_check(image, n, answer, answer_n),
+            Call::IsComplete => pozhdaghi_is_complete(image, n, c.number,
+                c.edges.as_ptr(), c.edges.len(), answer, answer_n),
+            Call::Shadows => pozhdaghi_shadows(image, n, c.number, c.edges.as_ptr(), c.edges.len(),
+                c.right_number, c.right_edges.as_ptr(), c.right_edges.len(), answer, answer_n),
+            Call::Direct => pozhdaghi_direct(image, n, c.number, asked, asked_n,
+                work, work_n, result, result_n, answer, answer_n),
+            Call::DirectRecorded => pozhdaghi_direct_recorded(image, n, c.number, asked, asked_n,
+                work, work_n, result, result_n, answer, answer_n),
+            Call::Linear => pozhdaghi_linear(image, n, c.number, asked, asked_n,
+                result, result_n, answer, answer_n),
+            Call::LinearRecorded => pozhdaghi_linear_recorded(image, n, c.number, asked, asked_n,
+                result, result_n, answer, answer_n),
+            Call::Fresh => pozhdaghi_fresh(image, n, words, words_n, answer, answer_n),
+            Call::ReplaceFile => pozhdaghi_replace_file(image, n, c.number, asked, asked_n,
+                work, work_n, words, words_n, answer, answer_n),
+            Call::Lookup => pozhdaghi_lookup(words, words_n, c.number, answer, answer_n),
+            Call::Stitched => pozhdaghi_stitched(image, n, words, words_n, c.number,
+                asked, asked_n, work, work_n, result, result_n, answer, answer_n),
+            Call::StitchedRecorded => pozhdaghi_stitched_recorded(image, n, words, words_n,
+                c.number, asked, asked_n, work, work_n, result, result_n, answer, answer_n),
+        }
+    }
+}

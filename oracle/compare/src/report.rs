@@ -1,0 +1,137 @@
+//! What a run counted, and a difference shown whole.
+
+use crate::case::{Call, Case, Outcome};
+use crate::check::check;
+use crate::comparison::{Compared, compare};
+use crate::database::lookup;
+use std::collections::BTreeMap;
+
+#[derive(Default)]
+pub struct Counts {
+    pub cases: u64,
+    pub differences: u64,
+    /// Cases with an answer that the given library has too.
+    given: u64,
+    /// Per call and number of the answer.
+    numbers: BTreeMap<Call, BTreeMap<u64, u64>>,
+    /// Lookups that hand back an empty part.
+    empty_parts: u64,
+    paths: u64,
+    flags: [u64; 3],
+}
+
+impl Counts {
+    pub fn add(&mut self, case: &Case, compared: &Compared) {
+        self.cases += 1;
+        self.differences += u64::from(compared.differs());
+        self.given += u64::from(compared.given.is_some());
+        *self
+            .numbers
+            .entry(case.call)
+            .or_default()
+            .entry(compared.number)
+            .or_default() += 1;
+        let is_empty_part = case.call == Call::Lookup && lookup(&case.words, case.number).1 == 0;
+        self.empty_parts += u64::from(is_empty_part);
+        let is_search = !case.result.is_empty() && compared.number == 0;
+        if is_search && let [_, paths, _, _, _, _, flags @ ..] = &compared.second.answer[..] {
+            self.paths += paths;
+            for (count, flag) in self.flags.iter_mut().zip(flags) {
+                *count += flag;
+            }
+        }
+    }
+
+    pub fn print(&self) {
+        for (call, numbers) in &self.numbers {
+            let told: Vec<String> = numbers
+                .iter()
+                .map(|(number, count)| format!("{number}: {count}"))
+                .collect();
+            println!(
+                "{call:?} {}: {}",
+                numbers.values().sum::<u64>(),
+                told.join(", ")
+            );
+        }
+        let [length, count, complete] = self.flags;
+        println!("lookups with an empty part {}", self.empty_parts);
+        println!("paths in result slots {}", self.paths);
+        println!("flags: length {length}, path count {count}, complete paths {complete}");
+        println!(
+            "cases {}, of these also put to the given Rust {}",
+            self.cases, self.given
+        );
+        println!("differences {}", self.differences);
+    }
+}
+
+/// The input of a case, as far as its call takes it, and every answer to it.
+pub fn show(case: &Case) {
+    println!("call {:?}", case.call);
+    println!("image {}", hex(&case.image));
+    if let Ok(graph) = check(&case.image) {
+        println!("  files {}", graph.files);
+        for (number, node) in graph.nodes.iter().enumerate() {
+            println!("  node {number} {node:?}");
+        }
+        for (number, edge) in graph.edges.iter().enumerate() {
+            println!("  edge {number} {edge:?}");
+        }
+    }
+    println!("number {}, edges {:?}", case.number, case.edges);
+    if case.call == Call::Shadows {
+        println!(
+            "right number {}, edges {:?}",
+            case.right_number, case.right_edges
+        );
+    }
+    println!("asked {:?}: {:?}", case.asked, case.meaning());
+    println!("database {}", sparse(&case.words));
+    println!(
+        "work {} words, result {} words",
+        case.work.len(),
+        case.result.len()
+    );
+    show_answers(case);
+}
+
+fn show_answers(case: &Case) {
+    let Some(compared) = compare(case) else {
+        return;
+    };
+    show_outcome("ours", case, &compared.ours);
+    show_outcome("second implementation", case, &compared.second);
+    match compared.given {
+        None => println!("given Rust: does not have this"),
+        Some(None) => println!("given Rust: panicked"),
+        Some(Some(given)) => show_outcome("given Rust", case, &given),
+    }
+}
+
+/// Words that are as they must be after most calls are left out.
+fn show_outcome(name: &str, case: &Case, outcome: &Outcome) {
+    println!("{name}: answer {:?}", outcome.answer);
+    println!("  result {}", sparse(&outcome.result));
+    if outcome.work.iter().any(|&word| word != 0) {
+        println!("  work {}", sparse(&outcome.work));
+    }
+    if outcome.words != case.words {
+        println!("  database {}", sparse(&outcome.words));
+    }
+}
+
+fn hex(bytes: &[u8]) -> String {
+    bytes.iter().map(|byte| format!("{byte:02x}")).collect()
+}
+
+/// How many words there are, and those that are not 0 with their places.
+fn sparse(words: &[u32]) -> String {
+    let told: Vec<String> = words
+        .iter()
+        .enumerate()
+        .filter(|&(_, &word)| word != 0)
+        .map(|(at, word)| format!("{at}:{word}"))
+        .collect();
+    format!("{} [{}]", words.len(), told.join(" "))
+}

@@ -1,0 +1,201 @@
+//! What a call is asked: references, orders, limits about what the search needs,
+//! areas about what it then needs, filled with rubbish.
+
+use crate::budget::{Asked, Budget, SLOT, Slots};
+use crate::case::{Call, Case, LONGEST_ANSWER};
+use crate::check::check;
+use crate::graph::Graph;
+use crate::partials::compute;
+use crate::random::Random;
+use crate::second::found;
+
+/// What a search turned out to need without areas; guesses for one that is refused.
+struct Needs {
+    longest: usize,
+    expanded: usize,
+    complete: usize,
+    kept: usize,
+    waiting: usize,
+    /// The search has no end within reason.
+    is_endless: bool,
+}
+
+const GUESS: Needs = Needs {
+    longest: 20,
+    expanded: 12,
+    complete: 3,
+    kept: 3,
+    waiting: 8,
+    is_endless: false,
+};
+
+/// Areas are seldom larger than so many slots: filling them would take the time.
+const MOST_DRAWN: usize = 400;
+
+/// A reference, sometimes another node, sometimes no node at all.
+pub fn reference(random: &mut Random, graph: &Graph) -> u32 {
+    let references = graph.references();
+    if !references.is_empty() && random.percent(92) {
+        return *random.one_of(&references);
+    }
+    number_about(random, graph.nodes.len())
+}
+
+/// Below the bound, at it or far behind it, also where 16 bits would wrap.
+pub fn number_about(random: &mut Random, bound: usize) -> u32 {
+    match random.below(18) {
+        0 => bound as u32,
+        1 => u32::MAX,
+        2 => 65_536u32.wrapping_add(random.below(bound + 1) as u32),
+        _ => random.below(bound.max(1)) as u32,
+    }
+}
+
+/// Draws order, limits, areas and the length of the answer of a search or a
+/// replacement whose other parts are there. False if it has no end within reason.
+pub fn complete(random: &mut Random, case: &mut Case) -> bool {
+    let mut asked = Asked {
+        depth_first: random.percent(50),
+        length: None,
+        count: None,
+        complete: None,
+    };
+    case.asked = numbers(asked);
+    let mut needs = needs(case);
+    if needs.is_endless {
+        asked.count = Some(random.below(300) as u64);
+        case.asked = numbers(asked);
+        needs = self::needs(case);
+    }
+    limit(random, &mut asked.length, needs.longest, 25);
+    limit(random, &mut asked.count, needs.expanded, 25);
+    limit(random, &mut asked.complete, needs.complete, 25);
+    case.asked = numbers(asked);
+    needs = self::needs(case);
+    lend_areas(random, case, &needs);
+    case.asked = oddly_written(random, &case.asked);
+    case.answer_length = answer_length(random);
+    !needs.is_endless
+}
+
+/// Mostly whole; the library writes as many numbers as are asked for.
+pub fn answer_length(random: &mut Random) -> usize {
+    if random.percent(92) {
+        LONGEST_ANSWER
+    } else {
+        random.below(13)
+    }
+}
+
+fn numbers(asked: Asked) -> Vec<u64> {
+    let mut numbers = vec![u64::from(asked.depth_first)];
+    for limit in [asked.length, asked.count, asked.complete] {
+        numbers.extend([u64::from(limit.is_some()), limit.unwrap_or(0)]);
+    }
+    numbers
+}
+
+/// The same in another writing: any number but 0 is yes, what stands behind a no
+/// does not matter, zeros at the end may be missing.
+fn oddly_written(random: &mut Random, numbers: &[u64]) -> Vec<u64> {
+    let mut odd = numbers.to_vec();
+    if random.percent(85) {
+        return odd;
+    }
+    for at in [0, 1, 3, 5] {
+        if odd[at] != 0 {
+            odd[at] = *random.one_of(&[1, 2, 1 << 32, u64::MAX]);
+        } else if at > 0 {
+            odd[at + 1] = random.next();
+        }
+    }
+    while odd.last() == Some(&0) && random.percent(70) {
+        odd.pop();
+    }
+    odd
+}
+
+fn needs(case: &Case) -> Needs {
+    let outcome = if case.call == Call::ReplaceFile {
+        let graph = check(&case.image);
+        let computed = |graph: Graph| compute(&graph, case.number, case.meaning(), usize::MAX);
+        graph.and_then(computed).map(|computed| computed.budget)
+    } else {
+        found(case, Slots::ENDLESS).map(|found| found.budget)
+    };
+    match outcome {
+        Ok(budget) => needs_of(&budget),
+        Err(refusal) => Needs {
+            is_endless: refusal[0] == 36,
+            ..GUESS
+        },
+    }
+}
+
+fn needs_of(budget: &Budget) -> Needs {
+    Needs {
+        longest: budget.longest,
+        expanded: budget.expanded as usize,
+        complete: budget.complete as usize,
+        kept: budget.kept.len(),
+        waiting: budget.most_waiting,
+        is_endless: false,
+    }
+}
+
+/// With this chance a limit, mostly about what is needed; one that is there may
+/// only become lower.
+fn limit(random: &mut Random, limit: &mut Option<u64>, need: usize, chance: usize) {
+    if !random.percent(chance) {
+        return;
+    }
+    let drawn = match random.below(8) {
+        0 => 0,
+        1 => random.below(need + 3) as u64,
+        2 => *random.one_of(&[u64::MAX, 1 << 32, 126, 127, 128]),
+        3 => need as u64,
+        4 => need as u64 + 1,
+        _ => (need as u64).saturating_sub(1),
+    };
+    *limit = Some(limit.map_or(drawn, |before| before.min(drawn)));
+}
+
+/// The areas that the call takes. Sometimes both are too small, to see which of
+/// 31 and 32 comes first.
+fn lend_areas(random: &mut Random, case: &mut Case, needs: &Needs) {
+    let is_tight = random.percent(12);
+    let takes_work = !matches!(case.call, Call::Linear | Call::LinearRecorded);
+    let takes_result = case.call != Call::ReplaceFile;
+    if takes_work {
+        // A refusal for want of slots is of no use too often where a sequence builds on it.
+        let is_roomy = case.call == Call::ReplaceFile && random.percent(50);
+        let more = if is_roomy { 4 } else { 0 };
+        let slots = more + slots_about(random, needs.waiting, is_tight);
+        case.work = area(random, slots);
+    }
+    if takes_result {
+        let slots = slots_about(random, needs.kept, is_tight);
+        case.result = area(random, slots);
+    }
+}
+
+fn slots_about(random: &mut Random, need: usize, is_tight: bool) -> usize {
+    let need = need.min(MOST_DRAWN);
+    if is_tight {
+        return random.below(need + 1);
+    }
+    match random.below(12) {
+        0 => 0,
+        1 => random.below(need + 2),
+        2 => need.saturating_sub(1),
+        3 => need + 1,
+        4 => need + random.below(20),
+        _ => need,
+    }
+}
+
+/// So many slots, with some words behind the last whole one.
+fn area(random: &mut Random, slots: usize) -> Vec<u32> {
+    let behind = random.below(SLOT) * random.below(2);
+    random.rubbish(SLOT * slots + behind)
+}

@@ -1,0 +1,214 @@
+//! A scene: a drawn graph and the calls that are tried on it.
+
+use crate::case::{Call, Case};
+use crate::damage;
+use crate::database::{DATABASE_SLOT, FIRST_SLOT, USED};
+use crate::draw;
+use crate::graph::Graph;
+use crate::lists;
+use crate::random::Random;
+use crate::requests::{self, number_about};
+use crate::second;
+use crate::slots;
+
+const SEARCHES: [Call; 5] = [
+    Call::Direct,
+    Call::Direct,
+    Call::DirectRecorded,
+    Call::Linear,
+    Call::LinearRecorded,
+];
+const STITCHED: [Call; 2] = [Call::Stitched, Call::StitchedRecorded];
+
+pub fn scene(random: &mut Random) -> Vec<Case> {
+    let graph = draw::graph(random);
+    let mut cases = match random.weighted(&[30, 30, 25, 15]) {
+        0 => searches(random, &graph),
+        1 => filing(random, &graph),
+        2 => any_slots(random, &graph),
+        _ => damages(random, &graph),
+    };
+    cases.push(Case::new(Call::Check, &graph.image()));
+    cases
+}
+
+/// Direct and linear searches, and what is judged of paths.
+fn searches(random: &mut Random, graph: &Graph) -> Vec<Case> {
+    let image = graph.image();
+    let mut cases = Vec::new();
+    for _ in 0..8 {
+        let call = *random.one_of(&SEARCHES);
+        cases.extend(search(random, graph, &image, call, &[]));
+    }
+    for _ in 0..4 {
+        cases.push(judgement(random, graph, &image));
+    }
+    cases
+}
+
+/// None for one without end within reason.
+fn search(
+    random: &mut Random,
+    graph: &Graph,
+    image: &[u8],
+    call: Call,
+    words: &[u32],
+) -> Option<Case> {
+    let mut case = Case::new(call, image);
+    case.number = requests::reference(random, graph);
+    case.words = words.to_vec();
+    requests::complete(random, &mut case).then_some(case)
+}
+
+fn judgement(random: &mut Random, graph: &Graph, image: &[u8]) -> Case {
+    let call = *random.one_of(&[Call::IsComplete, Call::Shadows, Call::Shadows]);
+    let mut case = Case::new(call, image);
+    case.number = requests::reference(random, graph);
+    case.edges = lists::edge_list(random, graph, case.number);
+    if call == Call::Shadows && random.percent(85) {
+        case.right_number = case.number;
+        case.right_edges = lists::forked(random, graph, case.number, &case.edges);
+    } else if call == Call::Shadows {
+        case.right_number = requests::reference(random, graph);
+        case.right_edges = lists::edge_list(random, graph, case.right_number);
+    }
+    case.answer_length = requests::answer_length(random);
+    case
+}
+
+/// A fresh database, then replacements on this graph and on other states of it,
+/// with lookups and stitched searches between them.
+fn filing(random: &mut Random, graph: &Graph) -> Vec<Case> {
+    let capacity = *random.one_of(&[0, 2, 6, 12, 30, 60, 150]);
+    let behind = random.below(DATABASE_SLOT);
+    let mut state = graph.clone();
+    let mut cases = vec![fresh(
+        random,
+        &state.image(),
+        FIRST_SLOT + DATABASE_SLOT * capacity + behind,
+    )];
+    let mut words = second::run(&cases[0]).words;
+    for turn in 0..random.within(2, 5) {
+        if random.percent(25) {
+            state = draw::variant(random, graph);
+        }
+        let image = state.image();
+        let file = if turn < graph.files {
+            turn as u32
+        } else {
+            number_about(random, graph.files)
+        };
+        if let Some(case) = replacement(random, &image, file, &words) {
+            words = second::run(&case).words;
+            cases.push(case);
+        }
+        if random.percent(50) {
+            cases.push(lookup(random, &words));
+        }
+        for _ in 0..random.within(1, 3) {
+            let call = *random.one_of(&STITCHED);
+            cases.extend(search(random, &state, &image, call, &words));
+        }
+    }
+    cases
+}
+
+fn fresh(random: &mut Random, image: &[u8], length: usize) -> Case {
+    let mut case = Case::new(Call::Fresh, image);
+    let length = if random.percent(4) {
+        random.below(4)
+    } else {
+        length
+    };
+    case.words = random.rubbish(length);
+    case.answer_length = requests::answer_length(random);
+    case
+}
+
+/// None for a computation without end within reason.
+fn replacement(random: &mut Random, image: &[u8], file: u32, words: &[u32]) -> Option<Case> {
+    let mut case = Case::new(Call::ReplaceFile, image);
+    case.number = file;
+    case.words = words.to_vec();
+    requests::complete(random, &mut case).then_some(case)
+}
+
+fn lookup(random: &mut Random, words: &[u32]) -> Case {
+    let mut case = Case::new(Call::Lookup, &[]);
+    case.words = words.to_vec();
+    case.number = number_about(random, words.get(USED).map_or(1, |&used| used as usize));
+    case.answer_length = requests::answer_length(random);
+    case
+}
+
+/// Slots that no replacement files, and words that are no database; some belong
+/// to another state of the graph.
+fn any_slots(random: &mut Random, graph: &Graph) -> Vec<Case> {
+    let image = graph.image();
+    let filed_on = if random.percent(30) {
+        draw::variant(random, graph)
+    } else {
+        graph.clone()
+    };
+    let mut words = if random.below(120) == 0 {
+        slots::many_slots(random, &filed_on)
+    } else {
+        slots::any_words(random, &filed_on)
+    };
+    let mut cases = Vec::new();
+    for turn in 0..6 {
+        if turn == 3 && random.percent(80) {
+            slots::spoil(random, &mut words);
+        }
+        let call = *random.one_of(&STITCHED);
+        cases.extend(search(random, graph, &image, call, &words));
+        if turn % 2 == 0 {
+            let file = number_about(random, graph.files);
+            cases.extend(replacement(random, &image, file, &words));
+        }
+        if turn % 3 == 0 {
+            cases.push(lookup(random, &words));
+        }
+    }
+    cases
+}
+
+/// Damaged images, mostly for the check alone; every other call must refuse them alike.
+fn damages(random: &mut Random, graph: &Graph) -> Vec<Case> {
+    let mut cases = Vec::new();
+    for _ in 0..10 {
+        let image = if random.percent(90) {
+            damage::damaged(random, graph)
+        } else {
+            damage::noise(random)
+        };
+        let mut case = Case::new(Call::Check, &image);
+        case.answer_length = requests::answer_length(random);
+        cases.push(case);
+        if random.percent(40) {
+            cases.extend(other_call(random, graph, &image));
+        }
+    }
+    cases
+}
+
+fn other_call(random: &mut Random, graph: &Graph, image: &[u8]) -> Option<Case> {
+    let mut words = slots::any_words(random, graph);
+    if random.percent(30) {
+        slots::spoil(random, &mut words);
+    }
+    match random.below(6) {
+        0 => Some(judgement(random, graph, image)),
+        1 => Some(fresh(random, image, words.len())),
+        2 => {
+            let file = number_about(random, graph.files);
+            replacement(random, image, file, &words)
+        }
+        3 => search(random, graph, image, Call::Stitched, &words),
+        4 => search(random, graph, image, Call::StitchedRecorded, &words),
+        _ => {
+            let call = *random.one_of(&SEARCHES);
+            search(random, graph, image, call, &[])
+        }
+    }
+}

@@ -1,0 +1,114 @@
+//! A call answered by the second implementation of document 01.
+
+use crate::budget::{SLOT, Slots};
+use crate::case::{Call, Case, Outcome};
+use crate::check::{Refusal, check};
+use crate::database::{check_database, fresh, lookup, partial_paths, replace_file};
+use crate::path::replay;
+use crate::search::{Found, direct, linear, stitched};
+
+/// What the call must leave behind, the answer whole.
+pub fn run(case: &Case) -> Outcome {
+    answered(case).unwrap_or_else(|refusal| Outcome::new(case, refusal))
+}
+
+fn answered(case: &Case) -> Result<Outcome, Refusal> {
+    match case.call {
+        Call::Check => checked(case),
+        Call::IsComplete => is_complete(case),
+        Call::Shadows => shadows(case),
+        Call::Direct
+        | Call::DirectRecorded
+        | Call::Linear
+        | Call::LinearRecorded
+        | Call::Stitched
+        | Call::StitchedRecorded => searched(case),
+        Call::Fresh => created(case),
+        Call::ReplaceFile => replaced(case),
+        Call::Lookup => Ok(looked_up(case)),
+    }
+}
+
+fn checked(case: &Case) -> Result<Outcome, Refusal> {
+    let graph = check(&case.image)?;
+    let counts = [graph.files, graph.nodes.len(), graph.edges.len()].map(|count| count as u64);
+    Ok(Outcome::new(case, [&[0], &counts[..]].concat()))
+}
+
+fn is_complete(case: &Case) -> Result<Outcome, Refusal> {
+    let graph = check(&case.image)?;
+    let path = replay(&graph, case.number, &case.edges)?;
+    Ok(Outcome::new(case, vec![0, path.is_complete(&graph).into()]))
+}
+
+/// "The left path before the right, under the same refusals."
+fn shadows(case: &Case) -> Result<Outcome, Refusal> {
+    let graph = check(&case.image)?;
+    let left = replay(&graph, case.number, &case.edges)?;
+    let right = replay(&graph, case.right_number, &case.right_edges)?;
+    Ok(Outcome::new(case, vec![0, left.shadows(&right).into()]))
+}
+
+/// What a search finds in areas of so many slots.
+pub fn found(case: &Case, slots: Slots) -> Result<Found, Refusal> {
+    let graph = check(&case.image)?;
+    let asked = case.meaning();
+    match case.call {
+        Call::Linear | Call::LinearRecorded => linear(&graph, case.number, asked, slots.results),
+        Call::Stitched | Call::StitchedRecorded => {
+            check_database(&graph, &case.words)?;
+            stitched(
+                &graph,
+                &partial_paths(&case.words),
+                case.number,
+                asked,
+                slots,
+            )
+        }
+        _ => direct(&graph, case.number, asked, slots),
+    }
+}
+
+fn searched(case: &Case) -> Result<Outcome, Refusal> {
+    let slots = Slots {
+        waiting: case.work.len() / SLOT,
+        results: case.result.len() / SLOT,
+    };
+    let found = found(case, slots)?;
+    let paths = if case.call.is_recorded() {
+        found.recorded.clone()
+    } else {
+        found.returned()
+    };
+    let told = [vec![0, paths.len() as u64], found.told()].concat();
+    let mut outcome = Outcome::new(case, told);
+    outcome.put_paths(&paths.into_iter().map(|path| path.edges).collect::<Vec<_>>());
+    Ok(outcome)
+}
+
+fn created(case: &Case) -> Result<Outcome, Refusal> {
+    let graph = check(&case.image)?;
+    let mut outcome = Outcome::new(case, vec![0]);
+    fresh(&graph, &mut outcome.words)?;
+    Ok(outcome)
+}
+
+fn replaced(case: &Case) -> Result<Outcome, Refusal> {
+    let graph = check(&case.image)?;
+    let mut outcome = Outcome::new(case, vec![0]);
+    let waiting = case.work.len() / SLOT;
+    let computed = replace_file(
+        &graph,
+        case.number,
+        case.meaning(),
+        waiting,
+        &mut outcome.words,
+    )?;
+    outcome.answer.extend(computed.told());
+    Ok(outcome)
+}
+
+fn looked_up(case: &Case) -> Outcome {
+    let (place, length) = lookup(&case.words, case.number);
+    Outcome::new(case, vec![place as u64, length as u64])
+}

@@ -1,0 +1,41 @@
+//! Proves the crate `service`, writes `target/staticlib/libservice.a`, and
+//! links it. With `POZHDAGHI_LIB_DIR` the archive is taken from that folder
+//! and nothing is proved here.
+
+use std::env;
+use std::path::{Path, PathBuf};
+use std::process::{exit, Command};
+
+fn main() {
+    println!("cargo:rerun-if-env-changed=POZHDAGHI_LIB_DIR");
+    let folder = match env::var_os("POZHDAGHI_LIB_DIR") {
+        Some(folder) => PathBuf::from(folder),
+        None => prove(),
+    };
+    println!(
+        "cargo:rerun-if-changed={}",
+        folder.join("libservice.a").display()
+    );
+    println!("cargo:rustc-link-search=native={}", folder.display());
+    println!("cargo:rustc-link-lib=static=service");
+}
+
+/// The folder that `rt staticlib` writes to. Without a proof there is no
+/// archive, and the build ends here.
+fn prove() -> PathBuf {
+    let package = env::var_os("CARGO_MANIFEST_DIR").unwrap_or_default();
+    let repository = Path::new(&package).join("..");
+    println!(
+        "cargo:rerun-if-changed={}",
+        repository.join("crates").display()
+    );
+    let proved = Command::new("rt")
+        .args(["staticlib", "service"])
+        .current_dir(&repository)
+        .status();
+    if !matches!(&proved, Ok(status) if status.success()) {
+        eprintln!("`rt staticlib service` failed: {proved:?}");
+        exit(1);
+    }
+    repository.join("target").join("staticlib")
+}

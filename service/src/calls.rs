@@ -1,0 +1,317 @@
+//! The safe functions. Each hands the library the pointer and the length of
+//! slices that it holds, which is all that the library reads and writes.
+
+use crate::answer::{self, Counts, PartialStatistics, Refusal, Resolution};
+use crate::link::{self, Answer, Direct, Linear, Stitched};
+use crate::request::Request;
+
+const EMPTY: Answer = [0; answer::ANSWER];
+
+/// Whether the bytes are an image, and what it counts. Refused by 1 to 5.
+pub fn check(image: &[u8]) -> Result<Counts, Refusal> {
+    let mut told = EMPTY;
+    // SAFETY: each pointer and length is that of a slice held here.
+    unsafe {
+        link::pozhdaghi_check(image.as_ptr(), image.len(), told.as_mut_ptr(), told.len());
+    }
+    answer::counts(&told)
+}
+
+/// Whether the path of a reference and its edges is complete.
+pub fn is_complete(image: &[u8], reference: u32, edges: &[u32]) -> Result<bool, Refusal> {
+    let mut told = EMPTY;
+    // SAFETY: each pointer and length is that of a slice held here.
+    unsafe {
+        link::pozhdaghi_is_complete(
+            image.as_ptr(),
+            image.len(),
+            reference,
+            edges.as_ptr(),
+            edges.len(),
+            told.as_mut_ptr(),
+            told.len(),
+        );
+    }
+    answer::judgement(&told)
+}
+
+/// Whether the left path, a reference and its edges, shadows the right one.
+pub fn shadows(
+    image: &[u8],
+    (left, left_edges): (u32, &[u32]),
+    (right, right_edges): (u32, &[u32]),
+) -> Result<bool, Refusal> {
+    let mut told = EMPTY;
+    // SAFETY: each pointer and length is that of a slice held here.
+    unsafe {
+        link::pozhdaghi_shadows(
+            image.as_ptr(),
+            image.len(),
+            left,
+            left_edges.as_ptr(),
+            left_edges.len(),
+            right,
+            right_edges.as_ptr(),
+            right_edges.len(),
+            told.as_mut_ptr(),
+            told.len(),
+        );
+    }
+    answer::judgement(&told)
+}
+
+/// Direct search from a reference; the returned paths stand in `result`.
+pub fn direct(
+    image: &[u8],
+    reference: u32,
+    request: &Request,
+    work: &mut [u32],
+    result: &mut [u32],
+) -> Result<Resolution, Refusal> {
+    search_directly(
+        link::pozhdaghi_direct,
+        image,
+        reference,
+        request,
+        work,
+        result,
+    )
+}
+
+/// The same search; the recorded paths stand in `result`.
+pub fn direct_recorded(
+    image: &[u8],
+    reference: u32,
+    request: &Request,
+    work: &mut [u32],
+    result: &mut [u32],
+) -> Result<Resolution, Refusal> {
+    search_directly(
+        link::pozhdaghi_direct_recorded,
+        image,
+        reference,
+        request,
+        work,
+        result,
+    )
+}
+
+fn search_directly(
+    call: Direct,
+    image: &[u8],
+    reference: u32,
+    request: &Request,
+    work: &mut [u32],
+    result: &mut [u32],
+) -> Result<Resolution, Refusal> {
+    let asked = request.numbers();
+    let mut told = EMPTY;
+    // SAFETY: each pointer and length is that of a slice held here.
+    unsafe {
+        call(
+            image.as_ptr(),
+            image.len(),
+            reference,
+            asked.as_ptr(),
+            asked.len(),
+            work.as_mut_ptr(),
+            work.len(),
+            result.as_mut_ptr(),
+            result.len(),
+            told.as_mut_ptr(),
+            told.len(),
+        );
+    }
+    answer::resolution(&told)
+}
+
+/// Linear search from a reference; the returned paths stand in `result`.
+pub fn linear(
+    image: &[u8],
+    reference: u32,
+    request: &Request,
+    result: &mut [u32],
+) -> Result<Resolution, Refusal> {
+    search_linearly(link::pozhdaghi_linear, image, reference, request, result)
+}
+
+/// The same search; the recorded paths stand in `result`.
+pub fn linear_recorded(
+    image: &[u8],
+    reference: u32,
+    request: &Request,
+    result: &mut [u32],
+) -> Result<Resolution, Refusal> {
+    search_linearly(
+        link::pozhdaghi_linear_recorded,
+        image,
+        reference,
+        request,
+        result,
+    )
+}
+
+fn search_linearly(
+    call: Linear,
+    image: &[u8],
+    reference: u32,
+    request: &Request,
+    result: &mut [u32],
+) -> Result<Resolution, Refusal> {
+    let asked = request.numbers();
+    let mut told = EMPTY;
+    // SAFETY: each pointer and length is that of a slice held here.
+    unsafe {
+        call(
+            image.as_ptr(),
+            image.len(),
+            reference,
+            asked.as_ptr(),
+            asked.len(),
+            result.as_mut_ptr(),
+            result.len(),
+            told.as_mut_ptr(),
+            told.len(),
+        );
+    }
+    answer::resolution(&told)
+}
+
+/// Stitched search from a reference over the partial paths in `words`; the
+/// returned paths stand in `result`.
+pub fn stitched(
+    image: &[u8],
+    words: &[u32],
+    reference: u32,
+    request: &Request,
+    work: &mut [u32],
+    result: &mut [u32],
+) -> Result<Resolution, Refusal> {
+    search_stitched(
+        link::pozhdaghi_stitched,
+        image,
+        words,
+        reference,
+        request,
+        work,
+        result,
+    )
+}
+
+/// The same search; the recorded paths stand in `result`.
+pub fn stitched_recorded(
+    image: &[u8],
+    words: &[u32],
+    reference: u32,
+    request: &Request,
+    work: &mut [u32],
+    result: &mut [u32],
+) -> Result<Resolution, Refusal> {
+    search_stitched(
+        link::pozhdaghi_stitched_recorded,
+        image,
+        words,
+        reference,
+        request,
+        work,
+        result,
+    )
+}
+
+fn search_stitched(
+    call: Stitched,
+    image: &[u8],
+    words: &[u32],
+    reference: u32,
+    request: &Request,
+    work: &mut [u32],
+    result: &mut [u32],
+) -> Result<Resolution, Refusal> {
+    let asked = request.numbers();
+    let mut told = EMPTY;
+    // SAFETY: each pointer and length is that of a slice held here.
+    unsafe {
+        call(
+            image.as_ptr(),
+            image.len(),
+            words.as_ptr(),
+            words.len(),
+            reference,
+            asked.as_ptr(),
+            asked.len(),
+            work.as_mut_ptr(),
+            work.len(),
+            result.as_mut_ptr(),
+            result.len(),
+            told.as_mut_ptr(),
+            told.len(),
+        );
+    }
+    answer::resolution(&told)
+}
+
+/// Makes a fresh database of the words; a refused call alters none.
+pub fn fresh(image: &[u8], words: &mut [u32]) -> Result<(), Refusal> {
+    let mut told = EMPTY;
+    // SAFETY: each pointer and length is that of a slice held here.
+    unsafe {
+        link::pozhdaghi_fresh(
+            image.as_ptr(),
+            image.len(),
+            words.as_mut_ptr(),
+            words.len(),
+            told.as_mut_ptr(),
+            told.len(),
+        );
+    }
+    answer::done(&told)
+}
+
+/// Replaces a file's partial paths in the database; a refused call alters no
+/// word of it.
+pub fn replace_file(
+    image: &[u8],
+    file: u32,
+    request: &Request,
+    work: &mut [u32],
+    words: &mut [u32],
+) -> Result<PartialStatistics, Refusal> {
+    let asked = request.numbers();
+    let mut told = EMPTY;
+    // SAFETY: each pointer and length is that of a slice held here.
+    unsafe {
+        link::pozhdaghi_replace_file(
+            image.as_ptr(),
+            image.len(),
+            file,
+            asked.as_ptr(),
+            asked.len(),
+            work.as_mut_ptr(),
+            work.len(),
+            words.as_mut_ptr(),
+            words.len(),
+            told.as_mut_ptr(),
+            told.len(),
+        );
+    }
+    answer::replacement(&told)
+}
+
+/// The edges of a partial path, as a part of the words; empty if it is dead,
+/// beyond use, or the words are no database.
+pub fn lookup(words: &[u32], number: u32) -> &[u32] {
+    let mut told = EMPTY;
+    // SAFETY: each pointer and length is that of a slice held here.
+    unsafe {
+        link::pozhdaghi_lookup(
+            words.as_ptr(),
+            words.len(),
+            number,
+            told.as_mut_ptr(),
+            told.len(),
+        );
+    }
+    let [place, count, ..] = told;
+    let (from, up_to) = (place as usize, place.saturating_add(count) as usize);
+    words.get(from..up_to).unwrap_or(&[])
+}

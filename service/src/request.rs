@@ -1,0 +1,55 @@
+//! What a search or a replacement is asked, as the library's numbers.
+
+/// The order in which waiting paths are taken.
+#[derive(Clone, Copy, Debug, Default, PartialEq, Eq)]
+pub enum Order {
+    #[default]
+    BreadthFirst,
+    DepthFirst,
+}
+
+/// Limits on a path's length, on the number of expanded paths, and on the
+/// complete paths that are kept; `None` is no limit.
+#[derive(Clone, Copy, Debug, Default, PartialEq, Eq)]
+pub struct Limits {
+    pub length: Option<u64>,
+    pub paths: Option<u64>,
+    pub complete: Option<u64>,
+}
+
+/// A search reads all of it, a linear search no order, a replacement no limit
+/// on complete paths.
+#[derive(Clone, Copy, Debug, Default, PartialEq, Eq)]
+pub struct Request {
+    pub order: Order,
+    pub limits: Limits,
+}
+
+impl Request {
+    /// The order, then for each limit whether there is one, and its value.
+    pub(crate) fn numbers(&self) -> [u64; 7] {
+        let order = match self.order {
+            Order::BreadthFirst => 0,
+            Order::DepthFirst => 1,
+        };
+        let [length, length_value] = limit(self.limits.length);
+        let [paths, paths_value] = limit(self.limits.paths);
+        let [complete, complete_value] = limit(self.limits.complete);
+        [
+            order,
+            length,
+            length_value,
+            paths,
+            paths_value,
+            complete,
+            complete_value,
+        ]
+    }
+}
+
+fn limit(limit: Option<u64>) -> [u64; 2] {
+    match limit {
+        Some(value) => [1, value],
+        None => [0, 0],
+    }
+}
