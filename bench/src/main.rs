@@ -58,8 +58,8 @@ fn run_only(words: &[String], bytes: &[u8], settings: &Settings) {
         "load" => theirs::load_often(bytes, times * settings.calls(job)),
         "ours" => {
             let mut ours = ours::Ours::new(bytes, settings);
-            let (_, _, slots) = ours.run(job);
-            (1..times).for_each(|_| drop(ours.run_from(job, slots)));
+            let slots = ours.fewest_slots(job);
+            (0..times).for_each(|_| drop(ours.run(job, slots)));
         }
         _ => {
             let mut theirs = theirs::Theirs::new(bytes, settings);

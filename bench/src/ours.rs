@@ -1,6 +1,5 @@
-//! The proved library's side. The areas are as small as no call is refused 31
-//! or 32 in, counted in slots and doubled from 128; the database has all the
-//! slots that one may have.
+//! The proved library's side. The areas have the fewest slots in which no call
+//! is refused 31 or 32; the database has all the slots that one may have.
 
 use crate::settings::Settings;
 use crate::{Job, Told};
@@ -8,7 +7,6 @@ use pozhdaghi::{DATABASE_HEAD, RECORD_WORDS, Refusal, SLOT_WORDS};
 use std::time::{Duration, Instant};
 
 const MAX_RECORDS: usize = 4_096;
-const FEWEST_SLOTS: usize = 128;
 const MOST_SLOTS: usize = 65_536;
 
 pub struct Ours<'a> {
@@ -70,27 +68,36 @@ impl<'a> Ours<'a> {
             work: Vec::new(),
             result: Vec::new(),
         };
-        ours.run(Job::Replace);
+        let slots = ours.fewest_slots(Job::Replace);
+        ours.run(Job::Replace, slots);
         ours
     }
 
-    /// The time of all calls of a job, what they answered, and the slots lent.
-    pub fn run(&mut self, job: Job) -> (Duration, Vec<Told>, usize) {
-        self.run_from(job, FEWEST_SLOTS)
-    }
-
-    pub fn run_from(&mut self, job: Job, slots: usize) -> (Duration, Vec<Told>, usize) {
-        let mut slots = slots;
-        loop {
-            let (time, told) = self.attempt(job, slots);
-            if slots >= MOST_SLOTS || told.iter().all(|told| told[0] != 31 && told[0] != 32) {
-                return (time, told, slots);
-            }
-            slots *= 2;
+    /// The fewest slots in which a job is done: doubled until it is, then halved in on.
+    pub fn fewest_slots(&mut self, job: Job) -> usize {
+        let mut enough = 1;
+        while enough < MOST_SLOTS && !self.is_done(job, enough) {
+            enough *= 2;
         }
+        let mut few = enough / 2;
+        while few + 1 < enough {
+            let middle = usize::midpoint(few, enough);
+            if self.is_done(job, middle) {
+                enough = middle;
+            } else {
+                few = middle;
+            }
+        }
+        enough
     }
 
-    fn attempt(&mut self, job: Job, slots: usize) -> (Duration, Vec<Told>) {
+    fn is_done(&mut self, job: Job, slots: usize) -> bool {
+        let (_, told) = self.run(job, slots);
+        told.iter().all(|told| told[0] != 31 && told[0] != 32)
+    }
+
+    /// The time of all calls of a job with so many slots, and what they answered.
+    pub fn run(&mut self, job: Job, slots: usize) -> (Duration, Vec<Told>) {
         let request = self.settings.request(job);
         // Lent again in every run, as a service would keep them.
         let lent = slots * SLOT_WORDS;

@@ -57,9 +57,10 @@ fn compare_job(
     theirs: &mut Theirs,
 ) -> bool {
     let calls = settings.calls(job);
-    let (_, our_answers, slots) = ours.run(job);
+    let slots = ours.fewest_slots(job);
+    let (_, our_answers) = ours.run(job, slots);
     let (_, their_answers) = theirs.run(job);
-    let our_time = best_of(|| ours.run_from(job, slots).0);
+    let our_time = best_of(|| ours.run(job, slots).0);
     let their_time = best_of(|| theirs.run(job).0);
     let checks = best_of(|| timed(|| ours::check(bytes, calls)));
     let loads = best_of(|| timed(|| theirs::load_often(bytes, calls)));

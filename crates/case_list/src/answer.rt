@@ -51,20 +51,26 @@ pub fn behind(list: &[u8], at: usize) -> usize
     at + 2 + 4 * list::short(list, at) as usize
 }
 
-// Are the expected numbers at a place those that were written?
-pub fn same(list: &[u8], at: usize, given: &[u32], count: usize) -> bool
-    requires { ⌜ at + 1000000 < mostPlace ⌝ }
+// Are the numbers from a place on, 4 bytes each, those that were written?
+pub fn same_numbers(list: &[u8], from: usize, expected: usize, given: &[u32], count: usize) -> bool
+    requires { ⌜ (from + 500000 < mostPlace) × (expected < 65536) ⌝ }
 {
-    let expected = list::short(list, at) as usize;
     if expected != count {
         return false;
     }
     let mut i: usize = 0;
     while i < expected {
-        if list::long(list, at + 2 + 4 * i) != word(given, i) {
+        if list::long(list, from + 4 * i) != word(given, i) {
             return false;
         }
         i += 1;
     }
     true
+}
+
+// Are the expected numbers at a place those that were written?
+pub fn same(list: &[u8], at: usize, given: &[u32], count: usize) -> bool
+    requires { ⌜ at + 1000000 < mostPlace ⌝ }
+{
+    same_numbers(list, at + 2, list::short(list, at) as usize, given, count)
 }

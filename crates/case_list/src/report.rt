@@ -14,13 +14,12 @@ fn print_one(number: u32) {
     print_named(b" ", number as u64);
 }
 
-fn print_expected(list: &[u8], at: usize)
-    requires { ⌜ at + 1000000 < mostPlace ⌝ }
+fn print_expected(list: &[u8], from: usize, count: usize)
+    requires { ⌜ (from + 500000 < mostPlace) × (count < 65536) ⌝ }
 {
-    let count = list::short(list, at) as usize;
     let mut i: usize = 0;
     while i < count {
-        print_one(list::long(list, at + 2 + 4 * i));
+        print_one(list::long(list, from + 4 * i));
         i += 1;
     }
 }
@@ -33,17 +32,33 @@ fn print_given(given: &[u32], count: usize) {
     }
 }
 
-// The case of a kind whose expected answer stands at a place.
-pub fn tell_difference(kind: &[u8], case: u64, list: &[u8], at: usize, given: &[u32], count: usize)
-    requires { ⌜ at + 1000000 < mostPlace ⌝ }
+// The case of a kind whose expected numbers stand from a place on.
+pub fn tell_numbers(
+    kind: &[u8],
+    case: u64,
+    list: &[u8],
+    from: usize,
+    expected: usize,
+    given: &[u32],
+    count: usize,
+)
+    requires { ⌜ (from + 500000 < mostPlace) × (expected < 65536) ⌝ }
 {
     io::write_all(STDOUT_FILENO, kind);
     print_named(b" case ", case);
     io::write_all(STDOUT_FILENO, b" expected");
-    print_expected(list, at);
+    print_expected(list, from, expected);
     io::write_all(STDOUT_FILENO, b" given");
     print_given(given, count);
     io::write_all(STDOUT_FILENO, b"\n");
+}
+
+// The case of a kind whose expected answer stands at a place.
+pub fn tell_difference(kind: &[u8], case: u64, list: &[u8], at: usize, given: &[u32], count: usize)
+    requires { ⌜ at + 1000000 < mostPlace ⌝ }
+{
+    let expected = list::short(list, at) as usize;
+    tell_numbers(kind, case, list, at + 2, expected, given, count);
 }
 
 pub fn tell_sums(kind: &[u8], cases: u64, differences: u64) {

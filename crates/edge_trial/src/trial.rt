@@ -9,7 +9,7 @@ ghost use Rattle.semantics.specs.Limits.{within};
 ghost use Rattle.storage.specs.Rows.{nodeRow, edgeRow};
 ghost use Rattle.stepping.specs.Judged.{Ready, judgedOf};
 ghost use Rattle.edge_trial.specs.Trials.{triedBy, trialBy};
-use graph_search::path_budget::Budget;
+use budget::path_budget::Budget;
 use search_state::item;
 use semantics::bounds::MAX_EDGES;
 use stepping::step;

@@ -20,7 +20,7 @@ use Rattle.semantics.specs.Linear.{first, later, onlyTries, linearSetting}
 use Rattle.words.specs.Slots.{IsSlot, SlotsIn}
 use Rattle.storage.specs.Rows.{Loaded}
 use Rattle.stepping.specs.Judged.{Stepped}
-use Rattle.graph_search.specs.Budget.{limitsOf}
+use Rattle.budget.specs.Budget.{limitsOf}
 use Rattle.search_state.specs.declared.state.SearchState.{SearchState}
 use Rattle.search_state.specs.Items.{Carries}
 use Rattle.search_state.specs.Reps.{slotOf, Counts, Few, Replayed}

@@ -21,8 +21,8 @@ use Rattle.partial_state.specs.declared.extraction.Config.{Config}
 use Rattle.partial_state.specs.Filings.{Fits}
 use Rattle.partial.specs.declared.compute.Computed.{Computed}
 use Rattle.partial.specs.declared.replace.Sizes.{Sizes}
-use Rattle.partial.specs.Expansions.{Ends}
-use Rattle.partial.specs.Seeds.{Holds}
+use Rattle.partial.specs.Rounds.{Ends}
+use Rattle.partial_trial.specs.Seeds.{Holds}
 pub mod Laws
 
 -- a file to be replaced with this work area

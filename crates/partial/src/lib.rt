@@ -1,5 +1,3 @@
 // The partial paths of a file, and a file replaced in the database. Document 01, "Partial paths".
 pub mod compute;
-pub mod expand;
 pub mod replace;
-pub mod seed;

@@ -90,7 +90,7 @@ fn answer_lookup(list: &[u8], at: usize, words: &[u32], out: &mut [u32]) -> usiz
 }
 
 // The call at a place, with a work area of just the words that it names.
-fn library_answer(
+fn answer_lent(
     list: &[u8],
     at: usize,
     image: Part,
@@ -110,6 +110,21 @@ fn library_answer(
         return answer_replace(list, at, image, &mut work[0..w], words, before, out);
     }
     answer_lookup(list, at, words, out)
+}
+
+// The same with a work area to lend. It is filled before each call that takes it.
+fn library_answer(
+    list: &[u8],
+    at: usize,
+    image: Part,
+    words: &mut [u32],
+    before: &[u32],
+    out: &mut [u32],
+) -> usize
+    requires { ⌜ (at < mostBytes) × (image .from ≤ image .to) × (image .to ≤ length (now list)) ⌝ }
+{
+    let mut work = [0u32; MOST_WORK];
+    answer_lent(list, at, image, &mut work, words, before, out)
 }
 
 // Where the sums of a kind stand: how many cases, and behind that how many differ.
@@ -136,22 +151,21 @@ fn tell_difference(kind: u8, case: u64, list: &[u8], at: usize, given: &[u32], n
 }
 
 // 1 if the call at a place is answered otherwise than the list expects, else 0. The first difference of a kind is told.
-fn differs(
+fn differs_lent(
     list: &[u8],
     at: usize,
     image: Part,
-    work: &mut [u32],
     words: &mut [u32],
     before: &[u32],
-    out: &mut [u32],
     case: u64,
     differences: u64,
+    out: &mut [u32],
 ) -> u64
     requires { ⌜ (at < mostBytes) × (image .from ≤ image .to) × (image .to ≤ length (now list)) ⌝ }
     ensures { λ r. ⌜ r ≤ 1 ⌝ }
 {
     let expected = cases::answer_at(list, at);
-    let given = library_answer(list, at, image, work, words, before, out);
+    let given = library_answer(list, at, image, words, before, out);
     if numbers::same(list, expected, out, given) {
         return 0;
     }
@@ -161,23 +175,30 @@ fn differs(
     1
 }
 
-// The call at a place is made and counted.
-fn compare(
+fn differs(
     list: &[u8],
     at: usize,
     image: Part,
-    work: &mut [u32],
     words: &mut [u32],
     before: &[u32],
-    out: &mut [u32],
-    sums: &mut [u64],
-)
+    case: u64,
+    differences: u64,
+) -> u64
+    requires { ⌜ (at < mostBytes) × (image .from ≤ image .to) × (image .to ≤ length (now list)) ⌝ }
+    ensures { λ r. ⌜ r ≤ 1 ⌝ }
+{
+    let mut out = [0u32; MOST_NUMBERS];
+    differs_lent(list, at, image, words, before, case, differences, &mut out)
+}
+
+// The call at a place is made and counted.
+fn compare(list: &[u8], at: usize, image: Part, words: &mut [u32], before: &[u32], sums: &mut [u64])
     requires { ⌜ (at < mostBytes) × (image .from ≤ image .to) × (image .to ≤ length (now list)) ⌝ }
 {
     let of_kind = row(list::byte(list, at));
     let case = sum(sums, of_kind);
     let differences = sum(sums, of_kind + 1);
-    let more = differs(list, at, image, work, words, before, out, case, differences);
+    let more = differs(list, at, image, words, before, case, differences);
     add(sums, of_kind, 1);
     add(sums, of_kind + 1, more);
 }
@@ -187,10 +208,8 @@ fn visit(
     list: &[u8],
     at: usize,
     image: Part,
-    work: &mut [u32],
     words: &mut [u32],
     before: &mut [u32],
-    out: &mut [u32],
     sums: &mut [u64],
 )
     requires { ⌜ (at < mostBytes) × (image .from ≤ image .to) × (image .to ≤ length (now list)) ⌝ }
@@ -202,19 +221,12 @@ fn visit(
         lent::write(list, at, words);
     } else {
         areas::copy(words, before);
-        compare(list, at, image, work, words, before, out, sums);
+        compare(list, at, image, words, before, sums);
     }
 }
 
 // Every case in its order, with a database of as many words as were last lent.
-fn replay(
-    list: &[u8],
-    work: &mut [u32],
-    words: &mut [u32],
-    before: &mut [u32],
-    out: &mut [u32],
-    sums: &mut [u64],
-)
+fn replay(list: &[u8], words: &mut [u32], before: &mut [u32], sums: &mut [u64])
     requires { ⌜ length (now list) ≤ mostBytes ⌝ }
 {
     let mut at: usize = 0;
@@ -225,16 +237,7 @@ fn replay(
         lent = lent::count(list, at, lent);
         let w = list::lesser(lent, words.len());
         let b = list::lesser(w, before.len());
-        visit(
-            list,
-            at,
-            image,
-            work,
-            &mut words[0..w],
-            &mut before[0..b],
-            out,
-            sums,
-        );
+        visit(list, at, image, &mut words[0..w], &mut before[0..b], sums);
         at = cases::next_case(list, at);
     }
 }
@@ -245,26 +248,18 @@ fn tell_sums(sums: &[u64]) {
     report::tell_sums(b"lookups", sum(sums, 4), sum(sums, 5));
 }
 
-fn read_and_replay(
-    list: &mut [u8],
-    work: &mut [u32],
-    words: &mut [u32],
-    before: &mut [u32],
-    out: &mut [u32],
-)
+fn read_and_replay(list: &mut [u8], words: &mut [u32], before: &mut [u32])
     requires { ⌜ length (now list) ≤ mostBytes ⌝ }
 {
     let mut sums = [0u64; 6];
     let n = io::read_full(STDIN_FILENO, list);
-    replay(&list[0..n], work, words, before, out, &mut sums);
+    replay(&list[0..n], words, before, &mut sums);
     tell_sums(&sums);
 }
 
 fn main() {
     let mut list = [0u8; MOST_BYTES];
-    let mut work = [0u32; MOST_WORK];
     let mut words = [0u32; MOST_WORDS];
     let mut before = [0u32; MOST_WORDS];
-    let mut out = [0u32; MOST_NUMBERS];
-    read_and_replay(&mut list, &mut work, &mut words, &mut before, &mut out);
+    read_and_replay(&mut list, &mut words, &mut before);
 }

@@ -9,15 +9,18 @@ use Rattle.semantics.specs.declared.search.SearchStats.{SearchStats}
 use Rattle.semantics.specs.declared.search.PartialPathStats.{PartialPathStats}
 use Rattle.semantics.specs.declared.refusal.PartialPathRefusal.the-variants.{NoWaitingSlot}
 use Rattle.semantics.specs.Lists.{pick}
-use Rattle.graph_search.specs.declared.path_budget.Budget.{Budget}
+use Rattle.budget.specs.declared.path_budget.Budget.{Budget}
 use Rattle.graph_search.specs.declared.path_frontier.Frontier.{Frontier}
 use Rattle.graph_search.specs.declared.path_frontier.Pushed.{Pushed}
 use Rattle.graph_search.specs.declared.path_frontier.Pushed.the-variants as Pushed
 use Rattle.graph_search.specs.declared.path_frontier.Popped.{Popped}
 use Rattle.graph_search.specs.declared.path_frontier.Popped.the-variants as Popped
-use Rattle.graph_search.specs.Budget.{fresh, withMaxLength, withMaxPaths, expansion, statsOf}
+use Rattle.budget.specs.Budget.{fresh, withMaxLength, withMaxPaths, expansion, statsOf}
 use Rattle.graph_search.specs.Frontier.{empty, Pushes, Pops}
+use Rattle.semantics.specs.declared.refusal.PartialPathRefusal.{PartialPathRefusal}
+use Rattle.semantics.specs.declared.search.Limit.the-variants.{Absent}
 use Rattle.partial_state.specs.declared.extraction.Config.{Config}
+use Rattle.partial_state.specs.declared.extraction.Frame.{Frame}
 use Rattle.partial_state.specs.declared.extraction.Extraction.{Extraction}
 use Rattle.partial_state.specs.declared.extraction.Going.{Going}
 use Rattle.partial_state.specs.declared.extraction.Going.the-variants.{On, Refused}
@@ -25,19 +28,82 @@ use Rattle.partial_state.specs.declared.extraction.Taken.{Taken}
 use Rattle.partial_state.specs.declared.extraction.Taken.the-variants.{Over, Expand, TooMany}
 pub mod Laws
 
-abbrev pub newExtraction : Config → ℕ → Extraction
-newExtraction c capacity = record { frontier = empty (c .order) 128 capacity; budget = withMaxPaths (c .paths) (withMaxLength (c .length) fresh); cycles = 0; found = 0 }
+-- ---- what is handed on in code
 
-abbrev pub withBudget : Budget → Extraction → Extraction
+abbrev pub frameWith : Config → ℕ → Frame
+frameWith c waiting = record { order = c .order; length = c .length; paths = c .paths; waiting = waiting }
+
+abbrev pub nothingYet : Extraction
+nothingYet = record { first = 0; count = 0; pending = 0; expanded = 0; cycles = 0; found = 0; lengthLimited = false; countLimited = false }
+
+-- with the counts and flags of this budget
+abbrev pub countedBy : Budget → Extraction → Extraction
+countedBy b p = record { first = p .first; count = p .count; pending = p .pending; expanded = b .expanded; cycles = p .cycles; found = p .found; lengthLimited = b .lengthLimited; countLimited = b .countLimited }
+
+-- with the place of this frontier
+abbrev pub placedBy : Frontier → Extraction → Extraction
+placedBy f p = record { first = f .first; count = f .count; pending = f .pending; expanded = p .expanded; cycles = p .cycles; found = p .found; lengthLimited = p .lengthLimited; countLimited = p .countLimited }
+
+abbrev pub cutIn : Extraction → Extraction
+cutIn p = record { first = p .first; count = p .count; pending = p .pending; expanded = p .expanded; cycles = p .cycles + 1; found = p .found; lengthLimited = p .lengthLimited; countLimited = p .countLimited }
+
+abbrev pub foundIn : Extraction → Extraction
+foundIn p = record { first = p .first; count = p .count; pending = p .pending; expanded = p .expanded; cycles = p .cycles; found = p .found + 1; lengthLimited = p .lengthLimited; countLimited = p .countLimited }
+
+abbrev pub partialIn : Extraction → PartialPathStats
+partialIn p = record { expanded = p .expanded; found = p .found; cycles = p .cycles; lengthLimited = p .lengthLimited; countLimited = p .countLimited }
+
+-- ---- the whole of it
+
+-- a computation with its frontier and its budget
+pub record Computation : Type 0 where
+  pub frontier : Frontier
+  pub budget : Budget
+  pub cycles : ℕ
+  pub found : ℕ
+
+-- it goes on, or stops with a refusal
+pub data Course : Type 0 where
+  goes : Computation → Course
+  stops : PartialPathRefusal → Course
+
+-- at the top of a round: it is over, or a route is to be expanded, or it would be one expansion too many
+pub data Opening : Type 0 where
+  closing : Computation → Opening
+  opening : Computation → Opening
+  exceeding : Opening
+
+-- what is handed on, in its frame
+abbrev pub at : Frame → Extraction → Computation
+at fr p = record {
+  frontier = record { order = fr .order; length = 128; first = p .first; count = p .count; pending = p .pending; capacity = fr .waiting };
+  budget = record { maxLength = fr .length; maxPaths = fr .paths; maxComplete = Absent; expanded = p .expanded; complete = 0; lengthLimited = p .lengthLimited; countLimited = p .countLimited; completeLimited = false };
+  cycles = p .cycles;
+  found = p .found;
+}
+
+abbrev pub goingAt : Frame → Going → Course
+goingAt fr (On p) = goes (at fr p)
+goingAt fr (Refused r) = stops r
+
+abbrev pub takenAt : Frame → Taken → Opening
+takenAt fr (Over p) = closing (at fr p)
+takenAt fr (Expand p) = opening (at fr p)
+takenAt fr TooMany = exceeding
+
+abbrev pub newComputation : Config → ℕ → Computation
+newComputation c capacity = record { frontier = empty (c .order) 128 capacity; budget = withMaxPaths (c .paths) (withMaxLength (c .length) fresh); cycles = 0; found = 0 }
+
+abbrev pub withBudget : Budget → Computation → Computation
 withBudget b x = record { frontier = x .frontier; budget = b; cycles = x .cycles; found = x .found }
 
-abbrev pub withFrontier : Frontier → Extraction → Extraction
+abbrev pub withFrontier : Frontier → Computation → Computation
 withFrontier f x = record { frontier = f; budget = x .budget; cycles = x .cycles; found = x .found }
 
-abbrev pub cutOne : Extraction → Extraction
+abbrev pub cutOne : Computation → Computation
 cutOne x = record { frontier = x .frontier; budget = x .budget; cycles = x .cycles + 1; found = x .found }
 
-abbrev pub foundOne : Extraction → Extraction
+abbrev pub foundOne : Computation → Computation
 foundOne x = record { frontier = x .frontier; budget = x .budget; cycles = x .cycles; found = x .found + 1 }
 
 -- statistics with so many complete paths, none of them refused by a limit
@@ -45,35 +111,35 @@ abbrev pub counting : ℕ → SearchStats → SearchStats
 counting n s = record { expanded = s .expanded; complete = n; rejected = s .rejected; cycles = s .cycles; lengthLimited = s .lengthLimited; countLimited = s .countLimited; completeLimited = false }
 
 -- what is counted, as an enumeration counts it: a found path is a complete one
-abbrev pub statsIn : Extraction → SearchStats
+abbrev pub statsIn : Computation → SearchStats
 statsIn x = counting (x .found) (statsOf (x .budget) 0 (x .cycles))
 
-abbrev pub partialIn : Extraction → PartialPathStats
-partialIn x = record { expanded = x .budget .expanded; found = x .found; cycles = x .cycles; lengthLimited = x .budget .lengthLimited; countLimited = x .budget .countLimited }
+abbrev pub partialOf : Computation → PartialPathStats
+partialOf x = record { expanded = x .budget .expanded; found = x .found; cycles = x .cycles; lengthLimited = x .budget .lengthLimited; countLimited = x .budget .countLimited }
 
-abbrev pub goingOf : Extraction → Pushed → Going
-goingOf x (Pushed.Done f) = On (withFrontier f x)
-goingOf x Pushed.Full = Refused NoWaitingSlot
+abbrev pub courseOf : Computation → Pushed → Course
+courseOf x (Pushed.Done f) = goes (withFrontier f x)
+courseOf x Pushed.Full = stops NoWaitingSlot
 
 -- a push into the frontier, and the computation with it
-pub record Extends (x : Extraction) (ws item : List ℕ) (a : Going) (ws′ : List ℕ) : Type 0 where
+pub record Extends (x : Computation) (ws item : List ℕ) (a : Course) (ws′ : List ℕ) : Type 0 where
   pub pushed : Pushed
   pub pushes : Pushes (x .frontier) ws item pushed ws′
-  pub is : a ≡ goingOf x pushed
+  pub is : a ≡ courseOf x pushed
 
 -- the expansion is put to the budget, then to the bound
-abbrev pub admittedOf : Extraction → Frontier → Taken
+abbrev pub admittedOf : Computation → Frontier → Opening
 admittedOf x f =
     pick (expansion (x .budget) .allowed)
-    (pick (leb 16777216 (x .budget .expanded)) TooMany (Expand (withFrontier f (withBudget (expansion (x .budget) .budget) x))))
-    (Over (withBudget (expansion (x .budget) .budget) x))
+    (pick (leb 16777216 (x .budget .expanded)) exceeding (opening (withFrontier f (withBudget (expansion (x .budget) .budget) x))))
+    (closing (withBudget (expansion (x .budget) .budget) x))
 
-abbrev pub takenOf : Extraction → Popped → Taken
-takenOf x (Popped.Item f) = admittedOf x f
-takenOf x Popped.Empty = Over x
+abbrev pub openingOf : Computation → Popped → Opening
+openingOf x (Popped.Item f) = admittedOf x f
+openingOf x Popped.Empty = closing x
 
 -- a pop from the frontier, and the round that it opens
-pub record Taking (x : Extraction) (ws : List ℕ) (a : Taken) (item ws′ : List ℕ) : Type 0 where
+pub record Taking (x : Computation) (ws : List ℕ) (a : Opening) (item ws′ : List ℕ) : Type 0 where
   pub popped : Popped
   pub pops : Pops (x .frontier) ws popped item ws′
-  pub is : a ≡ takenOf x popped
+  pub is : a ≡ openingOf x popped

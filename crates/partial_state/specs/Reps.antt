@@ -6,8 +6,6 @@ use mathlib.Core.Logic.{_⊎_}
 use mathlib.Core.Bool.{Bool}
 use mathlib.Core.List.{List, List·Memᴰ}
 use lib.ListN.{length, getD}
-use Rattle.semantics.specs.declared.search.SearchOrder.{SearchOrder}
-use Rattle.semantics.specs.declared.search.Limit.{Limit}
 use Rattle.semantics.specs.declared.search.SearchStats.{SearchStats}
 use Rattle.semantics.specs.declared.refusal.PartialPathRefusal.{PartialPathRefusal}
 use Rattle.semantics.specs.Answer.{Answer, ok, refuse, andThen}
@@ -19,17 +17,15 @@ use Rattle.graph_search.specs.Frontier.{Framed}
 use Rattle.graph_search.specs.Frontier.Stands.{Stands}
 use Rattle.partial_state.specs.declared.route.Ends.{Ends}
 use Rattle.partial_state.specs.declared.filing.Filing.{Filing}
-use Rattle.partial_state.specs.declared.extraction.Extraction.{Extraction}
-use Rattle.partial_state.specs.declared.extraction.Going.{Going}
-use Rattle.partial_state.specs.declared.extraction.Going.the-variants.{On, Refused}
+use Rattle.partial_state.specs.declared.extraction.Frame.{Frame}
 use Rattle.partial_state.specs.Routes.{held, endsOf, Traced}
 use Rattle.partial_state.specs.Filings.{Fits, filedIn}
-use Rattle.partial_state.specs.Extractions.{statsIn}
+use Rattle.partial_state.specs.Extractions.{Computation, Course, goes, stops, statsIn}
 pub mod Laws
 pub mod Rounds
 
 -- counts and flags
-pub record Counts (x : Extraction) (m : State Route) : Type 0 where
+pub record Counts (x : Computation) (m : State Route) : Type 0 where
   pub stats : statsIn x ≡ m .stats
   pub found : x .found ≡ length (m .kept)
 
@@ -38,21 +34,15 @@ pub record Few (n : ℕ) (t : SearchStats) : Type 0 where
   pub complete : t .complete ≤ n
   pub cycles : t .cycles ≤ n
 
--- what a computation never changes: its order, limits, and waiting slots
-pub record Frame : Type 0 where
-  pub order : SearchOrder
-  pub length : Limit
-  pub paths : Limit
-  pub waiting : ℕ
-
-abbrev pub frameOf : Extraction → Frame
+-- what a computation never changes
+abbrev pub frameOf : Computation → Frame
 frameOf x = record { order = x .frontier .order; length = x .budget .maxLength; paths = x .budget .maxPaths; waiting = x .frontier .capacity }
 
 abbrev pub settingOf : Frame → Setting PartialPathRefusal
 settingOf f = partialSetting (f .order) (f .paths) (f .waiting)
 
 -- the computation in code, its work area and the database stand for a state of the enumeration; `origin` is the database without what was filed
-pub record Rep (g : View) (f : Filing) (origin : List ℕ) (x : Extraction) (ws db : List ℕ) (m : State Route) : Type 0 where
+pub record Rep (g : View) (f : Filing) (origin : List ℕ) (x : Computation) (ws db : List ℕ) (m : State Route) : Type 0 where
   pub sized : x .frontier .length ≡ 128
   pub stands : Stands (held 128) (x .frontier) ws m
   pub counts : Counts x m
@@ -65,14 +55,14 @@ abbrev pub Untouched : Filing → List ℕ → List ℕ → Type 0
 Untouched f origin db = f .room ≡ 0 → db ≡ origin
 
 -- the computation that goes on stands for the state answered, or it is refused alike
-abbrev pub Tells : View → Filing → List ℕ → Frame → Going → List ℕ → List ℕ → Answer PartialPathRefusal (State Route) → Type 0
-Tells g f origin fr (On x) ws db (ok m) = (frameOf x ≡ fr) × Rep g f origin x ws db m
-Tells g f origin fr (On x) ws db (refuse y) = ⊥
-Tells g f origin fr (Refused r) ws db (ok m) = ⊥
-Tells g f origin fr (Refused r) ws db (refuse y) = (r ≡ y) × Untouched f origin db
+abbrev pub Tells : View → Filing → List ℕ → Frame → Course → List ℕ → List ℕ → Answer PartialPathRefusal (State Route) → Type 0
+Tells g f origin fr (goes x) ws db (ok m) = (frameOf x ≡ fr) × Rep g f origin x ws db m
+Tells g f origin fr (goes x) ws db (refuse y) = ⊥
+Tells g f origin fr (stops r) ws db (ok m) = ⊥
+Tells g f origin fr (stops r) ws db (refuse y) = (r ≡ y) × Untouched f origin db
 
 -- the areas have their slots, and one more path can be counted and filed
-pub record Extendable (x : Extraction) (f : Filing) (item ws db : List ℕ) : Type 0 where
+pub record Extendable (x : Computation) (f : Filing) (item ws db : List ℕ) : Type 0 where
   pub framed : Framed (x .frontier) ws
   pub slot : IsSlot 128 item
   pub sized : x .frontier .length ≡ 128
@@ -81,7 +71,7 @@ pub record Extendable (x : Extraction) (f : Filing) (item ws db : List ℕ) : Ty
   pub fits : Fits f db
 
 -- the enumeration keeps and pushes alike; the edge that led here is among those looked at
-abbrev pub ExtendsTo : Extraction → Bool → Ends → Filing → List ℕ → List ℕ → List ℕ → Going → List ℕ → List ℕ → Type 0
+abbrev pub ExtendsTo : Computation → Bool → Ends → Filing → List ℕ → List ℕ → List ℕ → Course → List ℕ → List ℕ → Type 0
 ExtendsTo x endpoint e f item ws db a ws′ db′ =
     (g : View) (origin : List ℕ) (m : State Route) (q : Route) (n : ℕ) → Rep g f origin x ws db m → Few n (m .stats) → n + 1 ≡ m .tally .looked → Traced g (f .file) q → e ≡ endsOf q → item ≡ held 128 q
     → Tells g f origin (frameOf x) a ws′ db′ (andThen (keep endpoint (settingOf (frameOf x)) m q) (pushItem (settingOf (frameOf x)) q))

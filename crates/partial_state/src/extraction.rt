@@ -1,14 +1,15 @@
 // The computation of a file's partial paths on the way: what waits, and what is counted and filed. Document 01, "Partial paths".
+// What never changes, the frame, is handed on beside what does: a large value that goes round a loop is copied again and again.
 ghost use mathlib.Core.Path.{_≡_};
 ghost use Prim.Native.Nat.{_+_, _<_, _≤_, _^_};
 ghost use Rattle.words.specs.Slots.{IsSlot};
 ghost use Rattle.graph_search.specs.Frontier.{Framed};
-ghost use Rattle.partial_state.specs.Extractions.{newExtraction, withBudget, withFrontier, cutOne, foundOne, partialIn, Extends, Taking};
+ghost use Rattle.partial_state.specs.Extractions.{at, frameWith, nothingYet, countedBy, placedBy, cutIn, foundIn, goingAt, takenAt, partialIn, Extends, Taking};
 ghost use Rattle.partial_state.specs.Reps.{Extendable, ExtendsTo};
 use crate::filing;
 use crate::filing::Filing;
 use crate::route::Ends;
-use graph_search::path_budget::Budget;
+use budget::path_budget::Budget;
 use graph_search::path_frontier::Frontier;
 use graph_search::path_frontier::Popped;
 use graph_search::path_frontier::Pushed;
@@ -26,11 +27,24 @@ pub struct Config {
     pub paths: Limit,
 }
 
+// What a computation never changes: its order, limits, and waiting slots.
+pub struct Frame {
+    pub order: SearchOrder,
+    pub length: Limit,
+    pub paths: Limit,
+    pub waiting: usize,
+}
+
+// What it changes: the frontier's place, counts and flags.
 pub struct Extraction {
-    pub frontier: Frontier,
-    pub budget: Budget,
+    pub first: usize,
+    pub count: usize,
+    pub pending: usize,
+    pub expanded: u64,
     pub cycles: u64,
     pub found: u64,
+    pub lengthLimited: bool,
+    pub countLimited: bool,
 }
 
 // The computation goes on, or ends with a refusal.
@@ -46,54 +60,95 @@ pub enum Taken {
     TooMany,
 }
 
-impl Extraction {
-    // Nothing waits, and nothing is counted yet.
-    pub fn new(config: Config, capacity: usize) -> Extraction
-        ensures { λ r. ⌜ r ≡ newExtraction config capacity ⌝ }
+impl Frame {
+    pub fn new(config: Config, waiting: usize) -> Frame
+        ensures { λ r. ⌜ r ≡ frameWith config waiting ⌝ }
     {
         let order = config.order;
         let length = config.length;
         let paths = config.paths;
+        Frame {
+            order,
+            length,
+            paths,
+            waiting,
+        }
+    }
+}
+
+impl Extraction {
+    // Nothing waits, and nothing is counted yet.
+    pub fn new() -> Extraction
+        ensures { λ r. ⌜ r ≡ nothingYet ⌝ }
+    {
         Extraction {
-            frontier: Frontier::new(order, SLOT_WORDS, capacity),
-            budget: Budget::new()
-                .with_max_path_length(length)
-                .with_max_path_count(paths),
+            first: 0,
+            count: 0,
+            pending: 0,
+            expanded: 0,
             cycles: 0,
             found: 0,
+            lengthLimited: false,
+            countLimited: false,
+        }
+    }
+
+    fn frontier(self, frame: Frame) -> Frontier
+        ensures { λ r. ⌜ r ≡ at frame self .frontier ⌝ }
+    {
+        let order = frame.order;
+        Frontier {
+            order,
+            length: SLOT_WORDS,
+            first: self.first,
+            count: self.count,
+            pending: self.pending,
+            capacity: frame.waiting,
+        }
+    }
+
+    // No limit on complete paths: a found one is counted beside the budget.
+    pub fn budget(self, frame: Frame) -> Budget
+        ensures { λ r. ⌜ r ≡ at frame self .budget ⌝ }
+    {
+        let maxLength = frame.length;
+        let maxPaths = frame.paths;
+        Budget {
+            maxLength,
+            maxPaths,
+            maxComplete: Limit::Absent,
+            expanded: self.expanded,
+            complete: 0,
+            lengthLimited: self.lengthLimited,
+            countLimited: self.countLimited,
+            completeLimited: false,
         }
     }
 
     // The budget is handed back by each question put to it.
-    pub fn with_budget(self, budget: Budget) -> Extraction
-        ensures { λ r. ⌜ r ≡ withBudget budget self ⌝ }
+    pub fn with_budget(mut self, budget: Budget) -> Extraction
+        ensures { λ r. ⌜ r ≡ countedBy budget self ⌝ }
     {
-        let frontier = self.frontier;
-        Extraction {
-            frontier,
-            budget,
-            cycles: self.cycles,
-            found: self.found,
-        }
+        self.expanded = budget.expanded;
+        self.lengthLimited = budget.lengthLimited;
+        self.countLimited = budget.countLimited;
+        self
     }
 
     // So is the frontier by a push or a pop.
-    fn with_frontier(self, frontier: Frontier) -> Extraction
-        ensures { λ r. ⌜ r ≡ withFrontier frontier self ⌝ }
+    fn with_frontier(mut self, frontier: Frontier) -> Extraction
+        ensures { λ r. ⌜ r ≡ placedBy frontier self ⌝ }
     {
-        let budget = self.budget;
-        Extraction {
-            frontier,
-            budget,
-            cycles: self.cycles,
-            found: self.found,
-        }
+        self.first = frontier.first;
+        self.count = frontier.count;
+        self.pending = frontier.pending;
+        self
     }
 
     // One more cycle cut.
     pub fn cut(mut self) -> Extraction
         requires { ⌜ self .cycles + 1 < 2 ^ 64 ⌝ }
-        ensures { λ r. ⌜ r ≡ cutOne self ⌝ }
+        ensures { λ r. ⌜ r ≡ cutIn self ⌝ }
     {
         self.cycles = self.cycles + 1;
         self
@@ -102,19 +157,18 @@ impl Extraction {
     // One more partial path is found.
     fn count(mut self) -> Extraction
         requires { ⌜ self .found + 1 < 2 ^ 64 ⌝ }
-        ensures { λ r. ⌜ r ≡ foundOne self ⌝ }
+        ensures { λ r. ⌜ r ≡ foundIn self ⌝ }
     {
         self.found = self.found + 1;
         self
     }
 
     // The route in the item waits; 31 when all waiting slots are taken.
-    pub fn push(self, work: &mut [u32], item: &[u32]) -> Going
-        requires { ⌜ Framed (self .frontier) (now work) × IsSlot (self .frontier .length) (now item) ⌝ }
-        ensures { λ r. ⌜ Extends self (now (work .entry)) (now (item .entry)) r (now (work .exit)) ⌝ }
+    pub fn push(self, work: &mut [u32], item: &[u32], frame: Frame) -> Going
+        requires { ⌜ Framed (at frame self .frontier) (now work) × IsSlot 128 (now item) ⌝ }
+        ensures { λ r. ⌜ Extends (at frame self) (now (work .entry)) (now (item .entry)) (goingAt frame r) (now (work .exit)) ⌝ }
     {
-        let frontier = self.frontier;
-        let pushed = frontier.push(work, item);
+        let pushed = self.frontier(frame).push(work, item);
         let Pushed::Done(next) = pushed else {
             return Going::Refused(PartialPathRefusal::NoWaitingSlot);
         };
@@ -130,33 +184,32 @@ impl Extraction {
         item: &[u32],
         work: &mut [u32],
         words: &mut [u32],
+        frame: Frame,
     ) -> Going
-        requires { ⌜ Extendable self filing (now item) (now work) (now words) ⌝ }
-        ensures { λ r. ⌜ ExtendsTo self endpoint ends filing (now (item .entry)) (now (work .entry)) (now (words .entry)) r (now (work .exit)) (now (words .exit)) ⌝ }
+        requires { ⌜ Extendable (at frame self) filing (now item) (now work) (now words) ⌝ }
+        ensures { λ r. ⌜ ExtendsTo (at frame self) endpoint ends filing (now (item .entry)) (now (work .entry)) (now (words .entry)) (goingAt frame r) (now (work .exit)) (now (words .exit)) ⌝ }
     {
         if endpoint {
             let count = item[0] as usize;
             filing::file_route(words, filing, self.found, ends, &item[1..count + 1]);
-            return self.count().push(work, item);
+            return self.count().push(work, item, frame);
         }
-        self.push(work, item)
+        self.push(work, item, frame)
     }
 
     // The next route is taken out of the frontier, and its expansion is put to the budget, then to the bound on expansions.
-    pub fn take(self, work: &mut [u32], item: &mut [u32]) -> Taken
-        requires { ⌜ Framed (self .frontier) (now work) × IsSlot (self .frontier .length) (now item) × (self .budget .expanded + 1 < 2 ^ 64) ⌝ }
-        ensures { λ r. ⌜ Taking self (now (work .entry)) r (now (item .exit)) (now (work .exit)) ⌝ }
+    pub fn take(self, work: &mut [u32], item: &mut [u32], frame: Frame) -> Taken
+        requires { ⌜ Framed (at frame self .frontier) (now work) × IsSlot 128 (now item) × (self .expanded + 1 < 2 ^ 64) ⌝ }
+        ensures { λ r. ⌜ Taking (at frame self) (now (work .entry)) (takenAt frame r) (now (item .exit)) (now (work .exit)) ⌝ }
     {
-        let frontier = self.frontier;
-        let popped = frontier.pop(work, item);
+        let popped = self.frontier(frame).pop(work, item);
         let Popped::Item(next) = popped else {
             return Taken::Over(self);
         };
-        let budget = self.budget;
-        let asked = budget.admitted_expansion();
+        let asked = self.budget(frame).admitted_expansion();
         let after = self.with_budget(asked.budget);
         if asked.allowed {
-            if MAX_EXPANSIONS <= budget.expanded {
+            if MAX_EXPANSIONS <= self.expanded {
                 return Taken::TooMany;
             }
             return Taken::Expand(after.with_frontier(next));
@@ -168,11 +221,11 @@ impl Extraction {
         ensures { λ r. ⌜ r ≡ partialIn self ⌝ }
     {
         PartialPathStats {
-            expanded: self.budget.expanded,
+            expanded: self.expanded,
             found: self.found,
             cycles: self.cycles,
-            lengthLimited: self.budget.lengthLimited,
-            countLimited: self.budget.countLimited,
+            lengthLimited: self.lengthLimited,
+            countLimited: self.countLimited,
         }
     }
 }

@@ -3,16 +3,17 @@
 // It prints how many cases of each kind there are and how many answers differ, and before that the first case of the kind that differs.
 ghost use Prim.Native.Nat.{_<_, _≤_};
 ghost use lib.ListN.{length};
-ghost use Rattle.path_cases.specs.List.{mostBytes};
+ghost use Rattle.case_list.specs.Bounds.{mostBytes};
 
 mod answer;
-mod list;
-mod numbers;
-mod report;
+mod cases;
 mod shown;
 
+use case_list::answer as numbers;
+use case_list::list;
+use case_list::list::Part;
+use case_list::report;
 use libc::STDIN_FILENO;
-use list::Part;
 use path::judgement;
 use path::replay;
 use semantics::answer::Replayed;
@@ -34,10 +35,10 @@ fn answer_replay(list: &[u8], at: usize, image: Part, edges: &mut [u32], out: &m
     let from = image.from;
     let to = image.to;
     let reference = NodeId(list::long(list, at + 1));
-    let n = list::read_edges(list, at + 5, edges);
+    let n = cases::read_edges(list, at + 5, edges);
     let outcome = replay::replay(&list[from..to], reference, &edges[0..n]);
     let answer = outcome.answer;
-    let next = answer::write_replayed(answer, out);
+    let next = answer::put_replayed(out, answer);
     let Replayed::Done = answer else {
         return next;
     };
@@ -50,11 +51,9 @@ fn answer_complete(list: &[u8], at: usize, image: Part, edges: &mut [u32], out: 
     let from = image.from;
     let to = image.to;
     let reference = NodeId(list::long(list, at + 1));
-    let n = list::read_edges(list, at + 5, edges);
-    answer::write_judgement(
-        judgement::is_complete(&list[from..to], reference, &edges[0..n]),
-        out,
-    )
+    let n = cases::read_edges(list, at + 5, edges);
+    let answer = judgement::is_complete(&list[from..to], reference, &edges[0..n]);
+    answer::put_judgement(out, answer)
 }
 
 fn answer_shadows(
@@ -70,18 +69,15 @@ fn answer_shadows(
     let from = image.from;
     let to = image.to;
     let left = NodeId(list::long(list, at + 1));
-    let n = list::read_edges(list, at + 5, edges);
-    let behind = list::behind_edges(list, at + 5);
+    let n = cases::read_edges(list, at + 5, edges);
+    let behind = cases::behind_edges(list, at + 5);
     let right = NodeId(list::long(list, behind));
-    let m = list::read_edges(list, behind + 4, others);
-    answer::write_judgement(
-        judgement::shadows(&list[from..to], left, &edges[0..n], right, &others[0..m]),
-        out,
-    )
+    let m = cases::read_edges(list, behind + 4, others);
+    let answer = judgement::shadows(&list[from..to], left, &edges[0..n], right, &others[0..m]);
+    answer::put_judgement(out, answer)
 }
 
-// Writes what the library answers to the case at a place, and answers how many numbers that are.
-fn library_answer(
+fn answer_lent(
     list: &[u8],
     at: usize,
     image: Part,
@@ -92,13 +88,22 @@ fn library_answer(
     requires { ⌜ (at < mostBytes) × (image .from ≤ image .to) × (image .to ≤ length (now list)) ⌝ }
 {
     let tag = list::byte(list, at);
-    if tag == list::REPLAY {
+    if tag == cases::REPLAY {
         return answer_replay(list, at, image, edges, out);
     }
-    if tag == list::COMPLETE {
+    if tag == cases::COMPLETE {
         return answer_complete(list, at, image, edges, out);
     }
     answer_shadows(list, at, image, edges, others, out)
+}
+
+// Writes what the library answers to the case at a place, and answers how many numbers that are.
+fn library_answer(list: &[u8], at: usize, image: Part, out: &mut [u32]) -> usize
+    requires { ⌜ (at < mostBytes) × (image .from ≤ image .to) × (image .to ≤ length (now list)) ⌝ }
+{
+    let mut edges = [0u32; MOST_EDGES];
+    let mut others = [0u32; MOST_EDGES];
+    answer_lent(list, at, image, &mut edges, &mut others, out)
 }
 
 // 1 if the case at a place is of a kind, else 0.
@@ -108,17 +113,39 @@ fn counts(list: &[u8], at: usize, kind: u8) -> u64
     if list::byte(list, at) == kind { 1 } else { 0 }
 }
 
-// 1 if the case at a place is of the kind and is answered otherwise than the list expects, else 0.
+// 1 if the answer at a place is another one than the list expects there, else 0. The first difference is told.
+fn differs_lent(
+    list: &[u8],
+    at: usize,
+    image: Part,
+    name: &[u8],
+    case: u64,
+    differences: u64,
+    out: &mut [u32],
+) -> u64
+    requires { ⌜ (at < mostBytes) × (image .from ≤ image .to) × (image .to ≤ length (now list)) ⌝ }
+    ensures { λ r. ⌜ r ≤ 1 ⌝ }
+{
+    let expected = cases::answer_at(list, at);
+    let count = library_answer(list, at, image, out);
+    if numbers::same(list, expected, out, count) {
+        return 0;
+    }
+    if differences == 0 {
+        report::tell_difference(name, case, list, expected, out, count);
+    }
+    1
+}
+
+// The same of a case of the kind; 0 of any other.
 fn differs(
     list: &[u8],
     at: usize,
     image: Part,
     kind: u8,
+    name: &[u8],
     case: u64,
     differences: u64,
-    edges: &mut [u32],
-    others: &mut [u32],
-    out: &mut [u32],
 ) -> u64
     requires { ⌜ (at < mostBytes) × (image .from ≤ image .to) × (image .to ≤ length (now list)) ⌝ }
     ensures { λ r. ⌜ r ≤ 1 ⌝ }
@@ -126,63 +153,43 @@ fn differs(
     if list::byte(list, at) != kind {
         return 0;
     }
-    let answer = list::answer_at(list, at);
-    let count = library_answer(list, at, image, edges, others, out);
-    if report::same(list, answer, out, count) {
-        return 0;
-    }
-    if differences == 0 {
-        report::tell_difference(kind, case, list, answer, out, count);
-    }
-    1
+    let mut out = [0u32; MOST_NUMBERS];
+    differs_lent(list, at, image, name, case, differences, &mut out)
 }
 
 // Every case of a kind in its order, numbered from 0.
-fn replay_kind(list: &[u8], kind: u8, edges: &mut [u32], others: &mut [u32], out: &mut [u32])
+fn replay_kind(list: &[u8], kind: u8, name: &[u8])
     requires { ⌜ length (now list) ≤ mostBytes ⌝ }
 {
     let mut at: usize = 0;
-    let mut cases: u64 = 0;
+    let mut seen: u64 = 0;
     let mut differences: u64 = 0;
     let mut image = Part { from: 0, to: 0 };
     while at < list.len() {
         image = list::image_part(list, at, image);
-        differences += differs(
-            list,
-            at,
-            image,
-            kind,
-            cases,
-            differences,
-            edges,
-            others,
-            out,
-        );
-        cases += counts(list, at, kind);
-        at = list::next_case(list, at);
+        differences += differs(list, at, image, kind, name, seen, differences);
+        seen += counts(list, at, kind);
+        at = cases::next_case(list, at);
     }
-    report::tell_sums(kind, cases, differences);
+    report::tell_sums(name, seen, differences);
 }
 
-fn replay_list(list: &[u8], edges: &mut [u32], others: &mut [u32], out: &mut [u32])
+fn replay_list(list: &[u8])
     requires { ⌜ length (now list) ≤ mostBytes ⌝ }
 {
-    replay_kind(list, list::REPLAY, edges, others, out);
-    replay_kind(list, list::COMPLETE, edges, others, out);
-    replay_kind(list, list::SHADOWS, edges, others, out);
+    replay_kind(list, cases::REPLAY, b"replays");
+    replay_kind(list, cases::COMPLETE, b"complete");
+    replay_kind(list, cases::SHADOWS, b"shadows");
 }
 
-fn read_and_replay(list: &mut [u8], edges: &mut [u32], others: &mut [u32], out: &mut [u32])
+fn read_and_replay(list: &mut [u8])
     requires { ⌜ length (now list) ≤ mostBytes ⌝ }
 {
     let n = io::read_full(STDIN_FILENO, list);
-    replay_list(&list[0..n], edges, others, out);
+    replay_list(&list[0..n]);
 }
 
 fn main() {
     let mut list = [0u8; MOST_BYTES];
-    let mut edges = [0u32; MOST_EDGES];
-    let mut others = [0u32; MOST_EDGES];
-    let mut out = [0u32; MOST_NUMBERS];
-    read_and_replay(&mut list, &mut edges, &mut others, &mut out);
+    read_and_replay(&mut list);
 }

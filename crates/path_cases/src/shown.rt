@@ -2,8 +2,8 @@
 // how many symbols there are and, tops first, each with a flag and, where that is 1, its attached scopes; the scope stack.
 // A list of scopes is a count and then the scopes, tops first.
 ghost use Prim.Native.Nat.{_<_};
-use crate::numbers::put;
-use crate::numbers::word;
+use case_list::answer::put;
+use case_list::answer::word;
 use path::path::Path;
 use semantics::bounds::MAX_EDGES;
 

@@ -1,3 +1,4 @@
+pub mod Ascending
 pub mod Beatable
 pub mod EdgeLists
 pub mod Ends

@@ -6,6 +6,7 @@ ghost use mathlib.Core.List.{[]};
 ghost use Prim.Native.Nat.{_≤_};
 ghost use Rattle.recorded.specs.EdgeLists.{hasList, distinctLists};
 ghost use Rattle.recorded.specs.ResultSlots.{Lists, Leaves, edgesAt, listsAt, Fitting, AllFitting, Keeps};
+use crate::ascending;
 use crate::closing;
 use crate::lists;
 
@@ -34,8 +35,8 @@ fn keep_new(result: &mut [u32], seen: usize, i: usize) -> usize
     seen + 1
 }
 
-// The lists in the first `kept` slots lose their copies and are closed up; answers how many are left.
-pub fn drop_copies(result: &mut [u32], kept: usize) -> usize
+// Each list is compared with those before it.
+fn drop_compared(result: &mut [u32], kept: usize) -> usize
     requires { ⌜ Lists 128 kept (now result) ⌝ }
     ensures { λ r. ⌜ Leaves 128 kept (distinctLists []) (now (result .entry)) r (now (result .exit)) ⌝ }
 {
@@ -45,4 +46,15 @@ pub fn drop_copies(result: &mut [u32], kept: usize) -> usize
     }
     closing::clear(result, seen, kept);
     seen
+}
+
+// The lists in the first `kept` slots lose their copies and are closed up; answers how many are left. Lists that ascend have none.
+pub fn drop_copies(result: &mut [u32], kept: usize) -> usize
+    requires { ⌜ Lists 128 kept (now result) ⌝ }
+    ensures { λ r. ⌜ Leaves 128 kept (distinctLists []) (now (result .entry)) r (now (result .exit)) ⌝ }
+{
+    if ascending::is_ascending(result, kept) {
+        return kept;
+    }
+    drop_compared(result, kept)
 }

@@ -56,6 +56,20 @@ use Rattle.rounds.specs.Requests.{requestOf}
 abbrev pub fromStart : Setting SearchRefusal → (Path → List (Try SearchRefusal Path)) → View → ℕ → Answer SearchRefusal (State Path)
 fromStart c f g r = andThen (wrap Search.Path (fromReference g r)) (λ p. enumerate c f 16777216 (p ∷ []))
 
+-- what the definition answers to a request
+abbrev pub answerTo : Tries → Graph → SearchOrder → SearchLimits → List ℕ → List ℕ → ℕ → Answer SearchRefusal (State Path)
+answerTo tries g o l ws rs n = fromStart (settingOf base (requestOf o l ws rs n)) (tries (l .length) (viewOf g)) (viewOf g) n
+
+-- the search goes on from a state of the enumeration, and where it is driven from there, it ends as the definition says; or it is refused alike
+abbrev pub StartedBy : Tries → List ℕ → Graph → SearchOrder → SearchLimits → List ℕ → List ℕ → ℕ → List ℕ → Going → List ℕ → List ℕ → List ℕ → Type 0
+StartedBy tries index g o l ws rs n item (Going.On t) steps ws′ rs′ =
+    (v : Driving index steps item t ws′ rs′) × ((r : Driven) (rs″ : List ℕ) → DrivenTo tries index steps item t ws′ rs′ v r rs″ → Ends r rs″ (answerTo tries g o l ws rs n))
+StartedBy tries index g o l ws rs n item (Going.Refused z) steps ws′ rs′ = (rs″ : List ℕ) → Ends (Driven.Refused z) rs″ (answerTo tries g o l ws rs n)
+
+-- for every choice of what is tried
+abbrev pub Started : List ℕ → SearchOrder → SearchLimits → List ℕ → List ℕ → ℕ → List ℕ → Going → List ℕ → List ℕ → List ℕ → Type 0
+Started index o l ws rs n item a steps ws′ rs′ = (tries : Tries) (g : Graph) → Loaded g index → StartedBy tries index g o l ws rs n item a steps ws′ rs′
+
 -- the first push, for any bound on the expansions
 module _ (c : Setting SearchRefusal) (f : Path → List (Try SearchRefusal Path)) (n : ℕ) (p : Path) where
   seeded-full : (z : SearchRefusal) → pushItem c p blank ≡ refuse z → enumerate c f n (p ∷ []) ≡ refuse z
@@ -90,7 +104,7 @@ module _ (o : SearchOrder) (l : SearchLimits) (ws rs : List ℕ) (f : Frontier) 
 
 module _ (tries : Tries) (index : List ℕ) (g : Graph) (loaded : Loaded g index) (o : SearchOrder) (l : SearchLimits) (ws rs : List ℕ) (n : ℕ) (x : Effect) (is : x ≡ begunOf (nodeRow index) n) where
   abbrev answer : Answer SearchRefusal (State Path)
-  answer = fromStart (settingOf base (requestOf o l ws rs n)) (tries (l .length) (viewOf g)) (viewOf g) n
+  answer = answerTo tries g o l ws rs n
 
   begun-in : begunOf (viewOf g .node) n ≡ x
   begun-in = sym (is ∙ ap (λ (f : ℕ → Node). begunOf f n) (nodes-are g index loaded))
@@ -145,7 +159,7 @@ module _ (tries : Tries) (index : List ℕ) (g : Graph) (loaded : Loaded g index
         told = push-tells (viewOf g) n first ws rs₀ blank first-rep (start .path) good a ws′ (subst (λ (i : List ℕ). Extends first ws i a ws′) item-is y)
 
         -- 31
-        pub begin-full : (z : SearchRefusal) → a ≡ Going.Refused z → (rs′ : List ℕ) → Ends (Driven.Refused z) rs′ answer
+        begin-full : (z : SearchRefusal) → a ≡ Going.Refused z → (rs′ : List ℕ) → Ends (Driven.Refused z) rs′ answer
         unfolding pushed
         begin-full z d rs′ =
             subst (λ (y : Answer SearchRefusal (State Path)). Ends (Driven.Refused z) rs′ y)
@@ -166,7 +180,7 @@ module _ (tries : Tries) (index : List ℕ) (g : Graph) (loaded : Loaded g index
           unlooked = ap (λ (z : State Path). z .tally .looked) (sym only)
 
           module _ (steps : List ℕ) (laid : steps ≡ withStep (zeros 1024) 0 s) where
-            pub begin-driving : Driving index steps item t ws′ rs₀
+            begin-driving : Driving index steps item t ws′ rs₀
             begin-driving = record {
               graph = g;
               loaded = loaded;
@@ -182,7 +196,7 @@ module _ (tries : Tries) (index : List ℕ) (g : Graph) (loaded : Loaded g index
               expanded = let z = unexpanded in omega (arith, z);
             }
 
-            pub begin-driven : (r : Driven) (rs′ : List ℕ) → DrivenTo tries index steps item t ws′ rs₀ begin-driving r rs′ → Ends r rs′ answer
+            begin-driven : (r : Driven) (rs′ : List ℕ) → DrivenTo tries index steps item t ws′ rs₀ begin-driving r rs′ → Ends r rs′ answer
             unfolding begin-driving pushed
             begin-driven r rs′ h =
                 let k : 16777216 - t .state .budget .expanded ≡ 16777216 = let z = unexpanded in omega (arith, z) in
@@ -190,3 +204,30 @@ module _ (tries : Tries) (index : List ℕ) (g : Graph) (loaded : Loaded g index
                 ap (λ (f : Frame). runFrom tries (viewOf g) f (16777216 - t .state .budget .expanded) (going .0)) (going .2) ∙ ap (λ (m : ℕ). runFrom tries (viewOf g) (frameOf first) m (going .0)) k in
                 let c : answer ≡ runFrom tries (viewOf g) (frameOf first) 16777216 (going .0) = start-run (settingOf base (requestOf o l ws rs n)) (tries (l .length) (viewOf g)) (viewOf g) n (start .path) (going .0) (start .started) (going .1) in
                 subst (λ (z : Answer SearchRefusal (State Path)). Ends r rs′ z) (b ∙ sym c) h
+
+            on-started : StartedBy tries index g o l ws rs n item a steps ws′ rs₀
+            on-started = subst (λ (b : Going). StartedBy tries index g o l ws rs n item b steps ws′ rs₀) (sym d) (begin-driving, begin-driven)
+
+        pub begin-started : (steps : List ℕ) → steps ≡ withStep (zeros 1024) 0 s → StartedBy tries index g o l ws rs n item a steps ws′ rs₀
+        begin-started steps laid = by a refl
+          where
+            by : (b : Going) → a ≡ b → StartedBy tries index g o l ws rs n item a steps ws′ rs₀
+            by (Going.On t) d = on-started t d steps laid
+            by (Going.Refused z) d = subst (λ (b : Going). StartedBy tries index g o l ws rs n item b steps ws′ rs₀) (sym d) (begin-full z d)
+
+-- ---- what a caller draws from the answer
+
+module _ (tries : Tries) (index : List ℕ) (g : Graph) (o : SearchOrder) (l : SearchLimits) (ws rs : List ℕ) (n : ℕ) (item : List ℕ) (a : Going) (steps ws′ rs′ : List ℕ) (h : StartedBy tries index g o l ws rs n item a steps ws′ rs′) where
+  module _ (t : S.Search) (d : a ≡ Going.On t) where
+    onward : StartedBy tries index g o l ws rs n item (Going.On t) steps ws′ rs′
+    onward = subst (λ (b : Going). StartedBy tries index g o l ws rs n item b steps ws′ rs′) d h
+
+    pub started-driving : Driving index steps item t ws′ rs′
+    started-driving = onward .0
+
+    pub started-driven : (r : Driven) (rs″ : List ℕ) → DrivenTo tries index steps item t ws′ rs′ started-driving r rs″ → Ends r rs″ (answerTo tries g o l ws rs n)
+    unfolding started-driving
+    started-driven r rs″ k = onward .1 r rs″ k
+
+  pub started-refused : (z : SearchRefusal) → a ≡ Going.Refused z → (rs″ : List ℕ) → Ends (Driven.Refused z) rs″ (answerTo tries g o l ws rs n)
+  started-refused z d rs″ = subst (λ (b : Going). StartedBy tries index g o l ws rs n item b steps ws′ rs′) d h rs″

@@ -1,6 +1,5 @@
 -- What the definitions answer to a direct search.
 -- Document 01, "Answer".
-use Prim.Native.Nat.{ℕ}
 use mathlib.Core.List.{List}
 use Rattle.semantics.specs.declared.search.Limit.{Limit}
 use Rattle.semantics.specs.declared.refusal.SearchRefusal.{SearchRefusal}

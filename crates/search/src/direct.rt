@@ -16,17 +16,16 @@ ghost use Rattle.search.specs.Expansions.{Given, Tried, Expanded};
 ghost use Rattle.search.specs.Requests.{edgeTries, directOf, foundOf};
 use edge_trial::trial;
 use edge_trial::trial::Trial;
-use graph_search::path_frontier::Frontier;
 use recorded::reply::Reply;
 use rounds::driven::Driven;
 use rounds::driven::conclude;
+use rounds::start::start;
 use search_state::item;
 use search_state::retrace::STEP_WORDS;
 use search_state::retrace::retrace;
 use search_state::search::Going;
 use search_state::search::Search;
 use search_state::search::Taken;
-use search_state::state::SearchState;
 use semantics::answer::Checked;
 use semantics::answer::Resolution;
 use semantics::bounds::SLOT_WORDS;
@@ -35,8 +34,6 @@ use semantics::graph::NodeId;
 use semantics::refusal::SearchRefusal;
 use semantics::search::SearchLimits;
 use semantics::search::SearchOrder;
-use stepping::step;
-use stepping::step::Effect;
 use stepping::steps;
 use storage::check;
 use storage::rows;
@@ -160,23 +157,20 @@ fn attempt(
     requires { ⌜ HoldsGraph (now index) ⌝ }
     ensures { λ r. ⌜ ((g : Graph) → Loaded g (now (index .entry)) → Ends r (now (result .exit)) (directOf g (requestOf order limits (now (work .entry)) (now (result .entry)) reference))) ⌝ }
 {
-    slots::zero(result);
-    let begun = step::begin(index, reference);
-    match begun {
-        Effect::Refused(r) => Driven::Refused(SearchRefusal::Path(r)),
-        Effect::Done(first) => {
-            let mut steps = [0u32; STEP_WORDS];
-            let mut item = [0u32; SLOT_WORDS];
-            steps::put_step(&mut steps, 0, first);
-            let search = Search {
-                frontier: Frontier::new(order, SLOT_WORDS, work.len() / SLOT_WORDS),
-                state: SearchState::new(limits, result.len() / SLOT_WORDS),
-            };
-            match search.push(work, &item) {
-                Going::On(on) => drive(index, &mut steps, &mut item, on, work, result),
-                Going::Refused(r) => Driven::Refused(r),
-            }
-        }
+    let mut steps = [0u32; STEP_WORDS];
+    let mut item = [0u32; SLOT_WORDS];
+    match start(
+        index,
+        reference,
+        order,
+        limits,
+        &mut steps,
+        &item,
+        work,
+        result,
+    ) {
+        Going::On(on) => drive(index, &mut steps, &mut item, on, work, result),
+        Going::Refused(r) => Driven::Refused(r),
     }
 }
 

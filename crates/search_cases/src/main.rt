@@ -1,7 +1,6 @@
 // Replays a list of direct and linear searches against the answers of the Rust library and of document 01.
 // Standard input is the list, which oracle/search_cases.py writes and describes.
 // It prints how many searches of each kind there are and how many answers differ, and before that the first of the kind that differs.
-ghost use mathlib.Core.Path.{_≡_};
 ghost use Prim.Native.Nat.{_<_, _≤_};
 ghost use lib.ListN.{length};
 ghost use Rattle.case_list.specs.Bounds.{mostBytes};
@@ -110,7 +109,7 @@ fn answer_linear(
 }
 
 // The search at a place, with areas of just the words that it names.
-fn library_answer(
+fn answer_lent(
     list: &[u8],
     at: usize,
     image: Part,
@@ -137,6 +136,15 @@ fn library_answer(
     answer_linear(list, at, image, kind, &mut result[0..r], out)
 }
 
+// Writes what the library answers to the case at a place, and answers how many numbers that are. The areas are filled before they are lent.
+fn library_answer(list: &[u8], at: usize, image: Part, out: &mut [u32]) -> usize
+    requires { ⌜ (at < mostBytes) × (image .from ≤ image .to) × (image .to ≤ length (now list)) ⌝ }
+{
+    let mut work = [0u32; MOST_WORDS];
+    let mut result = [0u32; MOST_WORDS];
+    answer_lent(list, at, image, &mut work, &mut result, out)
+}
+
 // 1 if the case at a place is of a kind, else 0.
 fn counts(list: &[u8], at: usize, kind: u8) -> u64
     ensures { λ r. ⌜ r ≤ 1 ⌝ }
@@ -144,27 +152,21 @@ fn counts(list: &[u8], at: usize, kind: u8) -> u64
     if list::byte(list, at) == kind { 1 } else { 0 }
 }
 
-// 1 if the case at a place is of the kind and is answered otherwise than the list expects, else 0.
-fn differs(
+// 1 if the search at a place is answered otherwise than the list expects, else 0. The first difference is told.
+fn differs_lent(
     list: &[u8],
     at: usize,
     image: Part,
-    kind: u8,
     name: &[u8],
     case: u64,
     differences: u64,
-    work: &mut [u32],
-    result: &mut [u32],
     out: &mut [u32],
 ) -> u64
     requires { ⌜ (at < mostBytes) × (image .from ≤ image .to) × (image .to ≤ length (now list)) ⌝ }
     ensures { λ r. ⌜ r ≤ 1 ⌝ }
 {
-    if list::byte(list, at) != kind {
-        return 0;
-    }
     let expected = request::answer_at(list, at);
-    let count = library_answer(list, at, image, work, result, out);
+    let count = library_answer(list, at, image, out);
     if numbers::same(list, expected, out, count) {
         return 0;
     }
@@ -174,15 +176,28 @@ fn differs(
     1
 }
 
-// Every case of a kind in its order, numbered from 0.
-fn replay_kind(
+// The same of a search of the kind; 0 of any other case.
+fn differs(
     list: &[u8],
+    at: usize,
+    image: Part,
     kind: u8,
     name: &[u8],
-    work: &mut [u32],
-    result: &mut [u32],
-    out: &mut [u32],
-)
+    case: u64,
+    differences: u64,
+) -> u64
+    requires { ⌜ (at < mostBytes) × (image .from ≤ image .to) × (image .to ≤ length (now list)) ⌝ }
+    ensures { λ r. ⌜ r ≤ 1 ⌝ }
+{
+    if list::byte(list, at) != kind {
+        return 0;
+    }
+    let mut out = [0u32; MOST_NUMBERS];
+    differs_lent(list, at, image, name, case, differences, &mut out)
+}
+
+// Every case of a kind in its order, numbered from 0.
+fn replay_kind(list: &[u8], kind: u8, name: &[u8])
     requires { ⌜ length (now list) ≤ mostBytes ⌝ }
 {
     let mut at: usize = 0;
@@ -191,64 +206,30 @@ fn replay_kind(
     let mut image = Part { from: 0, to: 0 };
     while at < list.len() {
         image = list::image_part(list, at, image);
-        differences += differs(
-            list,
-            at,
-            image,
-            kind,
-            name,
-            searches,
-            differences,
-            work,
-            result,
-            out,
-        );
+        differences += differs(list, at, image, kind, name, searches, differences);
         searches += counts(list, at, kind);
         at = cases::next_case(list, at);
     }
     report::tell_sums(name, searches, differences);
 }
 
-fn replay_direct(list: &[u8], work: &mut [u32], result: &mut [u32], out: &mut [u32])
+fn replay_list(list: &[u8])
     requires { ⌜ length (now list) ≤ mostBytes ⌝ }
 {
-    replay_kind(list, cases::DIRECT, b"direct", work, result, out);
-    replay_kind(
-        list,
-        cases::DIRECT_RECORDED,
-        b"direct recorded",
-        work,
-        result,
-        out,
-    );
+    replay_kind(list, cases::DIRECT, b"direct");
+    replay_kind(list, cases::DIRECT_RECORDED, b"direct recorded");
+    replay_kind(list, cases::LINEAR, b"linear");
+    replay_kind(list, cases::LINEAR_RECORDED, b"linear recorded");
 }
 
-fn replay_linear(list: &[u8], work: &mut [u32], result: &mut [u32], out: &mut [u32])
-    requires { ⌜ length (now list) ≤ mostBytes ⌝ }
-{
-    replay_kind(list, cases::LINEAR, b"linear", work, result, out);
-    replay_kind(
-        list,
-        cases::LINEAR_RECORDED,
-        b"linear recorded",
-        work,
-        result,
-        out,
-    );
-}
-
-fn read_and_replay(list: &mut [u8], work: &mut [u32], result: &mut [u32], out: &mut [u32])
+fn read_and_replay(list: &mut [u8])
     requires { ⌜ length (now list) ≤ mostBytes ⌝ }
 {
     let n = io::read_full(STDIN_FILENO, list);
-    replay_direct(&list[0..n], work, result, out);
-    replay_linear(&list[0..n], work, result, out);
+    replay_list(&list[0..n]);
 }
 
 fn main() {
     let mut list = [0u8; MOST_BYTES];
-    let mut work = [0u32; MOST_WORDS];
-    let mut result = [0u32; MOST_WORDS];
-    let mut out = [0u32; MOST_NUMBERS];
-    read_and_replay(&mut list, &mut work, &mut result, &mut out);
+    read_and_replay(&mut list);
 }

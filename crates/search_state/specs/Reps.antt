@@ -18,7 +18,7 @@ use Rattle.semantics.specs.Direct.{searchSetting}
 use Rattle.semantics.specs.Recorded.{edgeLists}
 use Rattle.semantics.specs.Words.{encode, area}
 use Rattle.words.specs.Slots.{SlotsIn}
-use Rattle.graph_search.specs.Budget.{limitsOf}
+use Rattle.budget.specs.Budget.{limitsOf}
 use Rattle.graph_search.specs.Frontier.Stands.{Stands}
 use Rattle.search_state.specs.declared.state.SearchState.{SearchState}
 use Rattle.search_state.specs.declared.search.Search as S

@@ -11,7 +11,7 @@ use Rattle.graph_search.specs.declared.path_frontier.Pushed.{Pushed}
 use Rattle.graph_search.specs.declared.path_frontier.Pushed.the-variants as Pushed
 use Rattle.graph_search.specs.declared.path_frontier.Popped.{Popped}
 use Rattle.graph_search.specs.declared.path_frontier.Popped.the-variants as Popped
-use Rattle.graph_search.specs.Budget.{expansion}
+use Rattle.budget.specs.Budget.{expansion}
 use Rattle.graph_search.specs.Frontier.{Pushes, Pops}
 use Rattle.search_state.specs.declared.state.SearchState.{SearchState}
 use Rattle.search_state.specs.declared.search.Search as S

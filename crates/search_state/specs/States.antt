@@ -7,8 +7,8 @@ use Rattle.semantics.specs.declared.search.SearchLimits.{SearchLimits}
 use Rattle.semantics.specs.declared.search.SearchStats.{SearchStats}
 use Rattle.semantics.specs.Lists.{pick}
 use Rattle.words.specs.Slots.{putSlot}
-use Rattle.graph_search.specs.declared.path_budget.Budget.{Budget}
-use Rattle.graph_search.specs.Budget.{fresh, withMaxLength, withMaxPaths, withMaxComplete, lengthening, completion, statsOf}
+use Rattle.budget.specs.declared.path_budget.Budget.{Budget}
+use Rattle.budget.specs.Budget.{fresh, withMaxLength, withMaxPaths, withMaxComplete, lengthening, completion, statsOf}
 use Rattle.search_state.specs.declared.state.SearchState.{SearchState}
 use Rattle.search_state.specs.declared.state.Recorded.{Recorded}
 use Rattle.search_state.specs.declared.state.Recorded.the-variants.{Done, Full}

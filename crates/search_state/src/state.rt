@@ -4,7 +4,7 @@ ghost use mathlib.Core.Path.{_≡_};
 ghost use Prim.Native.Nat.{_+_, _<_, _≤_, _^_};
 ghost use Rattle.words.specs.Slots.{IsSlot, SlotsIn};
 ghost use Rattle.search_state.specs.States.{newState, withBudget, cutOne, rejectedOne, overlongBy, recordedBy, resultAfter, statsIn};
-use graph_search::path_budget::Budget;
+use budget::path_budget::Budget;
 use semantics::bounds::SLOT_WORDS;
 use semantics::search::SearchLimits;
 use semantics::search::SearchStats;

@@ -92,7 +92,7 @@ fn answer_search(
 }
 
 // The search at a place, with areas of just the words that it names.
-fn library_answer(
+fn answer_lent(
     list: &[u8],
     at: usize,
     image: Part,
@@ -116,6 +116,15 @@ fn library_answer(
     )
 }
 
+// The same with areas to lend. They are filled before each search.
+fn library_answer(list: &[u8], at: usize, image: Part, words: &[u32], out: &mut [u32]) -> usize
+    requires { ⌜ (at < mostBytes) × (image .from ≤ image .to) × (image .to ≤ length (now list)) ⌝ }
+{
+    let mut work = [0u32; MOST_AREA];
+    let mut result = [0u32; MOST_AREA];
+    answer_lent(list, at, image, words, &mut work, &mut result, out)
+}
+
 fn tell_difference(kind: u8, case: u64, list: &[u8], at: usize, given: &[u32], numbers: usize)
     requires { ⌜ at + 1000000 < mostPlace ⌝ }
 {
@@ -127,22 +136,20 @@ fn tell_difference(kind: u8, case: u64, list: &[u8], at: usize, given: &[u32], n
 }
 
 // 1 if the search at a place is answered otherwise than the list expects, else 0. The first difference of a kind is told.
-fn differs(
+fn differs_lent(
     list: &[u8],
     at: usize,
     image: Part,
     words: &[u32],
-    work: &mut [u32],
-    result: &mut [u32],
-    out: &mut [u32],
     case: u64,
     differences: u64,
+    out: &mut [u32],
 ) -> u64
     requires { ⌜ (at < mostBytes) × (image .from ≤ image .to) × (image .to ≤ length (now list)) ⌝ }
     ensures { λ r. ⌜ r ≤ 1 ⌝ }
 {
     let expected = request::answer_at(list, at);
-    let given = library_answer(list, at, image, words, work, result, out);
+    let given = library_answer(list, at, image, words, out);
     if numbers::same(list, expected, out, given) {
         return 0;
     }
@@ -150,6 +157,14 @@ fn differs(
         tell_difference(list::byte(list, at), case, list, expected, out, given);
     }
     1
+}
+
+fn differs(list: &[u8], at: usize, image: Part, words: &[u32], case: u64, differences: u64) -> u64
+    requires { ⌜ (at < mostBytes) × (image .from ≤ image .to) × (image .to ≤ length (now list)) ⌝ }
+    ensures { λ r. ⌜ r ≤ 1 ⌝ }
+{
+    let mut out = [0u32; MOST_NUMBERS];
+    differs_lent(list, at, image, words, case, differences, &mut out)
 }
 
 // Where the sums of a kind stand: how many cases, and behind that how many differ.
@@ -160,37 +175,19 @@ fn row(kind: u8) -> usize
 }
 
 // The search at a place is made and counted.
-fn compare(
-    list: &[u8],
-    at: usize,
-    image: Part,
-    words: &[u32],
-    work: &mut [u32],
-    result: &mut [u32],
-    out: &mut [u32],
-    sums: &mut [u64],
-)
+fn compare(list: &[u8], at: usize, image: Part, words: &[u32], sums: &mut [u64])
     requires { ⌜ (at < mostBytes) × (image .from ≤ image .to) × (image .to ≤ length (now list)) ⌝ }
 {
     let of_kind = row(list::byte(list, at));
     let case = sum(sums, of_kind);
     let differences = sum(sums, of_kind + 1);
-    let more = differs(list, at, image, words, work, result, out, case, differences);
+    let more = differs(list, at, image, words, case, differences);
     add(sums, of_kind, 1);
     add(sums, of_kind + 1, more);
 }
 
 // The case at a place: an image stands where it is, words are written, a search is made.
-fn visit(
-    list: &[u8],
-    at: usize,
-    image: Part,
-    words: &mut [u32],
-    work: &mut [u32],
-    result: &mut [u32],
-    out: &mut [u32],
-    sums: &mut [u64],
-)
+fn visit(list: &[u8], at: usize, image: Part, words: &mut [u32], sums: &mut [u64])
     requires { ⌜ (at < mostBytes) × (image .from ≤ image .to) × (image .to ≤ length (now list)) ⌝ }
 {
     if list::is_image(list, at) {
@@ -199,19 +196,12 @@ fn visit(
     if lent::is_words(list, at) {
         lent::write(list, at, words);
     } else {
-        compare(list, at, image, words, work, result, out, sums);
+        compare(list, at, image, words, sums);
     }
 }
 
 // Every case in its order, with a database of as many words as were last lent.
-fn replay(
-    list: &[u8],
-    words: &mut [u32],
-    work: &mut [u32],
-    result: &mut [u32],
-    out: &mut [u32],
-    sums: &mut [u64],
-)
+fn replay(list: &[u8], words: &mut [u32], sums: &mut [u64])
     requires { ⌜ length (now list) ≤ mostBytes ⌝ }
 {
     let mut at: usize = 0;
@@ -221,7 +211,7 @@ fn replay(
         image = list::image_part(list, at, image);
         lent = lent::count(list, at, lent);
         let w = list::lesser(lent, words.len());
-        visit(list, at, image, &mut words[0..w], work, result, out, sums);
+        visit(list, at, image, &mut words[0..w], sums);
         at = cases::next_case(list, at);
     }
 }
@@ -231,26 +221,17 @@ fn tell_sums(sums: &[u64]) {
     report::tell_sums(b"stitched recorded", sum(sums, 2), sum(sums, 3));
 }
 
-fn read_and_replay(
-    list: &mut [u8],
-    words: &mut [u32],
-    work: &mut [u32],
-    result: &mut [u32],
-    out: &mut [u32],
-)
+fn read_and_replay(list: &mut [u8], words: &mut [u32])
     requires { ⌜ length (now list) ≤ mostBytes ⌝ }
 {
     let mut sums = [0u64; 4];
     let n = io::read_full(STDIN_FILENO, list);
-    replay(&list[0..n], words, work, result, out, &mut sums);
+    replay(&list[0..n], words, &mut sums);
     tell_sums(&sums);
 }
 
 fn main() {
     let mut list = [0u8; MOST_BYTES];
     let mut words = [0u32; MOST_WORDS];
-    let mut work = [0u32; MOST_AREA];
-    let mut result = [0u32; MOST_AREA];
-    let mut out = [0u32; MOST_NUMBERS];
-    read_and_replay(&mut list, &mut words, &mut work, &mut result, &mut out);
+    read_and_replay(&mut list, &mut words);
 }

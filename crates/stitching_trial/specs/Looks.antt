@@ -11,8 +11,8 @@ use Rattle.semantics.specs.Limits.{within}
 use Rattle.semantics.specs.Graph.{View}
 use Rattle.semantics.specs.Path.{Path}
 use Rattle.semantics.specs.Enumeration.{State, Try, cut, overlong, reject, stop, go, one, judged, withStats, withTally, addLooked, addOverlong, addCycle, addRejected, flagLength}
-use Rattle.graph_search.specs.Budget.{lengthening, limitsOf}
-use Rattle.graph_search.specs.Budget.Laws.{lengthening-limits, lengthening-refused}
+use Rattle.budget.specs.Budget.{lengthening, limitsOf}
+use Rattle.budget.specs.Budget.Laws.{lengthening-limits, lengthening-refused}
 use Rattle.search_state.specs.declared.search.Search as S
 use Rattle.search_state.specs.declared.search.Going.{Going}
 use Rattle.search_state.specs.declared.search.Going.the-variants.{On, Refused}

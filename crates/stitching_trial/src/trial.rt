@@ -3,7 +3,7 @@
 ghost use mathlib.Core.Path.{_≡_};
 ghost use Rattle.semantics.specs.Lists.{shares};
 ghost use Rattle.stitching_trial.specs.Trials.{Appends, AppendsTo, endedBy, Judging, JudgedAs};
-use graph_search::path_budget::Budget;
+use budget::path_budget::Budget;
 use search_state::item;
 use semantics::bounds::MAX_EDGES;
 use semantics::refusal::PathRefusal;

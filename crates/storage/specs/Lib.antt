@@ -1,6 +1,4 @@
 pub mod Rows
-pub mod Steps
-pub mod Filling
-pub mod Records
+pub mod Links
 pub mod References
 pub mod Checks

@@ -5,7 +5,7 @@ ghost use Prim.Native.Nat.{ℕ, _+_, _<_, _≤_};
 ghost use lib.ListN.{length};
 ghost use Rattle.semantics.specs.Graph.{Graph};
 ghost use Rattle.storage.specs.Rows.{EDGES, INDEX, Loaded};
-ghost use Rattle.storage.specs.Filling.{Linked};
+ghost use Rattle.storage.specs.Links.{Linked};
 ghost use Rattle.storage.specs.References.{Sources};
 use crate::rows;
 

@@ -7,7 +7,7 @@ ghost use lib.ListN.{length};
 ghost use Rattle.semantics.specs.declared.graph.Edge.the-variants.{Live};
 ghost use Rattle.semantics.specs.Acceptance.{exportedIn, edgeFits};
 ghost use Rattle.semantics.specs.Graph.{Graph, nodeId, viewOf};
-ghost use Rattle.storage.specs.Filling.{Held};
+ghost use Rattle.image.specs.Filling.{Held};
 ghost use Rattle.storage.specs.References.{First, nodeTest, edgeTest};
 ghost use Rattle.storage.specs.Rows.{INDEX};
 use crate::rows;

@@ -3,19 +3,24 @@
 // It prints how many images were checked and how many answers differ, and before that the first case that differs.
 ghost use Prim.Native.Nat.{_<_, _≤_};
 ghost use lib.ListN.{length};
-ghost use Rattle.storage_cases.specs.List.{mostBytes};
+ghost use Rattle.case_list.specs.Bounds.{mostBytes};
 
 mod answer;
-mod list;
+mod cases;
 
+use case_list::answer as numbers;
+use case_list::list;
+use case_list::list::Part;
+use case_list::report;
 use libc::STDIN_FILENO;
-use libc::STDOUT_FILENO;
-use list::Part;
 use semantics::answer::Checked;
 use storage::check;
 
 // The whole list is held here.
 const MOST_BYTES: usize = 600000;
+
+// An answer has at most 4 numbers.
+const MOST_NUMBERS: usize = 4;
 
 // The image with one byte changed. The byte is put back, as later cases change the same image.
 // The list names no place behind the image, nor a longer beginning in check_cut; such a case would check the whole image.
@@ -47,38 +52,29 @@ fn library_answer(list: &mut [u8], at: usize, whole: Part) -> Checked
     let tag = list::byte(list, at);
     let place = list::short(list, at + 1) as usize;
     let value = list::byte(list, at + 3);
-    if tag == list::CHANGED {
+    if tag == cases::CHANGED {
         return check_changed(&mut list[from..to], place, value);
     }
-    if tag == list::CUT {
+    if tag == cases::CUT {
         return check_cut(&list[from..to], place);
     }
     check::check(&list[from..to])
 }
 
-fn tell_difference(case: u64, expected: answer::Answer, given: answer::Answer) {
-    io::write_all(STDOUT_FILENO, b"case ");
-    io::print_decimal(STDOUT_FILENO, case);
-    io::write_all(STDOUT_FILENO, b" expected");
-    answer::print(expected);
-    io::write_all(STDOUT_FILENO, b" given");
-    answer::print(given);
-    io::write_all(STDOUT_FILENO, b"\n");
-}
-
-// 1 if the case at a place is answered otherwise than the list expects, else 0.
+// 1 if the case at a place is answered otherwise than the list expects, else 0. The first difference is told.
 fn differs(list: &mut [u8], at: usize, whole: Part, case: u64, differences: u64) -> u64
     requires { ⌜ (at < mostBytes) × (whole .from ≤ whole .to) × (whole .to ≤ length (now list)) ⌝ }
     ensures { λ r. ⌜ r ≤ 1 ⌝ }
 {
-    let answer_at = list::answer_at(list, at);
-    let expected = answer::read(list, answer_at);
-    let given = answer::told(library_answer(list, at, whole));
-    if answer::same(expected, given) {
+    let mut out = [0u32; MOST_NUMBERS];
+    let answer_at = cases::answer_at(list, at);
+    let expected = list::tiny(list, answer_at) as usize;
+    let count = answer::put_checked(&mut out, library_answer(list, at, whole));
+    if numbers::same_numbers(list, answer_at + 1, expected, &out, count) {
         return 0;
     }
     if differences == 0 {
-        tell_difference(case, expected, given);
+        report::tell_numbers(b"images", case, list, answer_at + 1, expected, &out, count);
     }
     1
 }
@@ -92,20 +88,12 @@ fn replay(list: &mut [u8])
     let mut differences: u64 = 0;
     let mut whole = Part { from: 0, to: 0 };
     while at < list.len() {
-        whole = list::whole_image(list, at, whole);
+        whole = list::image_part(list, at, whole);
         differences += differs(list, at, whole, images, differences);
         images += 1;
-        at = list::next_case(list, at);
+        at = cases::next_case(list, at);
     }
-    tell_sums(images, differences);
-}
-
-fn tell_sums(images: u64, differences: u64) {
-    io::write_all(STDOUT_FILENO, b"images ");
-    io::print_decimal(STDOUT_FILENO, images);
-    io::write_all(STDOUT_FILENO, b" different ");
-    io::print_decimal(STDOUT_FILENO, differences);
-    io::write_all(STDOUT_FILENO, b"\n");
+    report::tell_sums(b"images", images, differences);
 }
 
 fn read_and_replay(list: &mut [u8])

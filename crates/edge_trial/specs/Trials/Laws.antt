@@ -26,10 +26,10 @@ use Rattle.stepping.specs.StepWords.Laws.{step-same}
 use Rattle.stepping.specs.Judged.{Stepped, judgedOf, completeStep}
 use Rattle.stepping.specs.Judged.Laws.{complete-is}
 use Rattle.path.specs.Replays.Laws.{nodes-are}
-use Rattle.graph_search.specs.declared.path_budget.Budget.{Budget}
-use Rattle.graph_search.specs.declared.path_budget.Admitted.{Admitted}
-use Rattle.graph_search.specs.Budget.{lengthening}
-use Rattle.graph_search.specs.Budget.Laws.{lengthening-allowed}
+use Rattle.budget.specs.declared.path_budget.Budget.{Budget}
+use Rattle.budget.specs.declared.path_budget.Admitted.{Admitted}
+use Rattle.budget.specs.Budget.{lengthening}
+use Rattle.budget.specs.Budget.Laws.{lengthening-allowed}
 use Rattle.search_state.specs.Retraces.Laws.{effect-done, effect-refused}
 use Rattle.edge_trial.specs.declared.trial.Trial.{Trial}
 use Rattle.edge_trial.specs.declared.trial.Trial.the-variants.{Cut, Overlong, Rejected, TooLong, Extended}

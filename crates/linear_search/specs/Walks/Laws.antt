@@ -25,7 +25,7 @@ use Rattle.semantics.specs.Words.{encode}
 use Rattle.storage.specs.Rows.{nodeRow, edgeRow}
 use Rattle.stepping.specs.Judged.{Ready, Stepped, judgedOf}
 use Rattle.path.specs.Replays.Calls.{from-a-reference, few-edges}
-use Rattle.graph_search.specs.Budget.Laws.{lengthening-limits, lengthening-refused}
+use Rattle.budget.specs.Budget.Laws.{lengthening-limits, lengthening-refused}
 use Rattle.search_state.specs.declared.state.SearchState.{SearchState}
 use Rattle.search_state.specs.declared.state.Recorded.{Recorded}
 use Rattle.search_state.specs.declared.state.Recorded.the-variants.{Done, Full}

@@ -28,9 +28,9 @@ use Rattle.stepping.specs.declared.step.Effect.the-variants.{Done, Refused}
 use Rattle.stepping.specs.StepWords.{stepAt, withStep}
 use Rattle.stepping.specs.Judged.{Ready, Stepped, judgedOf, wordsAfter}
 use Rattle.path.specs.Replays.Calls.{few-edges}
-use Rattle.graph_search.specs.declared.path_budget.Admitted.{Admitted}
-use Rattle.graph_search.specs.Budget.{expansion}
-use Rattle.graph_search.specs.Budget.Laws.{expansion-allowed, expansion-limits, expansion-granted, expansion-refused}
+use Rattle.budget.specs.declared.path_budget.Admitted.{Admitted}
+use Rattle.budget.specs.Budget.{expansion}
+use Rattle.budget.specs.Budget.Laws.{expansion-allowed, expansion-limits, expansion-granted, expansion-refused}
 use Rattle.search_state.specs.declared.state.SearchState.{SearchState}
 use Rattle.search_state.specs.Items.Laws.{carries-slot}
 use Rattle.search_state.specs.Items.{Carries}

@@ -1,13 +1,13 @@
 -- From the starts of a computation to its answer, and from that to the replaced file.
 -- Serves document 01, "Partial paths"; 21, 33, 34 and 35 of "Turned back".
-use Prim.Native.Nat.{ℕ, zero, suc, _+_, _-_, _*_, _/_, _<_, _≤_, _^_}
+use Prim.Native.Nat.{ℕ, _+_, _-_, _/_, _<_, _≤_, _^_}
 use native.Mathlib.Omega.{arith}
 use mathlib.Core.Path.{_≡_, refl, sym, ap, subst, _∙_}
-use mathlib.Core.Logic.{_⊎_, ⊎-elim}
+use mathlib.Core.Logic.{⊎-elim}
 use mathlib.Core.Bool.{Bool, true, false}
 use mathlib.Core.List.{List, [], _∷_, List·Memᴰ, List·Memᴰ·not-nil}
 use borrow.Author.Tests.{lt-ltb, le-ltb, leb-true}
-use lib.Dec.{ltb, leb}
+use lib.Dec.{leb}
 use lib.ListN.{length, take}
 use Rattle.semantics.specs.declared.search.Limit.{Limit}
 use Rattle.semantics.specs.declared.search.SearchStats.{SearchStats}
@@ -19,17 +19,17 @@ use Rattle.semantics.specs.declared.refusal.PartialPathRefusal.the-variants.{Un
 use Rattle.semantics.specs.declared.answer.Replacement.{Replacement}
 use Rattle.semantics.specs.declared.answer.Replacement.the-variants as Replacement
 use Rattle.semantics.specs.Limits.{Bounds, base}
-use Rattle.semantics.specs.Answer.{Answer, ok, refuse, andThen}
+use Rattle.semantics.specs.Answer.{Answer, ok, refuse}
 use Rattle.semantics.specs.Answer.Laws.{ok-inj, refuse-ok, andThen-ok}
 use Rattle.semantics.specs.Graph.{fileId, Graph, viewOf}
-use Rattle.semantics.specs.Enumeration.{State, Setting, Tally, blank, pushItem, withPending, run, merge, enumerate}
+use Rattle.semantics.specs.Enumeration.{State, Setting, blank, pushItem, withPending, run, merge, enumerate}
 use Rattle.semantics.specs.Enumeration as Enumeration
 use Rattle.semantics.specs.Enumeration.Laws.{place-ok}
 use Rattle.semantics.specs.PartialPaths.{Route, Slot, startRoutes, belongs, routeTries, partials, fileRoutes, ifKnown, filePartials, partialStats}
-use Rattle.semantics.specs.Words.{zeros, wholeSlots}
+use Rattle.semantics.specs.Words.{zeros}
 use Rattle.semantics.specs.Words.Laws.{whole-fits}
 use Rattle.semantics.specs.Database.{usedIn, capacity, recordPlace, filesOnly, slotsIn, wellFormed, checkDatabase, hasRoom, replaceWords}
-use Rattle.semantics.specs.Calls.{Change, FileRequest, fileSettingOf, unaltered, stored, computed, onDatabase, replaceCall}
+use Rattle.semantics.specs.Calls.{FileRequest, fileSettingOf, stored, computed, onDatabase, replaceCall}
 use Rattle.storage.specs.Rows.{Loaded}
 use Rattle.graph_search.specs.Frontier.Stands.{stands-blank}
 use Rattle.database.specs.declared.check.Inspected.{Inspected}
@@ -41,20 +41,18 @@ use Rattle.database.specs.Filing.{cleared, putRoutes, headed}
 use Rattle.database.specs.Filing.Laws.{room-is, replaced-in-steps}
 use Rattle.partial_state.specs.declared.filing.Filing.{Filing}
 use Rattle.partial_state.specs.declared.extraction.Config.{Config}
-use Rattle.partial_state.specs.declared.extraction.Extraction.{Extraction}
-use Rattle.partial_state.specs.declared.extraction.Going.{Going}
-use Rattle.partial_state.specs.declared.extraction.Going.the-variants as Going
-use Rattle.partial_state.specs.Routes.{held, Traced}
+use Rattle.partial_state.specs.declared.extraction.Frame.{Frame}
+use Rattle.partial_state.specs.Routes.{held}
 use Rattle.partial_state.specs.Filings.{Fits, filedIn}
 use Rattle.partial_state.specs.Filings.Laws.{take-all, filed-none, filed-nowhere}
-use Rattle.partial_state.specs.Extractions.{newExtraction}
-use Rattle.partial_state.specs.Reps.{Frame, frameOf, settingOf, Rep, Untouched, Tells}
+use Rattle.partial_state.specs.Extractions.{Computation, Course, goes, stops, newComputation}
+use Rattle.partial_state.specs.Reps.{frameOf, settingOf, Rep, Untouched, Tells}
 use Rattle.partial_state.specs.Reps.Laws.{tells-on, tells-refused}
 use Rattle.partial.specs.declared.compute.Computed.{Computed}
 use Rattle.partial.specs.declared.compute.Computed.the-variants.{Done, Refused}
 use Rattle.partial.specs.declared.replace.Sizes.{Sizes}
-use Rattle.partial.specs.Expansions.{triesOf, Driving, Ends, runFrom, DrivenTo}
-use Rattle.partial.specs.Seeds.{Holds, Seeding, Seeded}
+use Rattle.partial.specs.Rounds.{Driving, Ends, runFrom, DrivenTo}
+use Rattle.partial_trial.specs.Seeds.{Seeding, Seeded}
 use Rattle.partial.specs.Requests.{askedBy, routesOf, Computing, ComputedTo, Storing, Replacing, Inspecting, replacedOn, inspectedOn, Leaves, Does}
 
 -- ---- seeding counts nothing
@@ -85,12 +83,12 @@ module _ (bd : Bounds) (lim : Limit) (c : Setting PartialPathRefusal) (g : Graph
 
 -- ---- a computation
 
-module _ (index : List ℕ) (g : Graph) (loaded : Loaded g index) (f : Filing) (c : Config) (ws db : List ℕ) (x : Extraction) (made : x ≡ newExtraction c (length ws / 128)) where
+module _ (index : List ℕ) (g : Graph) (loaded : Loaded g index) (f : Filing) (c : Config) (ws db : List ℕ) (x : Computation) (made : x ≡ newComputation c (length ws / 128)) where
   abbrev asks : FileRequest
   asks = askedBy c ws (f .file)
 
-  abbrev fresh : Extraction
-  fresh = newExtraction c (length ws / 128)
+  abbrev fresh : Computation
+  fresh = newComputation c (length ws / 128)
 
   nothing : Rep (viewOf g) f db fresh ws db blank
   nothing = record {
@@ -104,22 +102,22 @@ module _ (index : List ℕ) (g : Graph) (loaded : Loaded g index) (f : Filing) (
 
   -- what the starts are given
   pub begins : (item : List ℕ) → length item ≡ 128 → Seeding item x ws
-  begins item l = record { view = viewOf g; filing = f; origin = db; database = db; slot = l; model = blank; rep = subst (λ (y : Extraction). Rep (viewOf g) f db y ws db blank) (sym made) nothing }
+  begins item l = record { view = viewOf g; filing = f; origin = db; database = db; slot = l; model = blank; rep = subst (λ (y : Computation). Rep (viewOf g) f db y ws db blank) (sym made) nothing }
 
-  module _ (item : List ℕ) (long : length item ≡ 128) (a : Going) (ws′ : List ℕ) (s : Seeded item x ws (begins item long) g (f .file) a ws′) where
+  module _ (item : List ℕ) (long : length item ≡ 128) (a : Course) (ws′ : List ℕ) (s : Seeded item x ws (begins item long) g (f .file) a ws′) where
     abbrev seeds : Answer PartialPathRefusal (State Route)
     seeds = Enumeration.seed (fileSettingOf base asks) blank (startRoutes g (f .file))
 
     told : Tells (viewOf g) f db (frameOf fresh) a ws′ db seeds
     unfolding begins
-    told = subst (λ (y : Extraction). Tells (viewOf g) f db (frameOf y) a ws′ db (Enumeration.seed (settingOf (frameOf y)) blank (startRoutes g (f .file)))) made s
+    told = subst (λ (y : Computation). Tells (viewOf g) f db (frameOf y) a ws′ db (Enumeration.seed (settingOf (frameOf y)) blank (startRoutes g (f .file)))) made s
 
-    pub compute-refused : (y : PartialPathRefusal) → a ≡ Going.Refused y → Ends f db (Refused y) db (routesOf g asks)
+    pub compute-refused : (y : PartialPathRefusal) → a ≡ stops y → Ends f db (Refused y) db (routesOf g asks)
     compute-refused y e =
         let u = tells-refused (viewOf g) f db (frameOf fresh) a ws′ db seeds y told e in
         subst (λ (t : Answer PartialPathRefusal (State Route)). Ends f db (Refused y) db t) (sym (routes-refused base (c .length) (fileSettingOf base asks) g (f .file) y (u .0))) (refl, λ q. refl)
 
-    module _ (on : Extraction) (e : a ≡ Going.On on) where
+    module _ (on : Computation) (e : a ≡ goes on) where
       begun : (m : State Route) × (seeds ≡ ok m) × (frameOf on ≡ frameOf fresh) × Rep (viewOf g) f db on ws′ db m
       begun = tells-on (viewOf g) f db (frameOf fresh) a ws′ db seeds on told e
 

@@ -7,10 +7,11 @@ use Rattle.partial_cases.proofs.replay.Statement.{statement}
 use Rattle.partial_cases.proofs.replay.Tie as tie
 
 abbrev Inv-loop : tie.InvT-loop
-Inv-loop list work₀ words₀ before₀ out₀ sums₀ at₀ lent₀ image₀ work words before out sums at lent image = (length work ≡ length work₀) × (length words ≡ length words₀) × (length before ≡ length before₀) × (length out ≡ length out₀) × (length sums ≡ length sums₀) × (at ≤ length list) × (image .from ≤ image .to) × (image .to ≤ length list)
+Inv-loop list words₀ before₀ sums₀ at₀ lent₀ image₀ words before sums at lent image =
+    (length words ≡ length words₀) × (length before ≡ length before₀) × (length sums ≡ length sums₀) × (at ≤ length list) × (image .from ≤ image .to) × (image .to ≤ length list)
 
 abbrev μ-loop : tie.MeasureT-loop
-μ-loop list work₀ words₀ before₀ out₀ sums₀ at₀ lent₀ image₀ work words before out sums at lent image = length list - at
+μ-loop list words₀ before₀ sums₀ at₀ lent₀ image₀ words before sums at lent image = length list - at
 
 loop-holds : tie.Need-loop-holds Inv-loop μ-loop
 loop-holds c = search needs
@@ -66,12 +67,6 @@ same-length-2 c = search needs
 same-length-3 : tie.Need-same-length-3 Inv-loop μ-loop
 same-length-3 c = search needs
 
-same-length-4 : tie.Need-same-length-4 Inv-loop μ-loop
-same-length-4 c = search needs
-
-same-length-5 : tie.Need-same-length-5 Inv-loop μ-loop
-same-length-5 c = search needs
-
 returns : tie.Need-returns Inv-loop μ-loop
 returns c = search needs
 
@@ -99,6 +94,4 @@ replay-spec =
     same-length
     same-length-2
     same-length-3
-    same-length-4
-    same-length-5
     returns)

@@ -1,41 +1,111 @@
--- Outcomes of the operations on a computation.
+-- Outcomes of the operations on a computation: what is handed on in code, put into its frame, is the whole computation after the operation.
 -- Serves document 01, "Partial paths" and "Budget and frontier".
-use Prim.Native.Nat.{ℕ, _<_, _≤_}
-use mathlib.Core.Path.{_≡_, refl, sym, ap, _∙_}
+use Prim.Native.Nat.{ℕ, _+_, _<_, _≤_, _^_}
+use mathlib.Core.Path.{_≡_, refl, sym, ap, subst, _∙_}
 use mathlib.Core.Bool.{Bool, true, false}
+use mathlib.Core.List.{List}
 use borrow.Author.Tests.{le-leb, lt-leb}
-use Rattle.graph_search.specs.declared.path_budget.Budget.{Budget}
-use Rattle.graph_search.specs.declared.path_budget.Admitted.{Admitted}
+use Rattle.semantics.specs.declared.refusal.PartialPathRefusal.the-variants.{NoWaitingSlot}
+use Rattle.semantics.specs.Limits.{within, below}
+use Rattle.budget.specs.declared.path_budget.Budget.{Budget}
+use Rattle.budget.specs.declared.path_budget.Admitted.{Admitted}
 use Rattle.graph_search.specs.declared.path_frontier.Frontier.{Frontier}
+use Rattle.graph_search.specs.declared.path_frontier.Pushed.{Pushed}
+use Rattle.graph_search.specs.declared.path_frontier.Pushed.the-variants as Pushed
 use Rattle.graph_search.specs.declared.path_frontier.Popped.{Popped}
 use Rattle.graph_search.specs.declared.path_frontier.Popped.the-variants as Popped
-use Rattle.graph_search.specs.Budget.{fresh, withMaxLength, withMaxPaths, expansion}
-use Rattle.graph_search.specs.Frontier.{empty}
+use Rattle.budget.specs.Budget.{answerBy, oneExpanded, refusedCount, refusedLength, expansion, lengthening}
+use Rattle.words.specs.Slots.{IsSlot}
+use Rattle.graph_search.specs.Frontier.{Framed, Pushes, Pops}
+use Rattle.graph_search.specs.Frontier.Laws.{push-frame, pop-frame}
 use Rattle.partial_state.specs.declared.extraction.Config.{Config}
+use Rattle.partial_state.specs.declared.extraction.Frame.{Frame}
 use Rattle.partial_state.specs.declared.extraction.Extraction.{Extraction}
-use Rattle.partial_state.specs.declared.extraction.Taken.{Taken}
-use Rattle.partial_state.specs.declared.extraction.Taken.the-variants.{Over, Expand, TooMany}
-use Rattle.partial_state.specs.Extractions.{newExtraction, withBudget, withFrontier, admittedOf, takenOf}
+use Rattle.partial_state.specs.Extractions.{Computation, goes, stops, closing, opening, exceeding, frameWith, nothingYet, at, newComputation, countedBy, placedBy, withBudget, withFrontier, courseOf, openingOf, Extends, Taking}
 
-module _ (x : Extraction) (p : Popped) (f : Frontier) (item : p ≡ Popped.Item f) (a : Admitted) (is : a ≡ expansion (x .budget)) (n : Extraction) (made : n ≡ withBudget (a .budget) x) where
-  answers : (b : Bool) → a .allowed ≡ b → expansion (x .budget) .allowed ≡ b
-  answers b e = ap (λ (y : Admitted). y .allowed) (sym is) ∙ e
+module _ (fr : Frame) (p : Extraction) where
+  -- ---- what is left behind by a frontier, and by a budget
+  placed-is : (n : Frontier) → n .order ≡ fr .order → n .length ≡ 128 → n .capacity ≡ fr .waiting → at fr (placedBy n p) ≡ withFrontier n (at fr p)
+  placed-is n o l c = λ i. record { frontier = record { order = sym o i; length = sym l i; first = n .first; count = n .count; pending = n .pending; capacity = sym c i }; budget = at fr p .budget; cycles = p .cycles; found = p .found }
 
-  next-is : n ≡ withBudget (expansion (x .budget) .budget) x
-  next-is = made ∙ ap (λ (y : Admitted). withBudget (y .budget) x) is
+  expanded-is : at fr (countedBy (expansion (at fr p .budget) .budget) p) ≡ withBudget (expansion (at fr p .budget) .budget) (at fr p)
+  unfolding expansion
+  expanded-is = on (below (p .expanded) (fr .paths))
+    where
+      on : (t : Bool) → at fr (countedBy (answerBy t (oneExpanded (at fr p .budget)) (refusedCount (at fr p .budget)) .budget) p) ≡ withBudget (answerBy t (oneExpanded (at fr p .budget)) (refusedCount (at fr p .budget)) .budget) (at fr p)
+      on true = refl
+      on false = refl
 
-  pub take-many : a .allowed ≡ true → 16777216 ≤ x .budget .expanded → TooMany ≡ takenOf x p
-  take-many e h = rw (item, answers true e, le-leb 16777216 (x .budget .expanded) h)
+  lengthened-is : (n : ℕ) → at fr (countedBy (lengthening n (at fr p .budget) .budget) p) ≡ withBudget (lengthening n (at fr p .budget) .budget) (at fr p)
+  unfolding lengthening
+  lengthened-is n = on (within n (fr .length))
+    where
+      on : (t : Bool) → at fr (countedBy (answerBy t (at fr p .budget) (refusedLength (at fr p .budget)) .budget) p) ≡ withBudget (answerBy t (at fr p .budget) (refusedLength (at fr p .budget)) .budget) (at fr p)
+      on true = refl
+      on false = refl
 
-  pub take-expand : (r : Extraction) → a .allowed ≡ true → x .budget .expanded < 16777216 → r ≡ withFrontier f n → Expand r ≡ takenOf x p
-  take-expand r e h q = rw (item, answers true e, lt-leb 16777216 (x .budget .expanded) h) (ap (λ (y : Extraction). Expand y) (q ∙ ap (withFrontier f) next-is))
+  -- a question for the length, put to the budget as it stands, and what it leaves
+  module _ (n : ℕ) (b : Budget) (same : b ≡ at fr p .budget) (d : Admitted) (asked : d ≡ lengthening n b) where
+    pub length-asked : d ≡ lengthening n (at fr p .budget)
+    length-asked = asked ∙ ap (lengthening n) same
 
-  pub take-over : a .allowed ≡ false → Over n ≡ takenOf x p
-  take-over e = rw (item, answers false e) (ap (λ (y : Extraction). Over y) next-is)
+    pub length-left : (q : Extraction) → q ≡ countedBy (d .budget) p → at fr q ≡ withBudget (d .budget) (at fr p)
+    length-left q made = ap (at fr) made ∙ subst (λ (y : Admitted). at fr (countedBy (y .budget) p) ≡ withBudget (y .budget) (at fr p)) (sym length-asked) (lengthened-is n)
 
--- the limits set one after another on a fresh budget
-pub new-is : (c : Config) (capacity : ℕ) (f : Frontier) (a b d : Budget) → f ≡ empty (c .order) 128 capacity → a ≡ fresh → b ≡ withMaxLength (c .length) a → d ≡ withMaxPaths (c .paths) b
-    → _≡_ {A = Extraction} (record { frontier = f; budget = d; cycles = 0; found = 0 }) (newExtraction c capacity)
-new-is c capacity f a b d k p q r =
-    ap (λ (y : Frontier). record { frontier = y; budget = d; cycles = 0; found = 0 }) k
-    ∙ ap (λ (y : Budget). record { frontier = empty (c .order) 128 capacity; budget = y; cycles = 0; found = 0 }) (r ∙ ap (withMaxPaths (c .paths)) (q ∙ ap (withMaxLength (c .length)) p))
+  -- ---- what the frontier and the budget are asked with
+  pub frontier-given : (f : Frontier) → f ≡ at fr p .frontier → (ws item : List ℕ) → Framed (at fr p .frontier) ws × IsSlot 128 item → Framed f ws × IsSlot (f .length) item
+  frontier-given f is ws item h = subst (λ (y : Frontier). Framed y ws × IsSlot (y .length) item) (sym is) h
+
+  pub expansion-given : (b : Budget) → b ≡ at fr p .budget → p .expanded + 1 < 2 ^ 64 → b .expanded + 1 < 2 ^ 64
+  expansion-given b is h = subst (λ (y : Budget). y .expanded + 1 < 2 ^ 64) (sym is) h
+
+  -- ---- a push
+  module _ (f : Frontier) (is : f ≡ at fr p .frontier) (ws item : List ℕ) (a : Pushed) (ws′ : List ℕ) (h : Pushes f ws item a ws′) where
+    pushes : Pushes (at fr p .frontier) ws item a ws′
+    pushes = subst (λ (y : Frontier). Pushes y ws item a ws′) is h
+
+    pub push-goes : (n : Frontier) → a ≡ Pushed.Done n → (q : Extraction) → q ≡ placedBy n p → Extends (at fr p) ws item (goes (at fr q)) ws′
+    push-goes n e q made =
+        let k = push-frame (at fr p .frontier) ws item a ws′ pushes n e .1 in
+        let w : at fr (placedBy n p) ≡ withFrontier n (at fr p) = placed-is n (ap (λ (y : Frontier). y .order) k) (ap (λ (y : Frontier). y .length) k) (ap (λ (y : Frontier). y .capacity) k) in
+        record { pushed = a; pushes = pushes; is = ap (λ (y : Computation). goes y) (ap (at fr) made ∙ w) ∙ sym (ap (courseOf (at fr p)) e) }
+
+    pub push-stops : a ≡ Pushed.Full → Extends (at fr p) ws item (stops NoWaitingSlot) ws′
+    push-stops e = record { pushed = a; pushes = pushes; is = sym (ap (courseOf (at fr p)) e) }
+
+  -- ---- the top of a round
+  module _ (f : Frontier) (is : f ≡ at fr p .frontier) (ws : List ℕ) (a : Popped) (item ws′ : List ℕ) (h : Pops f ws a item ws′) where
+    pops : Pops (at fr p .frontier) ws a item ws′
+    pops = subst (λ (y : Frontier). Pops y ws a item ws′) is h
+
+    pub take-empty : a ≡ Popped.Empty → Taking (at fr p) ws (closing (at fr p)) item ws′
+    take-empty e = record { popped = a; pops = pops; is = sym (ap (openingOf (at fr p)) e) }
+
+    module _ (n : Frontier) (e : a ≡ Popped.Item n) (b : Budget) (same : b ≡ at fr p .budget) (d : Admitted) (asked : d ≡ expansion b) (q : Extraction) (made : q ≡ countedBy (d .budget) p) where
+      admitted : d ≡ expansion (at fr p .budget)
+      admitted = asked ∙ ap expansion same
+
+      answers : (t : Bool) → d .allowed ≡ t → expansion (at fr p .budget) .allowed ≡ t
+      answers t k = ap (λ (y : Admitted). y .allowed) (sym admitted) ∙ k
+
+      after-is : at fr q ≡ withBudget (expansion (at fr p .budget) .budget) (at fr p)
+      after-is = ap (at fr) (made ∙ ap (λ (y : Admitted). countedBy (y .budget) p) admitted) ∙ expanded-is
+
+      pub take-many : d .allowed ≡ true → 16777216 ≤ p .expanded → Taking (at fr p) ws exceeding item ws′
+      take-many k m = record { popped = a; pops = pops; is = rw (e, answers true k, le-leb 16777216 (p .expanded) m) }
+
+      pub take-over : d .allowed ≡ false → Taking (at fr p) ws (closing (at fr q)) item ws′
+      take-over k = record { popped = a; pops = pops; is = rw (e, answers false k) (ap (λ (y : Computation). closing y) after-is) }
+
+module _ (fr : Frame) (p : Extraction) (f : Frontier) (is : f ≡ at fr p .frontier) (ws : List ℕ) (a : Popped) (item ws′ : List ℕ) (h : Pops f ws a item ws′) (n : Frontier) (e : a ≡ Popped.Item n) (b : Budget) (same : b ≡ at fr p .budget) (d : Admitted) (asked : d ≡ expansion b) (q : Extraction)
+    (made : q ≡ countedBy (d .budget) p) where
+  pub take-expand : d .allowed ≡ true → p .expanded < 16777216 → (r : Extraction) → r ≡ placedBy n q → Taking (at fr p) ws (opening (at fr r)) item ws′
+  take-expand k m r put =
+      let g = pop-frame (at fr p .frontier) ws a item ws′ (pops fr p f is ws a item ws′ h) n e .0 .kept in
+      let w : at fr (placedBy n q) ≡ withFrontier n (at fr q) = placed-is fr q n (g .order) (g .length) (g .capacity) in
+      let u : at fr r ≡ withFrontier n (withBudget (expansion (at fr p .budget) .budget) (at fr p)) = ap (at fr) put ∙ w ∙ ap (withFrontier n) (after-is fr p f is ws a item ws′ h n e b same d asked q made) in
+      record { popped = a; pops = pops fr p f is ws a item ws′ h; is = rw (e, answers fr p f is ws a item ws′ h n e b same d asked q made true k, lt-leb 16777216 (p .expanded) m) (ap (λ (y : Computation). opening y) u) }
+
+-- ---- the beginning
+pub new-is : (c : Config) (waiting : ℕ) (fr : Frame) (p : Extraction) → fr ≡ frameWith c waiting → p ≡ nothingYet → at fr p ≡ newComputation c waiting
+new-is c waiting fr p e q = ap (λ (y : Frame). at y p) e ∙ ap (at (frameWith c waiting)) q

@@ -1,6 +1,6 @@
 -- Laws of filing: one more found route is the next record while there is room, and no room leaves the words alone.
 -- Serves document 01, "Partial paths".
-use Prim.Native.Nat.{ℕ, zero, suc, _+_, _*_, _≤_, _<_}
+use Prim.Native.Nat.{ℕ, zero, suc, _+_, _≤_, _<_}
 use native.Mathlib.Omega.{arith}
 use native.Mathlib.Nat.{add-zero, add-suc, suc-add}
 use mathlib.Core.Path.{_≡_, refl, sym, ap, subst, _∙_}
@@ -13,7 +13,7 @@ use Rattle.semantics.specs.Lists.{pick}
 use Rattle.semantics.specs.Limits.{Bounds, base}
 use Rattle.semantics.specs.Words.{recordWords}
 use Rattle.semantics.specs.PartialPaths.{Route, slot}
-use Rattle.semantics.specs.Database.{recordPlace, encodeSlot}
+use Rattle.semantics.specs.Database.{encodeSlot}
 use Rattle.database.specs.Records.{InWords, putRecord}
 use Rattle.database.specs.Filing.{recordOf, putRoutes}
 use Rattle.partial_state.specs.declared.route.Ends.{Ends}

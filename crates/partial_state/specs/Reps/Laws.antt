@@ -1,43 +1,39 @@
 -- A computation in code goes on as the enumeration does: what is looked at, counted, filed and pushed.
 -- Serves document 01, "Partial paths" and "Budget and frontier"; 31 of "Turned back".
-use Prim.Native.Nat.{ℕ, suc, _+_, _-_, _<_, _≤_}
+use Prim.Native.Nat.{ℕ, _+_, _-_}
 use native.Mathlib.Omega.{arith}
 use mathlib.Core.Path.{_≡_, refl, sym, ap, subst, _∙_}
 use mathlib.Core.Logic.{_⊎_, inl, inr, ⊎-elim}
-use mathlib.Core.Bool.{Bool, true, false}
-use mathlib.Core.List.{List, [], _∷_, _++_, map, List·Memᴰ, List·Memᴰ·append-cases, List·Memᴰ·eq-of-singleton}
+use mathlib.Core.Bool.{true, false}
+use mathlib.Core.List.{List, [], _∷_, _++_, List·Memᴰ, List·Memᴰ·append-cases, List·Memᴰ·eq-of-singleton}
 use lib.ListN.{length, take, drop, getD, length-append}
-use Rattle.semantics.specs.declared.search.SearchStats.{SearchStats}
 use Rattle.semantics.specs.declared.refusal.PartialPathRefusal.{PartialPathRefusal}
 use Rattle.semantics.specs.declared.refusal.PartialPathRefusal.the-variants.{NoWaitingSlot}
 use Rattle.semantics.specs.Limits.{within}
-use Rattle.semantics.specs.Answer.{Answer, ok, refuse, andThen}
+use Rattle.semantics.specs.Answer.{Answer, ok, refuse}
 use Rattle.semantics.specs.Graph.{View}
-use Rattle.semantics.specs.Enumeration.{State, keep, keepIf, place, pushItem, withKept, withStats, withTally, withPending, addComplete, addCycle, addLooked, addOverlong, flagLength}
+use Rattle.semantics.specs.Enumeration.{State, keep, keepIf, place, pushItem, withKept, withStats, withTally, addComplete, addCycle, addLooked, addOverlong, flagLength}
 use Rattle.semantics.specs.PartialPaths.{Route}
 use Rattle.words.specs.Slots.{IsSlot}
 use Rattle.graph_search.specs.declared.path_frontier.Frontier.{Frontier}
 use Rattle.graph_search.specs.declared.path_frontier.Pushed.{Pushed}
 use Rattle.graph_search.specs.declared.path_frontier.Pushed.the-variants as Pushed
-use Rattle.graph_search.specs.Budget.{lengthening, statsOf, limitsOf}
-use Rattle.graph_search.specs.Budget.Laws.{lengthening-refused, lengthening-limits}
+use Rattle.budget.specs.Budget.{lengthening}
+use Rattle.budget.specs.Budget.Laws.{lengthening-refused}
 use Rattle.graph_search.specs.Frontier.{Framed}
 use Rattle.graph_search.specs.Frontier.Laws.{push-frame}
 use Rattle.graph_search.specs.Frontier.Stands.{stands-done, stands-full}
-use Rattle.search_state.specs.Items.{Carries}
 use Rattle.partial_state.specs.declared.route.Ends.{Ends}
 use Rattle.partial_state.specs.declared.filing.Filing.{Filing}
-use Rattle.partial_state.specs.declared.extraction.Extraction.{Extraction}
-use Rattle.partial_state.specs.declared.extraction.Going.{Going}
-use Rattle.partial_state.specs.declared.extraction.Going.the-variants.{On, Refused}
+use Rattle.partial_state.specs.declared.extraction.Frame.{Frame}
 use Rattle.partial_state.specs.Routes.{held, endsOf, Traced}
 use Rattle.partial_state.specs.Routes.Laws.{held-count, held-carries}
-use Rattle.partial_state.specs.Filings.{filedNext, filedIn}
+use Rattle.partial_state.specs.Filings.{filedNext}
 use Rattle.partial_state.specs.Filings.Laws.{filed-next, filed-nowhere}
-use Rattle.partial_state.specs.Extractions.{withBudget, withFrontier, cutOne, foundOne, counting, goingOf, Extends}
-use Rattle.partial_state.specs.Reps.{Counts, Few, Frame, frameOf, settingOf, Rep, Untouched, Tells, Extendable, ExtendsTo}
+use Rattle.partial_state.specs.Extractions.{Computation, Course, goes, stops, withBudget, withFrontier, cutOne, foundOne, counting, courseOf, Extends}
+use Rattle.partial_state.specs.Reps.{Few, frameOf, settingOf, Rep, Untouched, Tells, Extendable, ExtendsTo}
 
-module _ (g : View) (f : Filing) (origin : List ℕ) (x : Extraction) (ws db : List ℕ) (m : State Route) (rep : Rep g f origin x ws db m) where
+module _ (g : View) (f : Filing) (origin : List ℕ) (x : Computation) (ws db : List ℕ) (m : State Route) (rep : Rep g f origin x ws db m) where
   pub untouched : Untouched f origin db
   untouched e = rep .filed ∙ filed-nowhere f (m .kept) origin e
 
@@ -101,14 +97,14 @@ module _ (g : View) (f : Filing) (origin : List ℕ) (x : Extraction) (ws db : L
     in-snoc r (inl a) = rep .traced r (inl a)
     in-snoc r (inr a) = ⊎-elim (λ (b : List·Memᴰ r (m .pending)). rep .traced r (inr b)) (λ (b : List·Memᴰ r (q ∷ [])). subst (Traced g (f .file)) (sym (List·Memᴰ·eq-of-singleton b)) good) (List·Memᴰ·append-cases (m .pending) a)
 
-    pub push-tells : (a : Going) (ws′ : List ℕ) → Extends x ws (held 128 q) a ws′ → Tells g f origin (frameOf x) a ws′ db (pushItem (settingOf (frameOf x)) q m)
-    push-tells a ws′ h = subst (λ (y : Going). Tells g f origin (frameOf x) y ws′ db (pushItem (settingOf (frameOf x)) q m)) (sym (h .is)) (on (h .pushed) refl)
+    pub push-tells : (a : Course) (ws′ : List ℕ) → Extends x ws (held 128 q) a ws′ → Tells g f origin (frameOf x) a ws′ db (pushItem (settingOf (frameOf x)) q m)
+    push-tells a ws′ h = subst (λ (y : Course). Tells g f origin (frameOf x) y ws′ db (pushItem (settingOf (frameOf x)) q m)) (sym (h .is)) (on (h .pushed) refl)
       where
-        on : (p : Pushed) → h .pushed ≡ p → Tells g f origin (frameOf x) (goingOf x p) ws′ db (pushItem (settingOf (frameOf x)) q m)
+        on : (p : Pushed) → h .pushed ≡ p → Tells g f origin (frameOf x) (courseOf x p) ws′ db (pushItem (settingOf (frameOf x)) q m)
         on (Pushed.Done n) e =
             let d = stands-done (held 128) (settingOf (frameOf x)) NoWaitingSlot (x .frontier) refl ws m q (h .pushed) ws′ (h .pushes) (rep .stands) n e in
             let k = push-frame (x .frontier) ws (held 128 q) (h .pushed) ws′ (h .pushes) n e in
-            subst (λ (y : Answer PartialPathRefusal (State Route)). Tells g f origin (frameOf x) (On (withFrontier n x)) ws′ db y) (sym (d .0)) (
+            subst (λ (y : Answer PartialPathRefusal (State Route)). Tells g f origin (frameOf x) (goes (withFrontier n x)) ws′ db y) (sym (d .0)) (
               ap (λ (z : Frontier). frameOf (withFrontier z x)) (k .1),
               record {
                 sized = ap (λ (z : Frontier). z .length) (k .1) ∙ rep .sized;
@@ -120,12 +116,12 @@ module _ (g : View) (f : Filing) (origin : List ℕ) (x : Extraction) (ws db : L
               },
             )
         on Pushed.Full e =
-            subst (λ (y : Answer PartialPathRefusal (State Route)). Tells g f origin (frameOf x) (Refused NoWaitingSlot) ws′ db y) (sym (stands-full (held 128) (settingOf (frameOf x)) NoWaitingSlot (x .frontier) refl ws m q (h .pushed) ws′ (h .pushes) (rep .stands) e)) (refl, untouched)
+            subst (λ (y : Answer PartialPathRefusal (State Route)). Tells g f origin (frameOf x) (stops NoWaitingSlot) ws′ db y) (sym (stands-full (held 128) (settingOf (frameOf x)) NoWaitingSlot (x .frontier) refl ws m q (h .pushed) ws′ (h .pushes) (rep .stands) e)) (refl, untouched)
 
 -- ---- a route that was extended
 
 -- it is no endpoint: it waits
-pub extend-only : (x : Extraction) (e : Ends) (f : Filing) (item ws db : List ℕ) (a : Going) (ws′ : List ℕ) → Extends x ws item a ws′ → ExtendsTo x false e f item ws db a ws′ db
+pub extend-only : (x : Computation) (e : Ends) (f : Filing) (item ws db : List ℕ) (a : Course) (ws′ : List ℕ) → Extends x ws item a ws′ → ExtendsTo x false e f item ws db a ws′ db
 unfolding keep
 extend-only x e f item ws db a ws′ h g origin m q n rep few at good ends is = push-tells g f origin x ws db m rep q good a ws′ (subst (λ (i : List ℕ). Extends x ws i a ws′) is h)
 
@@ -137,33 +133,33 @@ held-part g file q item good is =
     ap (λ (k : ℕ). take k (drop 1 item)) n ∙ ap (λ (l : List ℕ). take (length (q .edges)) (drop 1 l)) is ∙ held-carries 127 (q .start) (q .edges) (omega arith) (good .short) .edges
 
 -- an endpoint: it is counted and filed, then it waits
-pub extend-found : (x : Extraction) (e : Ends) (f : Filing) (item ws db db′ : List ℕ) → db′ ≡ filedNext f (x .found) e (take (getD item 0 0 + 1 - 1) (drop 1 item)) db → (y : Extraction) → y ≡ foundOne x → (a : Going) (ws′ : List ℕ) → Extends y ws item a ws′
+pub extend-found : (x : Computation) (e : Ends) (f : Filing) (item ws db db′ : List ℕ) → db′ ≡ filedNext f (x .found) e (take (getD item 0 0 + 1 - 1) (drop 1 item)) db → (y : Computation) → y ≡ foundOne x → (a : Course) (ws′ : List ℕ) → Extends y ws item a ws′
     → ExtendsTo x true e f item ws db a ws′ db′
 extend-found x e f item ws db db′ w y made a ws′ h g origin m q n rep few at good ends is =
     let z : db′ ≡ filedNext f (x .found) (endsOf q) (q .edges) db =
     w ∙ ap (λ (l : List ℕ). filedNext f (x .found) e l db) (held-part g (f .file) q item good is) ∙ ap (λ (k : Ends). filedNext f (x .found) k (q .edges) db) ends in
-    let u : Extends (foundOne x) ws (held 128 q) a ws′ = subst (λ (k : Extraction). Extends k ws (held 128 q) a ws′) made (subst (λ (i : List ℕ). Extends y ws i a ws′) is h) in
+    let u : Extends (foundOne x) ws (held 128 q) a ws′ = subst (λ (k : Computation). Extends k ws (held 128 q) a ws′) made (subst (λ (i : List ℕ). Extends y ws i a ws′) is h) in
     let r = rep-found g f origin x ws db m rep q good n db′ few at z in
     rw (keep-is g f origin x ws db m rep q good (frameOf x)) (push-tells g f origin (foundOne x) ws db′ (keptWith g f origin x ws db m rep q good) r q good a ws′ u)
 
 -- what the push behind it is given
-pub extend-push : (x y : Extraction) (f : Filing) (item ws db : List ℕ) → Extendable x f item ws db → y ≡ foundOne x → Framed (y .frontier) ws × IsSlot (y .frontier .length) item
-extend-push x y f item ws db h e = subst (λ (z : Extraction). Framed (z .frontier) ws × IsSlot (z .frontier .length) item) (sym e) (h .framed, h .slot ∙ sym (h .sized))
+pub extend-push : (x y : Computation) (f : Filing) (item ws db : List ℕ) → Extendable x f item ws db → y ≡ foundOne x → Framed (y .frontier) ws × IsSlot (y .frontier .length) item
+extend-push x y f item ws db h e = subst (λ (z : Computation). Framed (z .frontier) ws × IsSlot (z .frontier .length) item) (sym e) (h .framed, h .slot ∙ sym (h .sized))
 
 -- ---- what a caller draws from an answer
 
-going-refused : (x : Extraction) (r : PartialPathRefusal) → On x ≡ Refused r → ⊥
+going-refused : (x : Computation) (r : PartialPathRefusal) → goes x ≡ stops r → ⊥
 going-refused x r e = let z : _≡_ {A = ℕ} 0 1 = cc in omega arith
 
 module _ (g : View) (f : Filing) (origin : List ℕ) (fr : Frame) where
-  pub tells-on : (a : Going) (ws db : List ℕ) (t : Answer PartialPathRefusal (State Route)) (x : Extraction) → Tells g f origin fr a ws db t → a ≡ On x → (m : State Route) × (t ≡ ok m) × (frameOf x ≡ fr) × Rep g f origin x ws db m
-  tells-on (On y) ws db (ok m) x h e =
+  pub tells-on : (a : Course) (ws db : List ℕ) (t : Answer PartialPathRefusal (State Route)) (x : Computation) → Tells g f origin fr a ws db t → a ≡ goes x → (m : State Route) × (t ≡ ok m) × (frameOf x ≡ fr) × Rep g f origin x ws db m
+  tells-on (goes y) ws db (ok m) x h e =
       let z : y ≡ x = cc in
-      (m, refl, subst (λ (k : Extraction). (frameOf k ≡ fr) × Rep g f origin k ws db m) z h .0, subst (λ (k : Extraction). (frameOf k ≡ fr) × Rep g f origin k ws db m) z h .1)
-  tells-on (On y) ws db (refuse r) x h e = absurd h
-  tells-on (Refused r) ws db t x h e = absurd (going-refused x r (sym e))
+      (m, refl, subst (λ (k : Computation). (frameOf k ≡ fr) × Rep g f origin k ws db m) z h .0, subst (λ (k : Computation). (frameOf k ≡ fr) × Rep g f origin k ws db m) z h .1)
+  tells-on (goes y) ws db (refuse r) x h e = absurd h
+  tells-on (stops r) ws db t x h e = absurd (going-refused x r (sym e))
 
-  pub tells-refused : (a : Going) (ws db : List ℕ) (t : Answer PartialPathRefusal (State Route)) (r : PartialPathRefusal) → Tells g f origin fr a ws db t → a ≡ Refused r → (t ≡ refuse r) × Untouched f origin db
-  tells-refused (On x) ws db t r h e = absurd (going-refused x r e)
-  tells-refused (Refused y) ws db (ok m) r h e = absurd h
-  tells-refused (Refused y) ws db (refuse z) r h e = let w : y ≡ r = cc in (ap (λ (v : PartialPathRefusal). refuse v) (sym (h .0) ∙ w), h .1)
+  pub tells-refused : (a : Course) (ws db : List ℕ) (t : Answer PartialPathRefusal (State Route)) (r : PartialPathRefusal) → Tells g f origin fr a ws db t → a ≡ stops r → (t ≡ refuse r) × Untouched f origin db
+  tells-refused (goes x) ws db t r h e = absurd (going-refused x r e)
+  tells-refused (stops y) ws db (ok m) r h e = absurd h
+  tells-refused (stops y) ws db (refuse z) r h e = let w : y ≡ r = cc in (ap (λ (v : PartialPathRefusal). refuse v) (sym (h .0) ∙ w), h .1)

@@ -1,11 +1,10 @@
 -- The top of a round: the computation is over, or the next route in the order of taking is to be expanded, or it would be one expansion too many.
 -- Serves document 01, "Budget and frontier"; 36 of "Turned back".
 use Prim.Native.Nat.{ℕ, _+_, _<_, _≤_}
-use native.Mathlib.Omega.{arith}
-use mathlib.Core.Path.{_≡_, refl, sym, ap, ap₂, subst, _∙_}
+use mathlib.Core.Path.{_≡_, refl, sym, ap, subst, _∙_}
 use mathlib.Core.Logic.{_⊎_, inl, inr, ⊎-elim}
 use mathlib.Core.Bool.{Bool, true, false, not}
-use mathlib.Core.List.{List, [], _∷_, _++_, map, List·Memᴰ, List·Memᴰ·head, List·Memᴰ·tail, List·Memᴰ·append-cases, List·Memᴰ·not-nil}
+use mathlib.Core.List.{List, [], _∷_, map, List·Memᴰ, List·Memᴰ·head, List·Memᴰ·tail, List·Memᴰ·append-cases, List·Memᴰ·not-nil}
 use lib.Dec.{T, leb, leb→le, nleb→lt}
 use lib.ListN.{length}
 use Rattle.semantics.specs.declared.search.SearchOrder.{SearchOrder}
@@ -15,33 +14,30 @@ use Rattle.semantics.specs.Lists.{pick}
 use Rattle.semantics.specs.Limits.{below}
 use Rattle.semantics.specs.Graph.{View}
 use Rattle.semantics.specs.PartialPaths.{Route}
-use Rattle.semantics.specs.Enumeration.{State, Setting, Turn, over, expand, turn, popped, admit, merge, addExpanded, flagCount}
+use Rattle.semantics.specs.Enumeration.{State, Turn, over, expand, turn, popped, admit, merge, addExpanded, flagCount}
 use Rattle.graph_search.specs.declared.path_frontier.Frontier.{Frontier}
 use Rattle.graph_search.specs.declared.path_frontier.Popped.{Popped}
 use Rattle.graph_search.specs.declared.path_frontier.Popped.the-variants as Popped
-use Rattle.graph_search.specs.Budget.{expansion, limitsOf, statsOf}
-use Rattle.graph_search.specs.Budget.Laws.{expansion-allowed, expansion-limits, expansion-granted, expansion-refused}
+use Rattle.budget.specs.Budget.{expansion}
+use Rattle.budget.specs.Budget.Laws.{expansion-allowed, expansion-limits, expansion-granted, expansion-refused}
 use Rattle.graph_search.specs.Frontier.{merged, Waits}
 use Rattle.graph_search.specs.Frontier.Laws.{merge-is, pop-frame}
 use Rattle.graph_search.specs.Frontier.Stands.{stands-item, stands-empty}
 use Rattle.partial_state.specs.declared.filing.Filing.{Filing}
-use Rattle.partial_state.specs.declared.extraction.Extraction.{Extraction}
-use Rattle.partial_state.specs.declared.extraction.Taken.{Taken}
-use Rattle.partial_state.specs.declared.extraction.Taken.the-variants.{Over, Expand, TooMany}
 use Rattle.partial_state.specs.Routes.{held, Traced}
-use Rattle.partial_state.specs.Extractions.{withBudget, withFrontier, counting, admittedOf, takenOf, Taking}
-use Rattle.partial_state.specs.Reps.{Counts, Few, Frame, frameOf, settingOf, Rep}
+use Rattle.partial_state.specs.Extractions.{Computation, Opening, closing, opening, exceeding, withBudget, withFrontier, counting, openingOf, Taking}
+use Rattle.partial_state.specs.Reps.{Counts, frameOf, settingOf, Rep}
 
 mem-merged : (o : SearchOrder) (xs ys : List Route) (r : Route) → List·Memᴰ r (merged o xs ys) → List·Memᴰ r xs ⊎ List·Memᴰ r ys
 mem-merged BreadthFirst xs ys r h = List·Memᴰ·append-cases xs h
 mem-merged DepthFirst xs ys r h = ⊎-elim (λ (a : List·Memᴰ r ys). inr a) (λ (a : List·Memᴰ r xs). inl a) (List·Memᴰ·append-cases ys h)
 
-module _ (g : View) (f : Filing) (origin : List ℕ) (x : Extraction) (ws db : List ℕ) (m : State Route) (was : Rep g f origin x ws db m) where
+module _ (g : View) (f : Filing) (origin : List ℕ) (x : Computation) (ws db : List ℕ) (m : State Route) (was : Rep g f origin x ws db m) where
   abbrev pub roundOf : Turn Route
   roundOf = turn (settingOf (frameOf x)) (merge (x .frontier .order) m)
 
   -- the round opens with a route to be expanded
-  pub record Opened (item ws′ : List ℕ) (n : Extraction) : Type 0 where
+  pub record Opened (item ws′ : List ℕ) (n : Computation) : Type 0 where
     pub route : Route
     pub model : State Route
     pub round : roundOf ≡ expand route model
@@ -54,7 +50,7 @@ module _ (g : View) (f : Filing) (origin : List ℕ) (x : Extraction) (ws db : L
     pub before : x .budget .expanded < 16777216
 
   -- it ends the computation
-  pub record Ended (n : Extraction) : Type 0 where
+  pub record Ended (n : Computation) : Type 0 where
     pub model : State Route
     pub round : roundOf ≡ over model
     pub counts : Counts n model
@@ -67,10 +63,10 @@ module _ (g : View) (f : Filing) (origin : List ℕ) (x : Extraction) (ws db : L
     pub round : roundOf ≡ expand route model
     pub before : 16777216 ≤ x .budget .expanded
 
-  abbrev Rounds : Taken → List ℕ → List ℕ → Type 0
-  Rounds (Over n) item ws′ = Ended n
-  Rounds (Expand n) item ws′ = Opened item ws′ n
-  Rounds TooMany item ws′ = Exceeded
+  abbrev Rounds : Opening → List ℕ → List ℕ → Type 0
+  Rounds (closing n) item ws′ = Ended n
+  Rounds (opening n) item ws′ = Opened item ws′ n
+  Rounds exceeding item ws′ = Exceeded
 
   abbrev opened : State Route
   opened = record { rest = merged (x .frontier .order) (m .rest) (m .pending); pending = []; kept = m .kept; stats = m .stats; tally = m .tally }
@@ -144,11 +140,11 @@ module _ (g : View) (f : Filing) (origin : List ℕ) (x : Extraction) (ws db : L
     unfolding admit
     exceeded a h = record { route = w; model = record { rest = us; pending = []; kept = m .kept; stats = addExpanded (m .stats); tally = m .tally }; round = asked-is true a; before = h }
 
-  pub round-tells : (a : Taken) (item ws′ : List ℕ) → Taking x ws a item ws′ → Rounds a item ws′
+  pub round-tells : (a : Opening) (item ws′ : List ℕ) → Taking x ws a item ws′ → Rounds a item ws′
   unfolding turn popped
-  round-tells a item ws′ t = subst (λ (y : Taken). Rounds y item ws′) (sym (t .is)) (on (t .popped) refl)
+  round-tells a item ws′ t = subst (λ (y : Opening). Rounds y item ws′) (sym (t .is)) (on (t .popped) refl)
     where
-      on : (p : Popped) → t .popped ≡ p → Rounds (takenOf x p) item ws′
+      on : (p : Popped) → t .popped ≡ p → Rounds (openingOf x p) item ws′
       on Popped.Empty e = record {
         model = opened;
         round =
@@ -160,7 +156,7 @@ module _ (g : View) (f : Filing) (origin : List ℕ) (x : Extraction) (ws db : L
       on (Popped.Item n) e = told (expansion (x .budget) .allowed) (leb 16777216 (x .budget .expanded)) refl refl
         where
           told : (b d : Bool) → expansion (x .budget) .allowed ≡ b → leb 16777216 (x .budget .expanded) ≡ d
-              → Rounds (pick b (pick d TooMany (Expand (withFrontier n (withBudget (expansion (x .budget) .budget) x)))) (Over (withBudget (expansion (x .budget) .budget) x))) item ws′
+              → Rounds (pick b (pick d exceeding (opening (withFrontier n (withBudget (expansion (x .budget) .budget) x)))) (closing (withBudget (expansion (x .budget) .budget) x))) item ws′
           told b d a h =
               let v = stands-item (held 128) (x .frontier) ws m (t .popped) item ws′ (t .pops) (was .stands) n e in
               let k = pop-frame (x .frontier) ws (t .popped) item ws′ (t .pops) n e .0 .kept in
@@ -168,18 +164,18 @@ module _ (g : View) (f : Filing) (origin : List ℕ) (x : Extraction) (ws db : L
             where
               by : (b d : Bool) → expansion (x .budget) .allowed ≡ b → leb 16777216 (x .budget .expanded) ≡ d
                   → (w : Route) (us : List Route) → merge (x .frontier .order) m .rest ≡ w ∷ us → held 128 w ≡ item → Waits n ws′ (map (held 128) us) [] → n .order ≡ x .frontier .order → n .capacity ≡ x .frontier .capacity → n .length ≡ x .frontier .length
-                  → Rounds (pick b (pick d TooMany (Expand (withFrontier n (withBudget (expansion (x .budget) .budget) x)))) (Over (withBudget (expansion (x .budget) .budget) x))) item ws′
+                  → Rounds (pick b (pick d exceeding (opening (withFrontier n (withBudget (expansion (x .budget) .budget) x)))) (closing (withBudget (expansion (x .budget) .budget) x))) item ws′
               by false d a h w us u i v o c l = ended w us u a
               by true true a h w us u i v o c l = exceeded w us u a (leb→le 16777216 (x .budget .expanded) (subst T (sym h) tt))
               by true false a h w us u i v o c l = onward w us u n item ws′ o c l i v a (nleb→lt 16777216 (x .budget .expanded) (subst T (sym (ap not h)) tt))
 
   -- ---- what a caller draws from the answer
 
-  pub round-over : (a : Taken) (item ws′ : List ℕ) (n : Extraction) → Taking x ws a item ws′ → a ≡ Over n → Ended n
-  round-over a item ws′ n t e = subst (λ (y : Taken). Rounds y item ws′) e (round-tells a item ws′ t)
+  pub round-over : (a : Opening) (item ws′ : List ℕ) (n : Computation) → Taking x ws a item ws′ → a ≡ closing n → Ended n
+  round-over a item ws′ n t e = subst (λ (y : Opening). Rounds y item ws′) e (round-tells a item ws′ t)
 
-  pub round-expand : (a : Taken) (item ws′ : List ℕ) (n : Extraction) → Taking x ws a item ws′ → a ≡ Expand n → Opened item ws′ n
-  round-expand a item ws′ n t e = subst (λ (y : Taken). Rounds y item ws′) e (round-tells a item ws′ t)
+  pub round-expand : (a : Opening) (item ws′ : List ℕ) (n : Computation) → Taking x ws a item ws′ → a ≡ opening n → Opened item ws′ n
+  round-expand a item ws′ n t e = subst (λ (y : Opening). Rounds y item ws′) e (round-tells a item ws′ t)
 
-  pub round-many : (a : Taken) (item ws′ : List ℕ) → Taking x ws a item ws′ → a ≡ TooMany → Exceeded
-  round-many a item ws′ t e = subst (λ (y : Taken). Rounds y item ws′) e (round-tells a item ws′ t)
+  pub round-many : (a : Opening) (item ws′ : List ℕ) → Taking x ws a item ws′ → a ≡ exceeding → Exceeded
+  round-many a item ws′ t e = subst (λ (y : Opening). Rounds y item ws′) e (round-tells a item ws′ t)

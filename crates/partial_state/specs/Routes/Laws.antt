@@ -1,15 +1,13 @@
 -- Laws of a route in words: how it is begun, its count and edges, one more edge behind them, and its ends.
 -- Serves document 01, "Answer" and "Partial paths".
-use Prim.Native.Nat.{ℕ, zero, suc, _+_, _-_, _<_, _≤_}
+use Prim.Native.Nat.{ℕ, zero, suc, _<_, _≤_}
 use native.Mathlib.Omega.{arith}
-use native.Mathlib.Numerals.{add-one}
-use mathlib.Core.Path.{_≡_, refl, sym, ap, ap₂, subst, _∙_}
+use mathlib.Core.Path.{_≡_, refl, sym, ap, subst, _∙_}
 use mathlib.Core.Bool.{Bool, true, false}
 use mathlib.Core.List.{List, [], _∷_, _++_}
 use borrow.Author.Tests.{lt-ltb, le-ltb}
-use lib.Dec.{ltb}
 use lib.IntN.{ℤ}
-use lib.ListN.{length, take, drop, getD, set, replicate, length-replicate}
+use lib.ListN.{length, take, getD, set, length-replicate}
 use lib.Seq.{length-take-le}
 use Rattle.semantics.specs.declared.graph.NodeId.{NodeId}
 use Rattle.semantics.specs.declared.graph.Edge.{Edge}
@@ -22,7 +20,7 @@ use Rattle.semantics.specs.Words.Laws.{length-encode}
 use Rattle.semantics.specs.PartialPaths.{Route, belongs, targetOf, longer}
 use Rattle.semantics.specs.PartialPaths.Laws.{walk-snoc, walk-nil, walk-cons}
 use Rattle.semantics.specs.Demand.{Walk}
-use Rattle.search_state.specs.Items.{withEdge, Carries}
+use Rattle.search_state.specs.Items.{Carries}
 use Rattle.search_state.specs.Items.Laws.{carries-slot}
 use Rattle.partial_state.specs.declared.route.Ends.{Ends}
 use Rattle.partial_state.specs.Routes.{heldBy, held, sourceOf, endsIn, endsOf, Traced}

@@ -1,17 +1,16 @@
 -- `path_cases::replay_kind` is safe and ends. A place grows with every case, so no count exceeds it; the last image lies in the list.
 -- The measure is what is left of the list.
 use borrow.Author.Needs.{needs}
-use mathlib.Core.Path.{_≡_}
 use Prim.Native.Nat.{_-_, _≤_}
 use lib.ListN.{length}
 use Rattle.path_cases.proofs.replay_kind.Statement.{statement}
 use Rattle.path_cases.proofs.replay_kind.Tie as tie
 
 abbrev Inv-loop : tie.InvT-loop
-Inv-loop list kind edges₀ others₀ out₀ at₀ cases₀ differences₀ image₀ edges others out at cases differences image = (length edges ≡ length edges₀) × (length others ≡ length others₀) × (length out ≡ length out₀) × (at ≤ length list) × (cases ≤ at) × (differences ≤ at) × (image .from ≤ image .to) × (image .to ≤ length list)
+Inv-loop list kind name at₀ seen₀ differences₀ image₀ at seen differences image = (at ≤ length list) × (seen ≤ at) × (differences ≤ at) × (image .from ≤ image .to) × (image .to ≤ length list)
 
 abbrev μ-loop : tie.MeasureT-loop
-μ-loop list kind edges₀ others₀ out₀ at₀ cases₀ differences₀ image₀ edges others out at cases differences image = length list - at
+μ-loop list kind name at₀ seen₀ differences₀ image₀ at seen differences image = length list - at
 
 loop-holds : tie.Need-loop-holds Inv-loop μ-loop
 loop-holds c = search needs
@@ -28,8 +27,8 @@ add-differences c = search needs
 counts-requires : tie.Need-counts-requires Inv-loop μ-loop
 counts-requires c κs = search needs
 
-add-cases : tie.Need-add-cases Inv-loop μ-loop
-add-cases c = search needs
+add-seen : tie.Need-add-seen Inv-loop μ-loop
+add-seen c = search needs
 
 next-case-requires : tie.Need-next-case-requires Inv-loop μ-loop
 next-case-requires c κs = search needs
@@ -42,15 +41,6 @@ loop-again c = search needs
 
 tell-sums-requires : tie.Need-tell-sums-requires Inv-loop μ-loop
 tell-sums-requires c κs = search needs
-
-same-length : tie.Need-same-length Inv-loop μ-loop
-same-length c = search needs
-
-same-length-2 : tie.Need-same-length-2 Inv-loop μ-loop
-same-length-2 c = search needs
-
-same-length-3 : tie.Need-same-length-3 Inv-loop μ-loop
-same-length-3 c = search needs
 
 returns : tie.Need-returns Inv-loop μ-loop
 returns c = search needs
@@ -66,12 +56,9 @@ replay-kind-spec =
     differs-requires
     add-differences
     counts-requires
-    add-cases
+    add-seen
     next-case-requires
     loop-less
     loop-again
     tell-sums-requires
-    same-length
-    same-length-2
-    same-length-3
     returns)

@@ -1,21 +1,21 @@
 -- A popped path is laid out as steps and expanded; the run from here is the run from the start. For every choice of what is tried.
 -- Serves document 01, "Answer" and "Budget and frontier"; 36 of "Turned back".
-use Prim.Native.Nat.{ℕ, zero, suc, _+_, _-_, _*_, _<_, _≤_}
+use Prim.Native.Nat.{ℕ, _+_, _-_, _*_, _<_, _≤_}
 use native.Mathlib.Omega.{arith}
 use mathlib.Core.Path.{_≡_, refl, sym, ap, subst, _∙_}
-use mathlib.Core.List.{List, [], _∷_}
+use mathlib.Core.List.{List}
 use lib.ListN.{length, take, drop, getD}
 use Rattle.semantics.specs.declared.search.Limit.{Limit}
 use Rattle.semantics.specs.declared.search.SearchStats.{SearchStats}
 use Rattle.semantics.specs.declared.refusal.SearchRefusal.{SearchRefusal}
 use Rattle.semantics.specs.declared.refusal.SearchRefusal.the-variants as Search
 use Rattle.semantics.specs.Limits.{base}
-use Rattle.semantics.specs.Answer.{Answer, ok, refuse}
+use Rattle.semantics.specs.Answer.{Answer, ok}
 use Rattle.semantics.specs.Answer.Laws.{ok-inj}
-use Rattle.semantics.specs.Graph.{View, viewOf}
+use Rattle.semantics.specs.Graph.{viewOf}
 use Rattle.semantics.specs.Path.{Path, appendAll}
 use Rattle.semantics.specs.Path.Laws.{begun, replay-ok}
-use Rattle.semantics.specs.Enumeration.{State, Setting, Try, Tally, Turn, over, expand, one, each, turn, run, final, follow, merge}
+use Rattle.semantics.specs.Enumeration.{State, Try, Tally, each, merge}
 use Rattle.semantics.specs.Enumeration.Statistics.{each-moved}
 use Rattle.semantics.specs.Words.{encode}
 use Rattle.semantics.specs.Words.Laws.{length-encode}
@@ -34,7 +34,6 @@ use Rattle.search_state.specs.Reps.{Frame, frameOf, settingOf, Rep, Tells}
 use Rattle.search_state.specs.Reps.Laws.{tells-on, tells-refused}
 use Rattle.search_state.specs.Reps.Rounds.{Opened, round-over, round-expand, round-many}
 use Rattle.search_state.specs.Runs.{run-over, run-many, run-round, run-refused}
-use Rattle.rounds.specs.declared.driven.Driven.{Driven}
 use Rattle.rounds.specs.declared.driven.Driven.the-variants.{Over, Refused}
 use Rattle.rounds.specs.Drives.{Tries, Rounding, Rounded, Driving, Ends, runFrom, runOf, DrivenTo}
 

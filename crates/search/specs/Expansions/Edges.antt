@@ -3,7 +3,7 @@
 use Prim.Native.Nat.{ℕ, suc, _+_, _-_, _<_, _≤_}
 use native.Mathlib.Omega.{arith}
 use mathlib.Core.Path.{_≡_, refl, sym, ap, subst, _∙_}
-use mathlib.Core.List.{List, _∷_, map}
+use mathlib.Core.List.{List, map}
 use lib.ListN.{length}
 use Rattle.semantics.specs.declared.refusal.SearchRefusal.{SearchRefusal}
 use Rattle.semantics.specs.declared.refusal.SearchRefusal.the-variants as Search
@@ -11,7 +11,7 @@ use Rattle.semantics.specs.Limits.{base}
 use Rattle.semantics.specs.Answer.{Answer, ok, refuse}
 use Rattle.semantics.specs.Graph.{viewOf}
 use Rattle.semantics.specs.Path.{Path}
-use Rattle.semantics.specs.Enumeration.{State, Setting, Try, one, each}
+use Rattle.semantics.specs.Enumeration.{State, Try, one, each}
 use Rattle.semantics.specs.Enumeration.Statistics.{one-moved}
 use Rattle.semantics.specs.Direct.{judge, tries}
 use Rattle.storage.specs.Rows.{firstRow, nextRow, Runs}

@@ -22,7 +22,7 @@ use Rattle.storage.specs.Rows.{nodeRow, edgeRow}
 use Rattle.semantics.specs.Words.{encode}
 use Rattle.stepping.specs.Judged.{Ready, Stepped, judgedOf}
 use Rattle.path.specs.Replays.Calls.{from-a-reference, few-edges}
-use Rattle.graph_search.specs.Budget.Laws.{lengthening-limits, lengthening-refused}
+use Rattle.budget.specs.Budget.Laws.{lengthening-limits, lengthening-refused}
 use Rattle.search_state.specs.declared.search.Search as S
 use Rattle.search_state.specs.declared.search.Going.{Going}
 use Rattle.search_state.specs.declared.search.Going.the-variants.{On, Refused}

@@ -4,7 +4,6 @@ use Prim.Native.Nat.{ℕ}
 use mathlib.Core.Path.{_≡_, refl, sym, subst}
 use mathlib.Core.Logic.{⊎-elim}
 use mathlib.Core.List.{List, [], _∷_, List·Memᴰ, List·Memᴰ·not-nil, List·Memᴰ·cases-cons}
-use lib.ListN.{length}
 use Rattle.semantics.specs.declared.search.Limit.{Limit}
 use Rattle.semantics.specs.declared.refusal.SearchRefusal.{SearchRefusal}
 use Rattle.semantics.specs.declared.refusal.SearchRefusal.the-variants as Search

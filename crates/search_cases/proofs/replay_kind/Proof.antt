@@ -1,17 +1,16 @@
 -- `search_cases::replay_kind` is safe and ends. A place grows with every case, so no count exceeds it; the last image lies in the list.
 -- The measure is what is left of the list.
 use borrow.Author.Needs.{needs}
-use mathlib.Core.Path.{_≡_}
 use Prim.Native.Nat.{_-_, _≤_}
 use lib.ListN.{length}
 use Rattle.search_cases.proofs.replay_kind.Statement.{statement}
 use Rattle.search_cases.proofs.replay_kind.Tie as tie
 
 abbrev Inv-loop : tie.InvT-loop
-Inv-loop list kind name work₀ result₀ out₀ at₀ searches₀ differences₀ image₀ work result out at searches differences image = (length work ≡ length work₀) × (length result ≡ length result₀) × (length out ≡ length out₀) × (at ≤ length list) × (searches ≤ at) × (differences ≤ at) × (image .from ≤ image .to) × (image .to ≤ length list)
+Inv-loop list kind name at₀ searches₀ differences₀ image₀ at searches differences image = (at ≤ length list) × (searches ≤ at) × (differences ≤ at) × (image .from ≤ image .to) × (image .to ≤ length list)
 
 abbrev μ-loop : tie.MeasureT-loop
-μ-loop list kind name work₀ result₀ out₀ at₀ searches₀ differences₀ image₀ work result out at searches differences image = length list - at
+μ-loop list kind name at₀ searches₀ differences₀ image₀ at searches differences image = length list - at
 
 loop-holds : tie.Need-loop-holds Inv-loop μ-loop
 loop-holds c = search needs
@@ -43,15 +42,6 @@ loop-again c = search needs
 tell-sums-requires : tie.Need-tell-sums-requires Inv-loop μ-loop
 tell-sums-requires c κs = search needs
 
-same-length : tie.Need-same-length Inv-loop μ-loop
-same-length c = search needs
-
-same-length-2 : tie.Need-same-length-2 Inv-loop μ-loop
-same-length-2 c = search needs
-
-same-length-3 : tie.Need-same-length-3 Inv-loop μ-loop
-same-length-3 c = search needs
-
 returns : tie.Need-returns Inv-loop μ-loop
 returns c = search needs
 
@@ -71,7 +61,4 @@ replay-kind-spec =
     loop-less
     loop-again
     tell-sums-requires
-    same-length
-    same-length-2
-    same-length-3
     returns)

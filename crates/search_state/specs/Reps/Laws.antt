@@ -26,8 +26,8 @@ use Rattle.words.specs.Slots.Laws.{within, length-put, put-at}
 use Rattle.graph_search.specs.declared.path_frontier.Frontier.{Frontier}
 use Rattle.graph_search.specs.declared.path_frontier.Pushed.{Pushed}
 use Rattle.graph_search.specs.declared.path_frontier.Pushed.the-variants as Pushed
-use Rattle.graph_search.specs.Budget.{completion, limitsOf}
-use Rattle.graph_search.specs.Budget.Laws.{completion-allowed, completion-limits, completion-granted, completion-refused}
+use Rattle.budget.specs.Budget.{completion, limitsOf}
+use Rattle.budget.specs.Budget.Laws.{completion-allowed, completion-limits, completion-granted, completion-refused}
 use Rattle.graph_search.specs.Frontier.Laws.{push-frame}
 use Rattle.graph_search.specs.Frontier.Stands.{stands-done, stands-full}
 use Rattle.search_state.specs.declared.state.SearchState.{SearchState}

@@ -17,8 +17,8 @@ use Rattle.semantics.specs.Enumeration.{State, Turn, over, expand, turn, popped
 use Rattle.graph_search.specs.declared.path_frontier.Frontier.{Frontier}
 use Rattle.graph_search.specs.declared.path_frontier.Popped.{Popped}
 use Rattle.graph_search.specs.declared.path_frontier.Popped.the-variants as Popped
-use Rattle.graph_search.specs.Budget.{expansion}
-use Rattle.graph_search.specs.Budget.Laws.{expansion-allowed, expansion-limits, expansion-granted, expansion-refused}
+use Rattle.budget.specs.Budget.{expansion}
+use Rattle.budget.specs.Budget.Laws.{expansion-allowed, expansion-limits, expansion-granted, expansion-refused}
 use Rattle.graph_search.specs.Frontier.{merged, Waits}
 use Rattle.graph_search.specs.Frontier.Laws.{merge-is, pop-frame}
 use Rattle.graph_search.specs.Frontier.Stands.{stands-item, stands-empty}

@@ -4,11 +4,11 @@ use Prim.Native.Nat.{_<_, _≤_}
 use mathlib.Core.Path.{_≡_, sym, ap, _∙_}
 use mathlib.Core.Bool.{Bool, true, false}
 use borrow.Author.Tests.{le-leb, lt-leb}
-use Rattle.graph_search.specs.declared.path_budget.Admitted.{Admitted}
+use Rattle.budget.specs.declared.path_budget.Admitted.{Admitted}
 use Rattle.graph_search.specs.declared.path_frontier.Frontier.{Frontier}
 use Rattle.graph_search.specs.declared.path_frontier.Popped.{Popped}
 use Rattle.graph_search.specs.declared.path_frontier.Popped.the-variants as Popped
-use Rattle.graph_search.specs.Budget.{expansion}
+use Rattle.budget.specs.Budget.{expansion}
 use Rattle.search_state.specs.declared.state.SearchState.{SearchState}
 use Rattle.search_state.specs.declared.search.Taken.the-variants.{Over, Expand, TooMany}
 use Rattle.search_state.specs.States.{withBudget}

@@ -6,10 +6,10 @@ use mathlib.Core.Bool.{Bool, true, false}
 use mathlib.Core.List.{List}
 use borrow.Author.Tests.{lt-ltb, le-ltb}
 use Rattle.words.specs.Slots.{putSlot}
-use Rattle.graph_search.specs.declared.path_budget.Budget.{Budget}
-use Rattle.graph_search.specs.declared.path_budget.Admitted.{Admitted}
+use Rattle.budget.specs.declared.path_budget.Budget.{Budget}
+use Rattle.budget.specs.declared.path_budget.Admitted.{Admitted}
 use Rattle.semantics.specs.declared.search.SearchLimits.{SearchLimits}
-use Rattle.graph_search.specs.Budget.{fresh, withMaxLength, withMaxPaths, withMaxComplete, completion}
+use Rattle.budget.specs.Budget.{fresh, withMaxLength, withMaxPaths, withMaxComplete, completion}
 use Rattle.search_state.specs.declared.state.SearchState.{SearchState}
 use Rattle.search_state.specs.declared.state.Recorded.the-variants.{Done, Full}
 use Rattle.search_state.specs.States.{newState, withBudget, asked, recordedBy, resultAfter}

@@ -2,15 +2,13 @@
 -- Serves document 01, "Partial paths": `try_compute_from_partials`.
 use Prim.Native.Nat.{ℕ, _+_, _-_, _<_, _≤_, _^_}
 use native.Mathlib.Omega.{arith}
-use mathlib.Core.Path.{_≡_, refl, sym, ap, subst, _∙_}
+use mathlib.Core.Path.{_≡_, sym, ap, subst, _∙_}
 use mathlib.Core.Bool.{Bool, false}
 use mathlib.Core.List.{List, _++_}
-use lib.ListN.{length, take, drop, length-drop}
-use lib.Seq.{length-take-le}
-use Rattle.semantics.specs.declared.search.Limit.{Limit}
+use lib.ListN.{length, take, drop}
 use Rattle.semantics.specs.declared.refusal.SearchRefusal.{SearchRefusal}
 use Rattle.semantics.specs.Limits.{base, within}
-use Rattle.semantics.specs.Answer.{Answer, ok}
+use Rattle.semantics.specs.Answer.{ok}
 use Rattle.semantics.specs.Graph.{viewOf}
 use Rattle.semantics.specs.Path.{Path, appendAll, replay}
 use Rattle.semantics.specs.Path.Laws.{appendAll-edges, replay-append}
@@ -26,7 +24,7 @@ use Rattle.search_state.specs.States.{cutOne, rejectedOne, overlongBy}
 use Rattle.search_state.specs.Searches.{withState}
 use Rattle.search_state.specs.Reps.{slotOf, frameOf, settingOf, Replayed, Tells}
 use Rattle.search_state.specs.Extensions.{Extendable, ExtendsTo}
-use Rattle.database.specs.Records.{countWord, edgeWords}
+use Rattle.database.specs.Records.{edgeWords}
 use Rattle.database.specs.Records.Laws.{length-edges}
 use Rattle.stitching_trial.specs.declared.trial.Trial.{Trial}
 use Rattle.stitching_trial.specs.declared.trial.Trial.the-variants as Trial

@@ -2,7 +2,7 @@
 -- Serves document 01, "Partial paths"; 34 and 35 of "Turned back".
 use Prim.Native.Nat.{ℕ, _≤_}
 use native.Mathlib.Omega.{arith}
-use mathlib.Core.Path.{_≡_, refl, sym, ap, subst, _∙_}
+use mathlib.Core.Path.{_≡_, refl, sym, subst, _∙_}
 use mathlib.Core.Logic.{⊎-elim}
 use mathlib.Core.Bool.{Bool, true, false}
 use mathlib.Core.List.{List, [], _∷_, List·Memᴰ, List·Memᴰ·not-nil, List·Memᴰ·cases-cons}
@@ -33,7 +33,7 @@ use Rattle.semantics.specs.Stitching.Laws.{judge-go, tries-are, stitched-ok}
 use Rattle.semantics.specs.Words.{zeros}
 use Rattle.semantics.specs.Database.{nodesIn, filesIn, filesOnly, slotsIn, wellFormed, passIf, checkDatabase}
 use Rattle.semantics.specs.Calls.{Request, settingOf, onSlots, stitchedCall}
-use Rattle.storage.specs.Rows.{NODES, Loaded}
+use Rattle.storage.specs.Rows.{Loaded}
 use Rattle.recorded.specs.declared.reply.Reply.{Reply}
 use Rattle.recorded.specs.EdgeLists.Paths.{Replays}
 use Rattle.recorded.specs.Replies.{replyOf}

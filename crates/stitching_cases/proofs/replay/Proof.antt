@@ -7,10 +7,11 @@ use Rattle.stitching_cases.proofs.replay.Statement.{statement}
 use Rattle.stitching_cases.proofs.replay.Tie as tie
 
 abbrev Inv-loop : tie.InvT-loop
-Inv-loop list words₀ work₀ result₀ out₀ sums₀ at₀ lent₀ image₀ words work result out sums at lent image = (length words ≡ length words₀) × (length work ≡ length work₀) × (length result ≡ length result₀) × (length out ≡ length out₀) × (length sums ≡ length sums₀) × (at ≤ length list) × (image .from ≤ image .to) × (image .to ≤ length list)
+Inv-loop list words₀ sums₀ at₀ lent₀ image₀ words sums at lent image =
+    (length words ≡ length words₀) × (length sums ≡ length sums₀) × (at ≤ length list) × (image .from ≤ image .to) × (image .to ≤ length list)
 
 abbrev μ-loop : tie.MeasureT-loop
-μ-loop list words₀ work₀ result₀ out₀ sums₀ at₀ lent₀ image₀ words work result out sums at lent image = length list - at
+μ-loop list words₀ sums₀ at₀ lent₀ image₀ words sums at lent image = length list - at
 
 loop-holds : tie.Need-loop-holds Inv-loop μ-loop
 loop-holds c = search needs
@@ -51,15 +52,6 @@ same-length c = search needs
 same-length-2 : tie.Need-same-length-2 Inv-loop μ-loop
 same-length-2 c = search needs
 
-same-length-3 : tie.Need-same-length-3 Inv-loop μ-loop
-same-length-3 c = search needs
-
-same-length-4 : tie.Need-same-length-4 Inv-loop μ-loop
-same-length-4 c = search needs
-
-same-length-5 : tie.Need-same-length-5 Inv-loop μ-loop
-same-length-5 c = search needs
-
 returns : tie.Need-returns Inv-loop μ-loop
 returns c = search needs
 
@@ -82,7 +74,4 @@ replay-spec =
     loop-again
     same-length
     same-length-2
-    same-length-3
-    same-length-4
-    same-length-5
     returns)

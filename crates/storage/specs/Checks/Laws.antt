@@ -19,13 +19,14 @@ use Rattle.semantics.specs.Answer.Laws.{ok-inj, refuse-ok}
 use Rattle.semantics.specs.Graph.{Graph, viewOf}
 use Rattle.semantics.specs.Image.{symbolBytes, firstRecord, firstEdge, filesOf, nodesOf, edgesOf, header, nodeRecord, edgeRecord, scan, placeOf, edgeMisfit, graphOf, references, checkImage}
 use Rattle.storage.specs.Rows.{Loaded}
-use Rattle.storage.specs.Filling.{Held, Linked}
-use Rattle.storage.specs.Filling.Laws.{nothing-linked}
-use Rattle.storage.specs.Records.{Headed}
-use Rattle.storage.specs.Records.Laws.{length-nodes, length-edges}
+use Rattle.image.specs.Filling.{Held}
+use Rattle.storage.specs.Links.{Linked}
+use Rattle.storage.specs.Links.Laws.{nothing-linked}
+use Rattle.image.specs.Records.{Headed, recordsOf}
+use Rattle.image.specs.Records.Laws.{length-nodes, length-edges}
 use Rattle.storage.specs.References.{First, nodeTest, edgeTest, Sources}
 use Rattle.storage.specs.References.Laws.{nodes-fit, node-misfit, edges-fit, edge-misfit, sources-fit}
-use Rattle.storage.specs.Checks.{recordsOf, referencesOf}
+use Rattle.storage.specs.Checks.{referencesOf}
 
 -- THE PARTS BEHIND ONE ANOTHER
 then-assoc : {A B C : Type 0} (x : Answer ImageRefusal A) (f : A → Answer ImageRefusal B) (h : B → Answer ImageRefusal C) → andThen x (λ a. andThen (f a) h) ≡ andThen (andThen x f) h

@@ -27,8 +27,9 @@ use Rattle.semantics.specs.Acceptance.{exportedIn, nodeFits, edgeFits, oneFile,
 use Rattle.semantics.specs.Image.{nextPlace, placeOf, nodeMisfit, edgeMisfit}
 use Rattle.storage.specs.Rows.{INDEX, NODES, EDGES, KIND, SOURCE, FLAG, FILE, SYMBOL, SCOPE, TARGET, PRECEDENCE, cell, nodeOf, nodeRow, edgeRow, putLink}
 use Rattle.storage.specs.Rows.Laws.{cell-in, cell-out, words-removed, words-live}
-use Rattle.storage.specs.Filling.{Held, Linked}
-use Rattle.storage.specs.Filling.Laws.{link-other, linked-removed, linked-live}
+use Rattle.image.specs.Filling.{Held}
+use Rattle.storage.specs.Links.{Linked}
+use Rattle.storage.specs.Links.Laws.{link-other, linked-removed, linked-live}
 use Rattle.storage.specs.References.{nodeTest, edgeTest, Sources}
 
 -- A NODE FROM ITS WORDS: is it an exported scope of the file, is it live, which is its file

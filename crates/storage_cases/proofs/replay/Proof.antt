@@ -8,17 +8,17 @@ use Rattle.storage_cases.proofs.replay.Statement.{statement}
 use Rattle.storage_cases.proofs.replay.Tie as tie
 
 abbrev Inv-loop : tie.InvT-loop
-Inv-loop list₀ at₀ images₀ differences₀ whole₀ list at images differences whole =
+Inv-loop list₀ at₀ images₀ differences₀ whole₀ name list at images differences whole =
     (length list ≡ length list₀) × (at ≤ length list) × (images ≤ at) × (differences ≤ images) × (whole .from ≤ whole .to) × (whole .to ≤ length list)
 
 abbrev μ-loop : tie.MeasureT-loop
-μ-loop list₀ at₀ images₀ differences₀ whole₀ list at images differences whole = length list - at
+μ-loop list₀ at₀ images₀ differences₀ whole₀ name list at images differences whole = length list - at
 
 loop-holds : tie.Need-loop-holds Inv-loop μ-loop
 loop-holds c = search needs
 
-whole-image-requires : tie.Need-whole-image-requires Inv-loop μ-loop
-whole-image-requires c κs = search needs
+image-part-requires : tie.Need-image-part-requires Inv-loop μ-loop
+image-part-requires c κs = search needs
 
 differs-requires : tie.Need-differs-requires Inv-loop μ-loop
 differs-requires c κs = search needs
@@ -38,6 +38,9 @@ loop-less c = search needs
 loop-again : tie.Need-loop-again Inv-loop μ-loop
 loop-again c = search needs
 
+slice-aggregate-tell-sums : tie.Need-slice-aggregate-tell-sums Inv-loop μ-loop
+slice-aggregate-tell-sums c = search needs
+
 tell-sums-requires : tie.Need-tell-sums-requires Inv-loop μ-loop
 tell-sums-requires c κs = search needs
 
@@ -54,13 +57,14 @@ replay-spec =
     Inv-loop
     μ-loop
     loop-holds
-    whole-image-requires
+    image-part-requires
     differs-requires
     add-differences
     add-images
     next-case-requires
     loop-less
     loop-again
+    slice-aggregate-tell-sums
     tell-sums-requires
     same-length
     returns)

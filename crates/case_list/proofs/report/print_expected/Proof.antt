@@ -5,28 +5,19 @@ use Rattle.case_list.proofs.report.print_expected.Statement.{statement}
 use Rattle.case_list.proofs.report.print_expected.Tie as tie
 
 abbrev Inv-loop : tie.InvT-loop
-Inv-loop list at count i₀ i = i ≤ count
+Inv-loop list from count i₀ i = i ≤ count
 
 abbrev μ-loop : tie.MeasureT-loop
-μ-loop list at count i₀ i = count - i
-
-short-requires : tie.Need-short-requires Inv-loop μ-loop
-short-requires c κs = search needs
-
-cast-count : tie.Need-cast-count Inv-loop μ-loop
-cast-count c = search needs
+μ-loop list from count i₀ i = count - i
 
 loop-holds : tie.Need-loop-holds Inv-loop μ-loop
 loop-holds c = search needs
 
-add-long : tie.Need-add-long Inv-loop μ-loop
-add-long c = search needs
-
 mul-long : tie.Need-mul-long Inv-loop μ-loop
 mul-long c = search needs
 
-add-long-2 : tie.Need-add-long-2 Inv-loop μ-loop
-add-long-2 c = search needs
+add-long : tie.Need-add-long Inv-loop μ-loop
+add-long c = search needs
 
 long-requires : tie.Need-long-requires Inv-loop μ-loop
 long-requires c κs = search needs
@@ -52,12 +43,9 @@ print-expected-spec =
     (tie.spec
     Inv-loop
     μ-loop
-    short-requires
-    cast-count
     loop-holds
-    add-long
     mul-long
-    add-long-2
+    add-long
     long-requires
     print-one-requires
     add-i

@@ -4,9 +4,6 @@ use Rattle.partial_state.specs.Filings.Laws.{filed-put, filed-not, fits-
 use borrow.Author.Needs.{needs}
 use Rattle.partial_state.proofs.filing.file_route.Statement.{statement}
 use Rattle.partial_state.proofs.filing.file_route.Tie as tie
-use Rattle.partial_state.proofs.filing.file_route.Reads as reads
-use Rattle.partial_state.proofs.filing.file_route.Lts as lts
-use Rattle.database.proofs.replace.put_record.Reads as put-record-reads
 
 -- src/filing.rt:26:13
 add-put-record : tie.Need-add-put-record

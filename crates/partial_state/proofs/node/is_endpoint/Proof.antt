@@ -1,12 +1,9 @@
-use mathlib.Core.Path.{_≡_, refl, sym, ap, _∙_}
-use mathlib.Core.Bool.{Bool, true, false}
+use mathlib.Core.Path.{sym, ap, _∙_}
 use Rattle.semantics.specs.Graph.{isEndpoint}
 use Rattle.partial_state.specs.Routes.Laws.{or-none}
 use borrow.Author.Needs.{needs}
 use Rattle.partial_state.proofs.node.is_endpoint.Statement.{statement}
 use Rattle.partial_state.proofs.node.is_endpoint.Tie as tie
-use Rattle.partial_state.proofs.node.is_endpoint.Reads as reads
-use Rattle.partial_state.proofs.node.is_endpoint.Lts as lts
 
 -- src/node.rt:60:26
 enum-told : tie.Need-enum-told

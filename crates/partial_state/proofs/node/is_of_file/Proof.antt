@@ -4,8 +4,6 @@ use Rattle.semantics.specs.Graph.{fileOf, isFile}
 use borrow.Author.Needs.{needs}
 use Rattle.partial_state.proofs.node.is_of_file.Statement.{statement}
 use Rattle.partial_state.proofs.node.is_of_file.Tie as tie
-use Rattle.partial_state.proofs.node.is_of_file.Reads as reads
-use Rattle.partial_state.proofs.node.is_of_file.Lts as lts
 
 -- src/node.rt:13:26
 enum-told : tie.Need-enum-told

@@ -8,9 +8,6 @@ use Rattle.partial_state.specs.Routes.Laws.{begun}
 use borrow.Author.Needs.{needs}
 use Rattle.partial_state.proofs.route.begin.Statement.{statement}
 use Rattle.partial_state.proofs.route.begin.Tie as tie
-use Rattle.partial_state.proofs.route.begin.Reads as reads
-use Rattle.partial_state.proofs.route.begin.Lts as lts
-use Rattle.words.proofs.slots.zero.Reads as zero-reads
 
 -- src/route.rt:26:5
 zero-requires : tie.Need-zero-requires

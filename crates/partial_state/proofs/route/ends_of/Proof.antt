@@ -7,11 +7,6 @@ use Rattle.partial_state.specs.Routes.Laws.{ends-some, ends-none}
 use borrow.Author.Needs.{needs}
 use Rattle.partial_state.proofs.route.ends_of.Statement.{statement}
 use Rattle.partial_state.proofs.route.ends_of.Tie as tie
-use Rattle.partial_state.proofs.route.ends_of.Reads as reads
-use Rattle.partial_state.proofs.route.ends_of.Lts as lts
-use Rattle.partial_state.proofs.route.source_of.Reads as source-of-reads
-use Rattle.partial_state.proofs.route.target_of.Reads as target-of-reads
-use Rattle.storage.proofs.store.edge.Reads as edge-reads
 
 -- src/route.rt:63:17
 shared-slice-read-count : tie.Need-shared-slice-read-count

@@ -3,8 +3,6 @@ use Rattle.partial_state.specs.Routes.{sourceOf}
 use borrow.Author.Needs.{needs}
 use Rattle.partial_state.proofs.route.source_of.Statement.{statement}
 use Rattle.partial_state.proofs.route.source_of.Tie as tie
-use Rattle.partial_state.proofs.route.source_of.Reads as reads
-use Rattle.partial_state.proofs.route.source_of.Lts as lts
 
 -- src/route.rt:35:26
 enum-told : tie.Need-enum-told

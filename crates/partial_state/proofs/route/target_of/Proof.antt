@@ -3,8 +3,6 @@ use Rattle.semantics.specs.PartialPaths.{targetOf}
 use borrow.Author.Needs.{needs}
 use Rattle.partial_state.proofs.route.target_of.Statement.{statement}
 use Rattle.partial_state.proofs.route.target_of.Tie as tie
-use Rattle.partial_state.proofs.route.target_of.Reads as reads
-use Rattle.partial_state.proofs.route.target_of.Lts as lts
 
 -- src/route.rt:49:26
 enum-told : tie.Need-enum-told

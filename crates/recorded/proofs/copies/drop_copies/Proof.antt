@@ -1,86 +1,42 @@
--- `drop_copies` meets its contract: the first i lists without their copies stand in front.
-use mathlib.Core.Path.{_≡_, refl}
-use mathlib.Core.Bool.{false}
-use mathlib.Core.List.{[]}
-use Prim.Native.Nat.{ℕ, _-_, _≤_}
+-- `drop_copies` meets its contract: lists that ascend stay as they are.
 use native.Mathlib.Omega.{arith}
-use lib.ListN.{length, take}
-use Rattle.recorded.specs.EdgeLists.{hasList, distinctLists}
-use Rattle.recorded.specs.EdgeLists.Laws.{distinct-shorter}
-use Rattle.recorded.specs.ResultSlots.{Lists, edgesAt, listsAt, Closing}
 use Rattle.recorded.specs.ResultSlots.Laws.{lists-marked}
-use Rattle.recorded.specs.ResultSlots.ClosingUp.{closing-none}
-use Rattle.recorded.specs.ResultSlots.Passes.{seen-fitting, next-fitting, copy-next, close-end}
+use Rattle.recorded.specs.Ascending.Laws.{none-dropped}
 use borrow.Author.Needs.{needs}
 use Rattle.recorded.proofs.copies.drop_copies.Statement.{statement}
 use Rattle.recorded.proofs.copies.drop_copies.Tie as tie
 
-abbrev Inv-loop : tie.InvT-loop
-Inv-loop result₀ kept seen₀ i₀ result seen i = (i ≤ kept) × (length result ≡ length result₀) × ((k : Lists 128 kept result₀) → Closing 128 kept i seen (distinctLists [] (take i (k .lists))) result₀ result)
+-- src/copies.rt:56:8
+is-ascending-requires : tie.Need-is-ascending-requires
+is-ascending-requires c κs = let p = c .before .before .pre in let h = lists-marked 128 (c .before .before .args .kept) (c .before .before .args .result .now) p .held .inside in omega (arith, h, p .count)
 
-abbrev μ-loop : tie.MeasureT-loop
-μ-loop result₀ kept seen₀ i₀ result seen i = kept - i
-
-loop-holds : tie.Need-loop-holds Inv-loop μ-loop
-unfolding distinctLists
-loop-holds c =
-    let a = c .before .args in
-    (search needs, search needs, λ k. closing-none 128 (a .kept) (a .result .now))
-
-keep-new-requires : tie.Need-keep-new-requires Inv-loop μ-loop
-keep-new-requires c κs =
-    let a = c .before .before .before .before .args in
-    let l = c .before .before .loop in
-    let k = c .before .before .before .before .pre in
-    let m = l .inv .2 k in
-    (seen-fitting 128 (a .kept) (l .i) (l .seen) (a .result .now) (l .result) k m, next-fitting 128 (a .kept) (l .i) (l .seen) (a .result .now) (l .result) k m (c .before .loop-test .taken), m .before)
-
-add-i : tie.Need-add-i Inv-loop μ-loop
-add-i c = search needs
-
-loop-less : tie.Need-loop-less Inv-loop μ-loop
-loop-less c = search needs
-
-loop-again : tie.Need-loop-again Inv-loop μ-loop
-loop-again c =
-    let a = c .before .before .before .before .before .before .before .args in
-    let l = c .before .before .before .before .before .loop in
-    let r = c .before .before .keep-new .ensures in (
-      search needs,
-      search needs,
-      λ k.
-          copy-next 128 (a .kept) (l .i) (l .seen) (a .result .now) (l .result) k (l .inv .2 k) (c .before .before .before .before .loop-test .taken) (hasList (edgesAt 128 (l .i) (l .result)) (listsAt 128 (l .seen) (l .result))) (c .before .before .keep-new .result) (c .before .before .keep-new .last .0) refl (r .1) (r .2),
-    )
-
-clear-requires : tie.Need-clear-requires Inv-loop μ-loop
-clear-requires c κs =
-    let l = c .before .before .loop in
-    let k = c .before .before .before .before .pre in
-    let m = l .inv .2 k in
-    (omega (arith, lists-marked 128 (c .before .before .before .before .args .kept) (c .before .before .before .before .args .result .now) k .held .inside, k .count, l .inv .1), omega (arith, m .before, m .within))
-
-same-length : tie.Need-same-length Inv-loop μ-loop
+-- src/copies.rt:57:9
+same-length : tie.Need-same-length
 same-length c = search needs
 
-returns : tie.Need-returns Inv-loop μ-loop
-returns c =
-    let a = c .before .before .before .before .before .before .before .args in
-    let l = c .before .before .before .before .before .loop in
-    let k = c .before .before .before .before .before .before .before .pre in
-    let own = close-end 128 (a .kept) (l .i) (l .seen) (distinctLists []) (λ (j : ℕ). false) (k .lists) (a .result .now) (l .result) (c .before .before .clear .last .0) (k .count) (lists-marked 128 (a .kept) (a .result .now) k) (l .inv .2 k) (omega (arith, c .before .before .before .before .loop-test .left)) (c .before .before .clear .ensures) in
-    (search needs, omega (arith, own .1, distinct-shorter (k .lists) [], k .count), λ m. close-end 128 (a .kept) (l .i) (l .seen) (distinctLists []) (λ (j : ℕ). false) (m .lists) (a .result .now) (l .result) (c .before .before .clear .last .0) (m .count) (lists-marked 128 (a .kept) (a .result .now) m) (l .inv .2 m) (omega (arith, c .before .before .before .before .loop-test .left)) (c .before .before .clear .ensures))
+-- src/copies.rt:57:9
+returns : tie.Need-returns
+returns c = let a = c .before .before .before .before .args in none-dropped 128 (a .kept) (a .result .now) (c .before .is-ascending .ensures (c .if1 .taken))
+
+-- src/copies.rt:59:5
+drop-compared-requires : tie.Need-drop-compared-requires
+drop-compared-requires c κs = search needs
+
+-- src/copies.rt:52:1
+same-length-2 : tie.Need-same-length-2
+same-length-2 c = search needs
+
+-- src/copies.rt:52:1
+returns-2 : tie.Need-returns-2
+returns-2 c = search needs
 
 pub drop-copies-spec : {M : Type 1} → statement M
 drop-copies-spec =
     tie.close
     (tie.spec
-    Inv-loop
-    μ-loop
-    loop-holds
-    keep-new-requires
-    add-i
-    loop-less
-    loop-again
-    clear-requires
+    is-ascending-requires
     same-length
-    returns)
+    returns
+    drop-compared-requires
+    same-length-2
+    returns-2)

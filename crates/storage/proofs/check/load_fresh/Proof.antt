@@ -3,8 +3,8 @@ use borrow.Author.Needs.{needs}
 use mathlib.Core.Path.{_≡_, sym, ap, _∙_}
 use Rattle.semantics.specs.Answer.{ok}
 use Rattle.semantics.specs.Image.{symbolBytes, header, checkImage}
-use Rattle.storage.specs.Records.Laws.{headed}
-use Rattle.storage.specs.Steps.{answerOf}
+use Rattle.image.specs.Records.Laws.{headed}
+use Rattle.image.specs.Steps.{answerOf}
 use Rattle.storage.specs.Checks.Laws.{bad-header, told-refused, none-loaded}
 use Rattle.storage.proofs.check.load_fresh.Statement.{statement}
 use Rattle.storage.proofs.check.load_fresh.Tie as tie

@@ -3,8 +3,8 @@ use borrow.Author.Needs.{needs}
 use mathlib.Core.Path.{sym, ap, _∙_}
 use Rattle.semantics.specs.Calls.{checkCall}
 use Rattle.semantics.specs.Image.{symbolBytes, firstRecord, checkImage}
-use Rattle.storage.specs.Records.Laws.{headed}
-use Rattle.storage.specs.Steps.{answerOf}
+use Rattle.image.specs.Records.Laws.{headed}
+use Rattle.image.specs.Steps.{answerOf}
 use Rattle.storage.specs.Checks.Laws.{bad-record, left-over, by-references, told-refused, none-loaded}
 use Rattle.storage.proofs.check.read.Statement.{statement}
 use Rattle.storage.proofs.check.read.Tie as tie

@@ -5,8 +5,8 @@ use native.Mathlib.Omega.{arith}
 use mathlib.Core.Path.{_≡_, subst}
 use lib.ListN.{length}
 use Rattle.semantics.specs.Graph.{Graph}
-use Rattle.storage.specs.Filling.{Linked}
-use Rattle.storage.specs.Filling.Laws.{all-linked}
+use Rattle.storage.specs.Links.{Linked}
+use Rattle.storage.specs.Links.Laws.{all-linked}
 use Rattle.storage.specs.References.{Sources}
 use Rattle.storage.specs.Rows.{INDEX}
 use Rattle.storage.proofs.links.link.Statement.{statement}

@@ -6,7 +6,7 @@ use Prim.Native.Nat.{ℕ, _-_, _≤_, _<_}
 use native.Mathlib.Omega.{arith}
 use borrow.Author.Tests.{not-true, not-false}
 use Rattle.semantics.specs.Graph.{Graph}
-use Rattle.storage.specs.Filling.{Held}
+use Rattle.image.specs.Filling.{Held}
 use Rattle.storage.specs.References.{edgeTest}
 use Rattle.storage.specs.References.Laws.{passed-more}
 use Rattle.storage.proofs.refs.misfit_edge.Statement.{statement}

@@ -1,4 +1,5 @@
 -- `Frontier::push` meets its contract: the slot behind those that wait is written, where one is free.
+use native.Mathlib.Omega.{arith}
 use Rattle.words.specs.Slots.Laws.{within}
 use Rattle.graph_search.specs.Frontier.Laws.{pushes-done, pushes-full}
 use borrow.Author.Needs.{needs}
@@ -29,13 +30,13 @@ returns c =
     let p = c .before .before .before .before .before .before .before .before .before .before .before .pre in
     let place = c .before .before .before .before .before .before .around in
     let written = c .before .before .before .before .write-slot in
-    pushes-done (a .self) (a .work .now) (p .0) (a .words .now) (p .1) (place .result) (written .last .0) (c .before .before .before .before .before .before .before .if1 .taken) (place .ensures .0) (place .ensures .1) (written .ensures)
+    pushes-done (a .self) (a .work .now) (p .0) (a .words .now) (p .1) (place .result) (written .last .0) (omega (arith, c .before .before .before .before .before .before .before .if1 .taken)) (place .ensures .0) (place .ensures .1) (written .ensures)
 
 returns-2 : tie.Need-returns-2
 returns-2 c =
     let a = c .before .before .before .before .args in
     let p = c .before .before .before .before .pre in
-    pushes-full (a .self) (a .work .now) (p .0) (a .words .now) (p .1) (c .if1 .left)
+    pushes-full (a .self) (a .work .now) (p .0) (a .words .now) (p .1) (omega (arith, c .if1 .left))
 
 pub push-spec : {M : Type 1} → statement M
 push-spec =

@@ -1,0 +1,128 @@
+-- `image::record::node`: each outcome of the record's test, and the node's words where it goes on.
+use borrow.Author.Needs.{needs}
+use Prim.Native.Nat.{_+_}
+use native.Mathlib.Omega.{arith}
+use mathlib.Core.Path.{_≡_, refl, sym, ap, _∙_}
+use borrow.Author.Tests.{not-true, not-false}
+use Rattle.semantics.specs.Answer.{ok}
+use Rattle.semantics.specs.Bytes.{byteAt}
+use Rattle.semantics.specs.Image.{bodySize, symbolBytes, nextPlace}
+use Rattle.image.specs.Records.Laws.{whole, node-cut, no-kind, misplaced, miscounted, bare, by-fields, bare-put}
+use Rattle.image.specs.Steps.Laws.{never}
+use Rattle.image.proofs.record.node.Statement.{statement}
+use Rattle.image.proofs.record.node.Tie as tie
+
+is-cut-requires : tie.Need-is-cut-requires
+is-cut-requires c κs = search needs
+
+returns : tie.Need-returns
+returns c =
+    let a = c .before .before .before .before .args in
+    (node-cut (a .image .now) (a .files) (a .n) (a .at) _ refl (sym (c .before .is-cut .ensures) ∙ c .if1 .taken), λ x e. absurd (never e))
+
+add-byte : tie.Need-add-byte
+add-byte c = let w = whole (c .before .before .before .before .args .image .now) (c .before .before .before .before .args .at) (sym (c .before .is-cut .ensures) ∙ c .if1 .left) in omega (arith, w .1)
+
+byte-requires : tie.Need-byte-requires
+byte-requires c κs = let w = whole (c .before .before .before .before .args .image .now) (c .before .before .before .before .args .at) (sym (c .before .is-cut .ensures) ∙ c .if1 .left) in omega (arith, w .0, w .1)
+
+cast-t12 : tie.Need-cast-t12
+cast-t12 c = let w = whole (c .before .before .before .before .before .before .args .image .now) (c .before .before .before .before .before .before .args .at) (sym (c .before .before .before .is-cut .ensures) ∙ c .before .before .if1 .left) in omega (arith, w .1)
+
+returns-2 : tie.Need-returns-2
+returns-2 c =
+    let a = c .before .before .before .before .before .before .args in
+    (no-kind (a .image .now) (a .files) (a .n) (a .at) (c .before .byte .result) (sym (c .before .byte .ensures .0)) (sym (c .before .before .before .is-cut .ensures) ∙ c .before .before .if1 .left) (c .if2 .taken), λ x e. absurd (never e))
+
+may-stand-requires : tie.Need-may-stand-requires
+may-stand-requires c κs = search needs
+
+cast-t15 : tie.Need-cast-t15
+cast-t15 c = let w = whole (c .before .before .before .before .before .before .before .before .args .image .now) (c .before .before .before .before .before .before .before .before .args .at) (sym (c .before .before .before .before .before .is-cut .ensures) ∙ c .before .before .before .before .if1 .left) in omega (arith, w .1)
+
+returns-3 : tie.Need-returns-3
+returns-3 c =
+    let a = c .before .before .before .before .before .before .before .before .args in
+    (misplaced (a .image .now) (a .files) (a .n) (a .at) (c .before .before .before .byte .result) (sym (c .before .before .before .byte .ensures .0)) (sym (c .before .before .before .before .before .is-cut .ensures) ∙ c .before .before .before .before .if1 .left) (c .before .before .if2 .left) (sym (c .before .may-stand .ensures) ∙ not-true (c .before .may-stand .result) (c .if3 .taken)), λ x e. absurd (never e))
+
+byte-requires-2 : tie.Need-byte-requires-2
+byte-requires-2 c κs = let w = whole (c .before .before .before .before .before .before .before .before .args .image .now) (c .before .before .before .before .before .before .before .before .args .at) (sym (c .before .before .before .before .before .is-cut .ensures) ∙ c .before .before .before .before .if1 .left) in omega (arith, w .1)
+
+body-size-requires : tie.Need-body-size-requires
+body-size-requires c κs = search needs
+
+returns-4 : tie.Need-returns-4
+returns-4 c =
+    let a = c .before .before .before .before .before .before .before .before .before .before .before .args in (
+      miscounted (a .image .now) (a .files) (a .n) (a .at) (c .before .before .before .before .before .before .byte .result) (sym (c .before .before .before .before .before .before .byte .ensures .0)) (sym (c .before .before .before .before .before .before .before .before .is-cut .ensures) ∙ c .before .before .before .before .before .before .before .if1 .left) (c .before .before .before .before .before .if2 .left) (sym (c .before .before .before .before .may-stand .ensures) ∙ not-false (c .before .before .before .before .may-stand .result) (c .before .before .before .if3 .left))
+          (λ e. c .if4 .taken (c .before .before .byte2 .ensures .0 ∙ e ∙ sym (c .before .body-size .ensures))),
+      λ x e. absurd (never e),
+    )
+
+put-node-requires : tie.Need-put-node-requires
+put-node-requires c κs = search needs
+
+cast-t22 : tie.Need-cast-t22
+cast-t22 c = search needs
+
+add-t23 : tie.Need-add-t23
+add-t23 c = let w = whole (c .before .before .before .before .before .before .before .before .before .before .before .before .before .before .before .before .args .image .now) (c .before .before .before .before .before .before .before .before .before .before .before .before .before .before .before .before .args .at) (sym (c .before .before .before .before .before .before .before .before .before .before .before .before .before .is-cut .ensures) ∙ c .before .before .before .before .before .before .before .before .before .before .before .before .if1 .left) in omega (arith, w .1)
+
+add-t24 : tie.Need-add-t24
+add-t24 c = let w = whole (c .before .before .before .before .before .before .before .before .before .before .before .before .before .before .before .before .args .image .now) (c .before .before .before .before .before .before .before .before .before .before .before .before .before .before .before .before .args .at) (sym (c .before .before .before .before .before .before .before .before .before .before .before .before .before .is-cut .ensures) ∙ c .before .before .before .before .before .before .before .before .before .before .before .before .if1 .left) in omega (arith, w .1)
+
+same-length : tie.Need-same-length
+same-length c = search needs
+
+returns-5 : tie.Need-returns-5
+returns-5 c =
+    let a = c .before .before .before .before .before .before .before .before .before .before .before .before .before .before .before .before .args in let im = a .image .now in
+    let s : byteAt im (a .at) ≡ bodySize symbolBytes (c .before .before .before .before .before .before .before .before .before .before .before .byte .result) = sym (c .before .before .before .before .before .before .before .byte2 .ensures .0) ∙ c .before .before .before .before .before .if4 .left ∙ c .before .before .before .before .before .before .body-size .ensures in
+    let z : a .at + c .before .before .before .before .before .before .before .byte2 .result + 1 ≡ nextPlace im (a .at) = omega (arith, c .before .before .before .before .before .before .before .byte2 .ensures .0) in (
+      ap ok z ∙ bare im (a .files) (a .n) (a .at) (c .before .before .before .before .before .before .before .before .before .before .before .byte .result) (sym (c .before .before .before .before .before .before .before .before .before .before .before .byte .ensures .0)) (sym (c .before .before .before .before .before .before .before .before .before .before .before .before .before .is-cut .ensures) ∙ c .before .before .before .before .before .before .before .before .before .before .before .before .if1 .left) (c .before .before .before .before .before .before .before .before .before .before .if2 .left) (sym (c .before .before .before .before .before .before .before .before .before .may-stand .ensures) ∙ not-false (c .before .before .before .before .before .before .before .before .before .may-stand .result) (c .before .before .before .before .before .before .before .before .if3 .left)) s (c .before .before .before .before .if5 .taken),
+      λ x e. bare-put im (a .n) (a .at) (c .before .before .before .before .before .before .before .before .before .before .before .byte .result) (a .index .now) _ (c .before .before .before .before .before .before .before .before .before .before .before .before .before .before .before .before .pre .1 .1) (sym (c .before .before .before .before .before .before .before .before .before .before .before .byte .ensures .0)) (c .before .before .before .before .if5 .taken) (c .before .before .put-node .ensures),
+    )
+
+fields-requires : tie.Need-fields-requires
+fields-requires c κs =
+    let a = c .before .before .before .before .before .before .before .before .before .before .before .before .before .args in let im = a .image .now in
+    let s : byteAt im (a .at) ≡ bodySize symbolBytes (c .before .before .before .before .before .before .before .before .byte .result) = sym (c .before .before .before .before .byte2 .ensures .0) ∙ c .before .before .if4 .left ∙ c .before .before .before .body-size .ensures in
+    let w = whole im (a .at) (sym (c .before .before .before .before .before .before .before .before .before .before .is-cut .ensures) ∙ c .before .before .before .before .before .before .before .before .before .if1 .left) in
+    (record { low = c .before .if5 .left; high = c .before .before .before .before .before .before .before .if2 .left; reads = sym (c .before .before .before .before .before .before .before .before .byte .ensures .0); size = s; whole = omega (arith, w .1, s); small = c .before .before .before .before .before .before .before .before .before .before .before .before .before .pre .0 }, (c .before .before .before .before .before .before .before .before .before .before .before .before .before .pre .1 .0, c .before .before .before .before .before .before .before .before .before .before .before .before .before .pre .1 .1))
+
+same-length-2 : tie.Need-same-length-2
+same-length-2 c = search needs
+
+returns-6 : tie.Need-returns-6
+returns-6 c =
+    let a = c .before .before .before .before .before .before .before .before .before .before .before .before .before .before .before .before .args in let im = a .image .now in
+    let s : byteAt im (a .at) ≡ bodySize symbolBytes (c .before .before .before .before .before .before .before .before .before .before .before .byte .result) = sym (c .before .before .before .before .before .before .before .byte2 .ensures .0) ∙ c .before .before .before .before .before .if4 .left ∙ c .before .before .before .before .before .before .body-size .ensures in (
+      c .before .before .fields .ensures .0 ∙ by-fields im (a .files) (a .n) (a .at) (c .before .before .before .before .before .before .before .before .before .before .before .byte .result) (sym (c .before .before .before .before .before .before .before .before .before .before .before .byte .ensures .0)) (sym (c .before .before .before .before .before .before .before .before .before .before .before .before .before .is-cut .ensures) ∙ c .before .before .before .before .before .before .before .before .before .before .before .before .if1 .left) (c .before .before .before .before .before .before .before .before .before .before .if2 .left) (sym (c .before .before .before .before .before .before .before .before .before .may-stand .ensures) ∙ not-false (c .before .before .before .before .before .before .before .before .before .may-stand .result) (c .before .before .before .before .before .before .before .before .if3 .left)) s (c .before .before .before .before .if5 .left),
+      c .before .before .fields .ensures .1,
+    )
+
+pub node-spec : {M : Type 1} → statement M
+node-spec =
+    tie.close
+    (tie.spec
+    is-cut-requires
+    returns
+    add-byte
+    byte-requires
+    cast-t12
+    returns-2
+    may-stand-requires
+    cast-t15
+    returns-3
+    byte-requires-2
+    body-size-requires
+    returns-4
+    put-node-requires
+    cast-t22
+    add-t23
+    add-t24
+    same-length
+    returns-5
+    fields-requires
+    same-length-2
+    returns-6)

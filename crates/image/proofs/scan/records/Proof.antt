@@ -1,0 +1,69 @@
+-- `image::scan::records`: the nodes, then the edges, put into a cleared index.
+use borrow.Author.Needs.{needs}
+use Prim.Native.Nat.{ℕ}
+use native.Mathlib.Omega.{arith}
+use mathlib.Core.Path.{sym, ap, ap₂, _∙_}
+use Rattle.semantics.specs.Image.{symbolBytes, firstRecord, edgesOf, nodeRecord, edgeRecord, scan}
+use Rattle.image.specs.Records.Laws.{records-put}
+use Rattle.image.specs.Steps.{answerOf}
+use Rattle.image.specs.Steps.Laws.{never, then-refused, then-ok}
+use Rattle.image.proofs.scan.records.Statement.{statement}
+use Rattle.image.proofs.scan.records.Tie as tie
+
+files-requires : tie.Need-files-requires
+files-requires c κs = search needs
+
+nodes-requires : tie.Need-nodes-requires
+nodes-requires c κs = search needs
+
+nodes-requires-2 : tie.Need-nodes-requires-2
+nodes-requires-2 c κs = let h = c .before .before .before .before .before .pre .0 in (h .small, (c .before .before .before .before .before .pre .1 .long, omega (arith, c .before .nodes .ensures, h .nodes)))
+
+enum-known-step : tie.Need-enum-known-step
+enum-known-step c = search needs
+
+enum-told : tie.Need-enum-told
+enum-told c = search needs
+
+same-length : tie.Need-same-length
+same-length c = search needs
+
+returns : tie.Need-returns
+returns c =
+    let im = c .before .before .before .before .before .before .before .before .before .before .args .image .now in let t = c .enum-told .given .1 in
+    let e = ap₂ (λ (f k : ℕ). scan (nodeRecord symbolBytes im f) 0 firstRecord k) (sym (c .before .before .before .before .before .before .before .files .ensures)) (sym (c .before .before .before .before .before .before .nodes .ensures)) ∙ sym (c .before .before .before .before .nodes2 .ensures .0) ∙ ap answerOf t in
+    (ap answerOf t ∙ then-refused _ (λ middle. scan (λ k. edgeRecord im) 0 middle (edgesOf im)) _ e, λ x q. absurd (never (sym t ∙ q)))
+
+edges-requires : tie.Need-edges-requires
+edges-requires c κs = search needs
+
+edges-requires-2 : tie.Need-edges-requires-2
+edges-requires-2 c κs = let h = c .before .before .before .before .before .before .before .before .before .before .before .before .before .pre .0 in (h .small, (search needs, omega (arith, c .before .edges .ensures, h .edges)))
+
+same-length-2 : tie.Need-same-length-2
+same-length-2 c = search needs
+
+returns-2 : tie.Need-returns-2
+returns-2 c =
+    let im = c .before .before .before .before .before .before .before .before .before .before .before .before .before .before .before .before .args .image .now in let t = c .before .before .before .before .before .before .step .given .1 in
+    let e = ap₂ (λ (f k : ℕ). scan (nodeRecord symbolBytes im f) 0 firstRecord k) (sym (c .before .before .before .before .before .before .before .before .before .before .before .before .before .files .ensures)) (sym (c .before .before .before .before .before .before .before .before .before .before .before .before .nodes .ensures)) ∙ sym (c .before .before .before .before .before .before .before .before .before .before .nodes2 .ensures .0) ∙ ap answerOf t in (
+      then-ok _ (λ middle. scan (λ k. edgeRecord im) 0 middle (edgesOf im)) _ _ e (c .before .before .edges2 .ensures .0 ∙ ap (scan (λ k. edgeRecord im) 0 _) (c .before .before .before .before .edges .ensures)),
+      λ x q. records-put im (c .before .before .before .before .before .before .before .before .before .before .before .before .nodes .result) _ (c .before .before .before .before .edges .result) (c .before .before .before .before .before .before .before .before .before .before .before .before .before .before .before .before .args .index .now) (c .before .before .before .before .before .before .before .before .before .before .nodes2 .last .1 .1 .1 .0) _ (c .before .before .before .before .before .before .before .before .before .before .before .before .nodes .ensures) (c .before .before .before .before .before .before .before .before .before .before .nodes2 .ensures .1 _ t .0) (c .before .before .before .before .edges .ensures) (c .before .before .before .before .before .before .before .before .before .before .before .before .before .before .before .before .pre .1)
+          (c .before .before .before .before .before .before .before .before .before .before .nodes2 .ensures .1 _ t .1) (c .before .before .edges2 .ensures .1 x q),
+    )
+
+pub records-spec : {M : Type 1} → statement M
+records-spec =
+    tie.close
+    (tie.spec
+    files-requires
+    nodes-requires
+    nodes-requires-2
+    enum-known-step
+    enum-told
+    same-length
+    returns
+    edges-requires
+    edges-requires-2
+    same-length-2
+    returns-2)

@@ -1,0 +1,4 @@
+pub mod Rows
+pub mod Filling
+pub mod Steps
+pub mod Records

@@ -1,0 +1,66 @@
+-- The rounds of a computation, in code against the enumeration.
+-- Document 01, "Partial paths": `StackPartialPathSet::compute`.
+use Prim.Native.Nat.{ℕ, _-_, _*_, _≤_}
+use mathlib.Core.Path.{_≡_}
+use mathlib.Core.List.{List}
+use lib.ListN.{length}
+use Rattle.semantics.specs.declared.refusal.PartialPathRefusal.{PartialPathRefusal}
+use Rattle.semantics.specs.Answer.{Answer, ok, refuse}
+use Rattle.semantics.specs.Graph.{Graph, viewOf}
+use Rattle.semantics.specs.Enumeration.{State, each, run, merge}
+use Rattle.semantics.specs.PartialPaths.{Route, partialStats}
+use Rattle.storage.specs.Rows.{Loaded}
+use Rattle.words.specs.Slots.{IsSlot}
+use Rattle.partial_state.specs.declared.filing.Filing.{Filing}
+use Rattle.partial_state.specs.declared.extraction.Frame.{Frame}
+use Rattle.partial_state.specs.Routes.{held, Traced}
+use Rattle.partial_state.specs.Filings.{Fits, filedIn}
+use Rattle.partial_state.specs.Reps.{frameOf, settingOf, Rep, Untouched, Tells}
+use Rattle.partial.specs.declared.compute.Computed.{Computed}
+use Rattle.partial.specs.declared.compute.Computed.the-variants.{Done, Refused}
+use Rattle.partial_state.specs.Extractions.{Computation, Course}
+use Rattle.partial_trial.specs.Expansions.{triesOf}
+pub mod Laws
+
+-- A ROUND: the route in the item was popped
+pub record Rounding (most : ℕ) (index : List ℕ) (f : Filing) (item : List ℕ) (x : Computation) (ws db : List ℕ) : Type 0 where
+  pub graph : Graph
+  pub loaded : Loaded graph index
+  pub origin : List ℕ
+  pub route : Route
+  pub words : item ≡ held 128 route
+  pub good : Traced (viewOf graph) (f .file) route
+  pub fits : Fits f db
+  pub model : State Route
+  pub rep : Rep (viewOf graph) f origin x ws db model
+  pub small : model .tally .looked ≤ most
+
+abbrev pub Rounded : (most : ℕ) (index : List ℕ) (f : Filing) (item : List ℕ) (x : Computation) (ws db : List ℕ) → Rounding most index f item x ws db → Course → List ℕ → List ℕ → Type 0
+Rounded most index f item x ws db v a ws′ db′ =
+    Tells (viewOf (v .graph)) f (v .origin) (frameOf x) a ws′ db′ (each (settingOf (frameOf x)) (v .model) (triesOf (frameOf x) (v .graph) (f .file) (v .route)))
+
+-- THE WHOLE COMPUTATION, from a state of the enumeration on
+pub record Driving (index : List ℕ) (f : Filing) (item : List ℕ) (x : Computation) (ws db : List ℕ) : Type 0 where
+  pub graph : Graph
+  pub loaded : Loaded graph index
+  pub origin : List ℕ
+  pub slot : IsSlot 128 item
+  pub fits : Fits f db
+  pub model : State Route
+  pub rep : Rep (viewOf graph) f origin x ws db model
+  pub looked : model .tally .looked ≤ 4096 * x .budget .expanded
+  pub expanded : x .budget .expanded ≤ 16777216
+
+-- it is finished with this state, whose found routes are filed, or refused alike
+abbrev pub Ends : Filing → List ℕ → Computed → List ℕ → Answer PartialPathRefusal (State Route) → Type 0
+Ends f origin (Done stats) db (ok u) = (stats ≡ partialStats u) × (stats .found ≡ length (u .kept)) × (db ≡ filedIn f (u .kept) origin)
+Ends f origin (Done stats) db (refuse y) = ⊥
+Ends f origin (Refused r) db (ok u) = ⊥
+Ends f origin (Refused r) db (refuse y) = (r ≡ y) × Untouched f origin db
+
+-- the enumeration's run with so many expansions left
+abbrev pub runFrom : Frame → Graph → ℕ → ℕ → State Route → Answer PartialPathRefusal (State Route)
+runFrom fr g file n m = run (settingOf fr) (triesOf fr g file) n (merge (fr .order) m)
+
+abbrev pub DrivenTo : (index : List ℕ) (f : Filing) (item : List ℕ) (x : Computation) (ws db : List ℕ) → Driving index f item x ws db → Computed → List ℕ → Type 0
+DrivenTo index f item x ws db v a db′ = Ends f (v .origin) a db′ (runFrom (frameOf x) (v .graph) (f .file) (16777216 - x .budget .expanded) (v .model))

@@ -1,0 +1,92 @@
+-- The expansion of a route by the edges of a file, in code against the enumeration.
+-- Document 01, "Partial paths": `StackPartialPathSet::compute`.
+use Prim.Native.Nat.{ℕ, _≤_}
+use mathlib.Core.Path.{_≡_}
+use mathlib.Core.Bool.{true}
+use mathlib.Core.List.{List, List·Memᴰ}
+use lib.ListN.{length}
+use Rattle.semantics.specs.declared.refusal.PartialPathRefusal.{PartialPathRefusal}
+use Rattle.semantics.specs.Lists.{pick}
+use Rattle.semantics.specs.Limits.{base}
+use Rattle.semantics.specs.Answer.{Answer, ok}
+use Rattle.semantics.specs.Graph.{Graph, viewOf}
+use Rattle.semantics.specs.Enumeration.{State, Try, one, each}
+use Rattle.semantics.specs.PartialPaths.{Route, belongs, ifRoom, judgeRoute, routeTries}
+use Rattle.storage.specs.Rows.{Loaded}
+use Rattle.search_state.specs.Items.{Carries}
+use Rattle.partial_state.specs.declared.route.Ends as R
+use Rattle.partial_state.specs.declared.filing.Filing.{Filing}
+use Rattle.partial_state.specs.declared.extraction.Frame.{Frame}
+use Rattle.partial_state.specs.Routes.{Traced}
+use Rattle.partial_state.specs.Filings.{Fits}
+use Rattle.partial_state.specs.Reps.{frameOf, settingOf, Rep, Tells}
+use Rattle.partial_state.specs.Extractions.{Computation, Course}
+pub mod Laws
+pub mod Edges
+
+-- THE ROUTE UNDER EXPANSION: its edges in the item, and the state of the enumeration; at most `most` edges were looked at
+pub record Given (most : ℕ) (index : List ℕ) (f : Filing) (start k : ℕ) (item : List ℕ) (x : Computation) (ws db : List ℕ) : Type 0 where
+  pub graph : Graph
+  pub loaded : Loaded graph index
+  pub origin : List ℕ
+  pub route : Route
+  pub starts : start ≡ route .start
+  pub count : length (route .edges) ≡ k
+  pub carries : Carries 128 item (route .edges)
+  pub good : Traced (viewOf graph) (f .file) route
+  pub fits : Fits f db
+  pub model : State Route
+  pub rep : Rep (viewOf graph) f origin x ws db model
+  pub small : model .tally .looked ≤ most
+
+-- an edge leaves the route's end
+pub record Looking (most : ℕ) (index : List ℕ) (f : Filing) (start k e : ℕ) (item : List ℕ) (x : Computation) (ws db : List ℕ) : Type 0 where
+  pub given : Given most index f start k item x ws db
+  pub leaves : List·Memᴰ e (viewOf (given .graph) .out (given .route .current))
+
+-- and belongs to the file
+pub record Trying (most : ℕ) (index : List ℕ) (f : Filing) (start k e : ℕ) (item : List ℕ) (x : Computation) (ws db : List ℕ) : Type 0 where
+  pub looking : Looking most index f start k e item x ws db
+  pub owned : belongs (viewOf (looking .given .graph)) (f .file) e ≡ true
+
+-- what becomes of an edge of the file
+abbrev pub judgeOf : Frame → Graph → Route → ℕ → Try PartialPathRefusal Route
+judgeOf fr g r e = judgeRoute base (fr .length) (viewOf g) r e
+
+module _ (most : ℕ) (index : List ℕ) (f : Filing) (start k : ℕ) (item : List ℕ) (x : Computation) (ws db : List ℕ) (v : Given most index f start k item x ws db) where
+  -- the enumeration's answer, and the item with the same route in front
+  pub record Answered (a : Course) (item′ ws′ db′ : List ℕ) (t : Answer PartialPathRefusal (State Route)) : Type 0 where
+    pub tells : Tells (viewOf (v .graph)) f (v .origin) (frameOf x) a ws′ db′ t
+    pub carries : Carries 128 item′ (v .route .edges)
+
+module _ (most : ℕ) (index : List ℕ) (f : Filing) (start k e : ℕ) (item : List ℕ) (x : Computation) (ws db : List ℕ) where
+  -- the answer to an edge that is neither cut nor too long
+  abbrev pub Lengthened : Trying most index f start k e item x ws db → Course → List ℕ → List ℕ → List ℕ → Type 0
+  Lengthened t a item′ ws′ db′ =
+      let v = t .looking .given in
+      Answered most index f start k item x ws db v a item′ ws′ db′ (one (settingOf (frameOf x)) (v .model) (ifRoom true (viewOf (v .graph)) (v .route) e))
+
+  -- to an edge of the file
+  abbrev pub Tried : Trying most index f start k e item x ws db → Course → List ℕ → List ℕ → List ℕ → Type 0
+  Tried t a item′ ws′ db′ =
+      let v = t .looking .given in
+      Answered most index f start k item x ws db v a item′ ws′ db′ (one (settingOf (frameOf x)) (v .model) (judgeOf (frameOf x) (v .graph) (v .route) e))
+
+  -- to any edge
+  abbrev pub Looked : Looking most index f start k e item x ws db → Course → List ℕ → List ℕ → List ℕ → Type 0
+  Looked l a item′ ws′ db′ =
+      let v = l .given in
+      Answered most index f start k item x ws db v a item′ ws′ db′ (pick (belongs (viewOf (v .graph)) (f .file) e) (one (settingOf (frameOf x)) (v .model) (judgeOf (frameOf x) (v .graph) (v .route) e)) (ok (v .model)))
+
+-- ALL ITS EDGES
+pub record Expanding (most : ℕ) (index : List ℕ) (f : Filing) (ends : R.Ends) (k : ℕ) (item : List ℕ) (x : Computation) (ws db : List ℕ) : Type 0 where
+  pub given : Given most index f (ends .start) k item x ws db
+  pub stands : ends .end ≡ given .route .current
+
+abbrev pub triesOf : Frame → Graph → ℕ → Route → List (Try PartialPathRefusal Route)
+triesOf fr g file r = routeTries base (fr .length) (viewOf g) (belongs (viewOf g) file) r
+
+abbrev pub Expanded : (most : ℕ) (index : List ℕ) (f : Filing) (ends : R.Ends) (k : ℕ) (item : List ℕ) (x : Computation) (ws db : List ℕ) → Expanding most index f ends k item x ws db → Course → List ℕ → List ℕ → Type 0
+Expanded most index f ends k item x ws db u a ws′ db′ =
+    let v = u .given in
+    Tells (viewOf (v .graph)) f (v .origin) (frameOf x) a ws′ db′ (each (settingOf (frameOf x)) (v .model) (triesOf (frameOf x) (v .graph) (f .file) (v .route)))

@@ -1,0 +1,214 @@
+-- One edge on the route under expansion: what is counted, found, filed and pushed is what the enumeration does.
+-- Serves document 01, "Partial paths".
+use Prim.Native.Nat.{ℕ, suc, _+_, _-_, _<_, _≤_, _^_}
+use native.Mathlib.Omega.{arith}
+use mathlib.Core.Path.{_≡_, refl, sym, ap, subst, _∙_}
+use mathlib.Core.Bool.{Bool, true, false}
+use mathlib.Core.List.{List}
+use borrow.Author.Tests.{lt-ltb, le-ltb}
+use lib.IntN.{ℤ}
+use lib.ListN.{length, take, drop, getD}
+use Rattle.semantics.specs.declared.graph.NodeId.{NodeId}
+use Rattle.semantics.specs.declared.graph.Node.{Node}
+use Rattle.semantics.specs.declared.graph.Edge.{Edge}
+use Rattle.semantics.specs.declared.graph.Edge.the-variants as E
+use Rattle.semantics.specs.declared.search.Limit.{Limit}
+use Rattle.semantics.specs.declared.search.SearchStats.{SearchStats}
+use Rattle.semantics.specs.declared.refusal.PartialPathRefusal.the-variants.{TooLong}
+use Rattle.semantics.specs.Lists.{or, has}
+use Rattle.semantics.specs.Lists.Laws.{length-snoc}
+use Rattle.semantics.specs.Limits.{base, within}
+use Rattle.semantics.specs.Graph.{Graph, View, viewOf, fileOf, isFile, isEndpoint}
+use Rattle.semantics.specs.Graph.Laws.{viewOf-lawful}
+use Rattle.semantics.specs.Enumeration.{cut, overlong, stop, one, judged}
+use Rattle.semantics.specs.PartialPaths.{Route, isOfFile, belongs, targetOf, longer, ifRoom, ifShort, unlessCycle, judgeRoute}
+use Rattle.storage.specs.Rows.{nodeRow, edgeRow, Loaded}
+use Rattle.budget.specs.declared.path_budget.Budget.{Budget}
+use Rattle.budget.specs.declared.path_budget.Admitted.{Admitted}
+use Rattle.budget.specs.Budget.{lengthening}
+use Rattle.budget.specs.Budget.Laws.{lengthening-allowed, lengthening-limits}
+use Rattle.search_state.specs.Items.{withEdge, Carries}
+use Rattle.search_state.specs.Items.Laws.{carries-edge}
+use Rattle.partial_state.specs.declared.route.Ends.{Ends}
+use Rattle.partial_state.specs.declared.filing.Filing.{Filing}
+use Rattle.partial_state.specs.Routes.{held, endsOf, Traced}
+use Rattle.partial_state.specs.Routes.Laws.{held-count, held-snoc, traced-snoc}
+use Rattle.partial_state.specs.Extractions.{Computation, Course, goes, stops, withBudget, cutOne}
+use Rattle.partial_state.specs.Reps.{frameOf, settingOf, Tells, Extendable, ExtendsTo}
+use Rattle.partial_state.specs.Reps.Laws.{untouched, lookedAt, rep-looked, rep-cut, rep-overlong}
+use Rattle.partial_trial.specs.Expansions.{Given, Looking, Trying, judgeOf, Lengthened, Tried, Looked}
+
+-- ---- the judgement, test by test
+
+module _ (lim : Limit) (g : View) (r : Route) (e : ℕ) where
+  judge-cut : has e (r .edges) ≡ true → judgeRoute base lim g r e ≡ cut
+  unfolding judgeRoute unlessCycle
+  judge-cut h = rw h
+
+  judge-overlong : has e (r .edges) ≡ false → within (suc (length (r .edges))) lim ≡ false → judgeRoute base lim g r e ≡ overlong
+  unfolding judgeRoute unlessCycle ifShort
+  judge-overlong h k = rw (h, k)
+
+  judge-bound : has e (r .edges) ≡ false → within (suc (length (r .edges))) lim ≡ true → 127 ≤ length (r .edges) → judgeRoute base lim g r e ≡ stop TooLong
+  unfolding judgeRoute unlessCycle ifShort ifRoom
+  judge-bound h k l = rw (h, k, le-ltb (length (r .edges)) 127 l)
+
+  judge-room : has e (r .edges) ≡ false → within (suc (length (r .edges))) lim ≡ true → length (r .edges) < 127 → judgeRoute base lim g r e ≡ ifRoom true g r e
+  unfolding judgeRoute unlessCycle ifShort
+  judge-room h k l = rw (h, k, lt-ltb (length (r .edges)) 127 l)
+
+-- the budget's answer to a length
+asked-within : (a : Admitted) (n : ℕ) (b : Budget) (t : Bool) → a ≡ lengthening n b → a .allowed ≡ t → within n (b .maxLength) ≡ t
+asked-within a n b t is e = sym (lengthening-allowed n b) ∙ ap (λ (x : Admitted). x .allowed) (sym is) ∙ e
+
+-- ---- what the code may count and store
+
+module _ (most : ℕ) (index : List ℕ) (f : Filing) (start k : ℕ) (item : List ℕ) (x : Computation) (ws db : List ℕ) (v : Given most index f start k item x ws db) where
+  pub given-cycles : x .cycles ≤ most
+  given-cycles = let e : x .cycles ≡ v .model .stats .cycles = ap (λ (t : SearchStats). t .cycles) (v .rep .counts .stats) in omega (arith, e, v .rep .few .cycles, v .small)
+
+  given-found : x .found ≤ most
+  given-found = let e : x .found ≡ v .model .stats .complete = ap (λ (t : SearchStats). t .complete) (v .rep .counts .stats) in omega (arith, e, v .rep .few .complete, v .small)
+
+  pub given-short : k ≤ 127
+  given-short = omega (arith, v .good .short, v .count)
+
+  pub given-slice : k + 1 ≤ length item
+  given-slice = let h = given-short in omega (arith, h, v .carries .long)
+
+  -- the edges of the route stand in the item
+  pub given-edges : take (k + 1 - 1) (drop 1 item) ≡ v .route .edges
+  given-edges = ap (λ (n : ℕ). take n (drop 1 item)) (let z : k + 1 - 1 ≡ length (v .route .edges) = omega (arith, v .count) in z) ∙ v .carries .edges
+
+-- ---- an edge of the file
+
+module _ (most : ℕ) (index : List ℕ) (f : Filing) (start k e : ℕ) (item : List ℕ) (x : Computation) (ws db : List ℕ) (t : Trying most index f start k e item x ws db) where
+  abbrev v : Given most index f start k item x ws db
+  v = t .looking .given
+
+  abbrev g : View
+  g = viewOf (v .graph)
+
+  -- is it among the route's edges
+  has-is : (b : Bool) → b ≡ has e (take (k + 1 - 1) (drop 1 item)) → has e (v .route .edges) ≡ b
+  has-is b h = sym (h ∙ ap (has e) (given-edges most index f start k item x ws db v))
+
+  within-is : (b : Bool) → within (k + 1) (x .budget .maxLength) ≡ b → within (suc (length (v .route .edges))) (x .budget .maxLength) ≡ b
+  within-is b h = ap (λ (n : ℕ). within n (x .budget .maxLength)) (let z : suc (length (v .route .edges)) ≡ k + 1 = omega (arith, v .count) in z) ∙ h
+
+  pub tried-cut : (b : Bool) → b ≡ has e (take (k + 1 - 1) (drop 1 item)) → b ≡ true → (w : Computation) → w ≡ cutOne x → Tried most index f start k e item x ws db t (goes w) item ws db
+  unfolding one judged
+  tried-cut b h y w q = record {
+    tells = subst (λ (z : Computation). Tells g f (v .origin) (frameOf x) (goes z) ws db (one (settingOf (frameOf x)) (v .model) (judgeOf (frameOf x) (v .graph) (v .route) e))) (sym q)
+        (rw (judge-cut (x .budget .maxLength) g (v .route) e (has-is b h ∙ y)) (refl, rep-cut g f (v .origin) x ws db (v .model) (v .rep)));
+    carries = v .carries;
+  }
+
+  module _ (b : Bool) (h : b ≡ has e (take (k + 1 - 1) (drop 1 item))) (y : b ≡ false) (a : Admitted) (is : a ≡ lengthening (k + 1) (x .budget)) where
+    pub tried-overlong : a .allowed ≡ false → (w : Computation) → w ≡ withBudget (a .budget) x → Tried most index f start k e item x ws db t (goes w) item ws db
+    unfolding one judged
+    tried-overlong n w q =
+        let l : within (k + 1) (x .budget .maxLength) ≡ false = asked-within a (k + 1) (x .budget) false is n in
+        let z : w ≡ withBudget (lengthening (k + 1) (x .budget) .budget) x = q ∙ ap (λ (u : Admitted). withBudget (u .budget) x) is in
+        record {
+          tells = subst (λ (u : Computation). Tells g f (v .origin) (frameOf x) (goes u) ws db (one (settingOf (frameOf x)) (v .model) (judgeOf (frameOf x) (v .graph) (v .route) e))) (sym z)
+              (rw (judge-overlong (x .budget .maxLength) g (v .route) e (has-is b h ∙ y) (within-is false l))
+              (λ i. record { order = x .frontier .order; length = lengthening-limits (k + 1) (x .budget) i .length; paths = lengthening-limits (k + 1) (x .budget) i .paths; waiting = x .frontier .capacity }, rep-overlong g f (v .origin) x ws db (v .model) (v .rep) (k + 1) l));
+          carries = v .carries;
+        }
+
+    pub tried-bound : a .allowed ≡ true → 127 ≤ k → Tried most index f start k e item x ws db t (stops TooLong) item ws db
+    unfolding one judged
+    tried-bound n m = record {
+      tells = rw (judge-bound (x .budget .maxLength) g (v .route) e (has-is b h ∙ y) (within-is true (asked-within a (k + 1) (x .budget) true is n)) (omega (arith, m, v .count))) (refl, untouched g f (v .origin) x ws db (v .model) (v .rep));
+      carries = v .carries;
+    }
+
+    pub tried-longer : a .allowed ≡ true → k < 127 → (r : Course) (item′ ws′ db′ : List ℕ) → Lengthened most index f start k e item x ws db t r item′ ws′ db′ → Tried most index f start k e item x ws db t r item′ ws′ db′
+    tried-longer n m r item′ ws′ db′ d = record {
+      tells = rw (judge-room (x .budget .maxLength) g (v .route) e (has-is b h ∙ y) (within-is true (asked-within a (k + 1) (x .budget) true is n)) (omega (arith, m, v .count))) (d .tells);
+      carries = d .carries;
+    }
+
+  -- ---- the route with one edge more
+  abbrev longerBy : Route
+  longerBy = longer (v .route) e (targetOf (g .edge e))
+
+  module _ (short : k < 127) (item′ : List ℕ) (made : item′ ≡ withEdge item k e) where
+    grown : item′ ≡ held 128 longerBy
+    grown =
+        let l : suc (length (v .route .edges)) < 128 = omega (arith, short, v .count) in
+        made ∙ ap (λ (n : ℕ). withEdge item n e) (sym (v .count)) ∙ v .carries .grows e l ∙ sym (held-snoc 128 (v .route .start) e (v .route .edges))
+
+    good-grown : Traced g (f .file) longerBy
+    good-grown =
+        let l = viewOf-lawful (v .graph) .live (v .route .current) e (t .looking .leaves) in
+        traced-snoc g (f .file) (v .route) e (l .0) (l .1) (v .good) (omega (arith, short, v .count)) (l .2) (t .owned)
+
+    pub longer-given : most + 1 < 2 ^ 64 → length item′ ≡ length item → Extendable x f item′ ws db
+    longer-given h l = record {
+      framed = v .rep .stands .framed;
+      slot = l ∙ v .carries .long;
+      sized = v .rep .sized;
+      short =
+          let c : getD item′ 0 0 ≡ length (longerBy .edges) = ap (λ (i : List ℕ). getD i 0 0) grown ∙ held-count 127 (v .route .start) (longerBy .edges) in
+          let n = length-snoc (v .route .edges) e in
+          omega (arith, c, n, short, v .count);
+      few = let c = given-found most index f start k item x ws db v in omega (arith, c, h);
+      fits = v .fits;
+    }
+
+    module _ (end : ℕ) (reads : end ≡ targetOf (edgeRow index e)) (b : Bool) (is : b ≡ isEndpoint (nodeRow index end)) where
+      end-is : end ≡ targetOf (g .edge e)
+      end-is = reads ∙ ap targetOf (v .loaded .edge e)
+
+      endpoint-is : b ≡ isEndpoint (g .node (targetOf (g .edge e)))
+      endpoint-is = is ∙ ap isEndpoint (v .loaded .node end) ∙ ap (λ (n : ℕ). isEndpoint (g .node n)) end-is
+
+      pub lengthened : (a : Course) (ws′ db′ : List ℕ) → ExtendsTo x b (record { start = start; end = end }) f item′ ws db a ws′ db′ → Lengthened most index f start k e item x ws db t a item′ ws′ db′
+      unfolding one judged ifRoom
+      lengthened a ws′ db′ w =
+          let ends : _≡_ {A = Ends} (record { start = start; end = end }) (endsOf longerBy) = λ i. record { start = v .starts i; end = end-is i } in
+          let u = w g (v .origin) (lookedAt g f (v .origin) x ws db (v .model) (v .rep)) longerBy (v .model .tally .looked) (rep-looked g f (v .origin) x ws db (v .model) (v .rep)) (v .rep .few) refl good-grown ends grown in
+          record {
+            tells = rw (sym endpoint-is) u;
+            carries = subst (λ (l : List ℕ). Carries 128 l (v .route .edges)) (sym (made ∙ ap (λ (n : ℕ). withEdge item n e) (sym (v .count)))) (carries-edge 128 item (v .route .edges) e (v .carries));
+          }
+
+-- ---- an edge that leaves the route's end
+
+module _ (most : ℕ) (index : List ℕ) (f : Filing) (start k e : ℕ) (item : List ℕ) (x : Computation) (ws db : List ℕ) (l : Looking most index f start k e item x ws db) where
+  module _ (o : Edge) (read : o ≡ edgeRow index e) (b : Bool) (is : (h : Graph) → Loaded h index → b ≡ isOfFile (viewOf h) (f .file) o) where
+    owned-is : b ≡ belongs (viewOf (l .given .graph)) (f .file) e
+    unfolding belongs
+    owned-is = is (l .given .graph) (l .given .loaded) ∙ ap (isOfFile (viewOf (l .given .graph)) (f .file)) (read ∙ l .given .loaded .edge e)
+
+    pub looking-tries : b ≡ true → Trying most index f start k e item x ws db
+    looking-tries h = record { looking = l; owned = sym owned-is ∙ h }
+
+    pub looked-tried : (h : b ≡ true) (a : Course) (item′ ws′ db′ : List ℕ) → Tried most index f start k e item x ws db (looking-tries h) a item′ ws′ db′ → Looked most index f start k e item x ws db l a item′ ws′ db′
+    unfolding looking-tries
+    looked-tried h a item′ ws′ db′ t = record { tells = rw (sym owned-is ∙ h) (t .tells); carries = t .carries }
+
+    pub looked-not : b ≡ false → Looked most index f start k e item x ws db l (goes x) item ws db
+    looked-not h = record { tells = rw (sym owned-is ∙ h) (refl, l .given .rep); carries = l .given .carries }
+
+-- ---- either end
+
+module _ (g : Graph) (index : List ℕ) (loaded : Loaded g index) (file : ℕ) where
+  pub ends-read : (n : ℕ) (o : Node) (b : Bool) → o ≡ nodeRow index n → b ≡ isFile file (fileOf o) → b ≡ isFile file (fileOf (viewOf g .node n))
+  ends-read n o b p q = q ∙ ap (λ (y : Node). isFile file (fileOf y)) (p ∙ loaded .node n)
+
+  module _ (o : Edge) where
+    pub of-removed : o ≡ E.Removed → false ≡ isOfFile (viewOf g) file o
+    unfolding isOfFile
+    of-removed h = sym (ap (isOfFile (viewOf g) file) h)
+
+    module _ (s t : NodeId) (p : ℤ) (h : o ≡ E.Live s t p) (n : Node) (b : Bool) (reads : n ≡ nodeRow index (s .0)) (is : b ≡ isFile file (fileOf n)) where
+      pub of-source : b ≡ true → true ≡ isOfFile (viewOf g) file o
+      unfolding isOfFile
+      of-source q = sym (ap (isOfFile (viewOf g) file) h ∙ ap (λ (y : Bool). or y (isFile file (fileOf (viewOf g .node (t .0))))) (sym (ends-read (s .0) n b reads is) ∙ q))
+
+      pub of-target : b ≡ false → (m : Node) (d : Bool) → m ≡ nodeRow index (t .0) → d ≡ isFile file (fileOf m) → d ≡ isOfFile (viewOf g) file o
+      unfolding isOfFile
+      of-target q m d r e = ends-read (t .0) m d r e ∙ sym (ap (isOfFile (viewOf g) file) h ∙ ap (λ (y : Bool). or y (isFile file (fileOf (viewOf g .node (t .0))))) (sym (ends-read (s .0) n b reads is) ∙ q))

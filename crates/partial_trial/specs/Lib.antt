@@ -1,0 +1,2 @@
+pub mod Expansions
+pub mod Seeds

@@ -1,0 +1,53 @@
+-- The starts of a file's partial paths, pushed one after another.
+-- Document 01, "Partial paths": "Starts: root, then the file's references and exported scopes by number".
+use Prim.Native.Nat.{ℕ}
+use mathlib.Core.Path.{_≡_}
+use mathlib.Core.List.{List, map}
+use lib.ListN.{length}
+use Rattle.semantics.specs.Lists.{pick, and}
+use Rattle.semantics.specs.Answer.{ok}
+use Rattle.semantics.specs.Graph.{Graph, View, viewOf, fileOf, isFile, isStart}
+use Rattle.semantics.specs.Enumeration.{State, pushItem}
+use Rattle.semantics.specs.Enumeration as Enumeration
+use Rattle.semantics.specs.PartialPaths.{Route, routeAt, startsFrom, startRoutes}
+use Rattle.storage.specs.Rows.{Loaded}
+use Rattle.words.specs.Slots.{IsSlot}
+use Rattle.partial_state.specs.declared.filing.Filing.{Filing}
+use Rattle.partial_state.specs.Reps.{frameOf, settingOf, Rep, Tells}
+use Rattle.partial_state.specs.Extractions.{Computation, Course}
+pub mod Laws
+
+-- the index holds a graph of so many nodes
+pub record Holds (index : List ℕ) (nodes : ℕ) : Type 0 where
+  pub graph : Graph
+  pub loaded : Loaded graph index
+  pub counted : nodes ≡ length (graph .nodes)
+
+-- the computation before its first expansion; the database stays out of it
+pub record Seeding (item : List ℕ) (x : Computation) (ws : List ℕ) : Type 0 where
+  pub view : View
+  pub filing : Filing
+  pub origin : List ℕ
+  pub database : List ℕ
+  pub slot : IsSlot 128 item
+  pub model : State Route
+  pub rep : Rep view filing origin x ws database model
+
+module _ (item : List ℕ) (x : Computation) (ws : List ℕ) (v : Seeding item x ws) where
+  -- the route without edges from node n
+  abbrev pub Started : ℕ → Course → List ℕ → Type 0
+  Started n a ws′ = Tells (v .view) (v .filing) (v .origin) (frameOf x) a ws′ (v .database) (pushItem (settingOf (frameOf x)) (routeAt n) (v .model))
+
+  -- node n if it is a start of the file
+  abbrev pub NodeSeeded : Graph → ℕ → ℕ → Course → List ℕ → Type 0
+  NodeSeeded g file n a ws′ =
+      Tells (v .view) (v .filing) (v .origin) (frameOf x) a ws′ (v .database)
+      (pick (and (isFile file (fileOf (viewOf g .node n))) (isStart (viewOf g .node n))) (pushItem (settingOf (frameOf x)) (routeAt n) (v .model)) (ok (v .model)))
+
+  -- the file's own starts
+  abbrev pub FileSeeded : Graph → ℕ → Course → List ℕ → Type 0
+  FileSeeded g file a ws′ = Tells (v .view) (v .filing) (v .origin) (frameOf x) a ws′ (v .database) (Enumeration.seed (settingOf (frameOf x)) (v .model) (map routeAt (startsFrom file 0 (g .nodes))))
+
+  -- all of them
+  abbrev pub Seeded : Graph → ℕ → Course → List ℕ → Type 0
+  Seeded g file a ws′ = Tells (v .view) (v .filing) (v .origin) (frameOf x) a ws′ (v .database) (Enumeration.seed (settingOf (frameOf x)) (v .model) (startRoutes g file))

@@ -1,0 +1,188 @@
+// The expansion of a route by the edges of a file. Document 01, "Partial paths": "Each edge passes cycle, length and the 127 bound, is
+// recorded if it reaches an endpoint, and is then pushed". Stacks are not examined.
+ghost use mathlib.Core.Path.{_≡_};
+ghost use Prim.Native.Nat.{_<_};
+ghost use lib.ListN.{length};
+ghost use Rattle.semantics.specs.Graph.{Graph, viewOf};
+ghost use Rattle.semantics.specs.PartialPaths.{isOfFile};
+ghost use Rattle.storage.specs.Rows.{Loaded};
+ghost use Rattle.partial_state.specs.Extractions.{at, goingAt};
+ghost use Rattle.partial_trial.specs.Expansions.{Given, Looking, Trying, Tried, Looked, Lengthened, Expanding, Expanded};
+use partial_state::extraction::Extraction;
+use partial_state::extraction::Frame;
+use partial_state::extraction::Going;
+use partial_state::filing::Filing;
+use partial_state::node::is_endpoint;
+use partial_state::node::is_of_file;
+use partial_state::route::Ends;
+use partial_state::route::target_of;
+use search_state::item;
+use semantics::bounds::MAX_EDGES;
+use semantics::graph::Edge;
+use semantics::graph::EdgeId;
+use semantics::graph::NodeId;
+use semantics::refusal::PartialPathRefusal;
+use storage::store;
+
+// An edge belongs to a file if either end does.
+fn belongs(index: &[u32], file: u32, edge: Edge) -> bool
+    requires { ⌜ length (now index) ≡ 28672 ⌝ }
+    ensures { λ r. ⌜ ((g : Graph) → Loaded g (now (index .entry)) → r ≡ isOfFile (viewOf g) file edge) ⌝ }
+{
+    match edge {
+        Edge::Removed => false,
+        Edge::Live {
+            source,
+            target,
+            precedence: _,
+        } => {
+            if is_of_file(store::node(index, source), file) {
+                return true;
+            }
+            is_of_file(store::node(index, target), file)
+        }
+    }
+}
+
+// The route of k edges in the item gets one more: found at an endpoint, then pushed.
+fn lengthen(
+    index: &[u32],
+    filing: Filing,
+    start: u32,
+    k: usize,
+    edge: u32,
+    item: &mut [u32],
+    extraction: Extraction,
+    work: &mut [u32],
+    words: &mut [u32],
+    frame: Frame,
+) -> Going
+    requires { ⌜ Trying 1099511627776 (now index) filing start k edge (now item) (at frame extraction) (now work) (now words) × (k < 127) ⌝ }
+    ensures { λ r. ⌜ ((v : Trying 1099511627776 (now (index .entry)) filing start k edge (now (item .entry)) (at frame extraction) (now (work .entry)) (now (words .entry))) → Lengthened 1099511627776 (now (index .entry)) filing start k edge (now (item .entry)) (at frame extraction) (now (work .entry)) (now (words .entry)) v (goingAt frame r) (now (item .exit)) (now (work .exit)) (now (words .exit))) ⌝ }
+{
+    item::with_edge(item, k, edge);
+    let end = target_of(store::edge(index, EdgeId(edge)));
+    let endpoint = is_endpoint(store::node(index, NodeId(end)));
+    extraction.extend(
+        endpoint,
+        Ends { start, end },
+        filing,
+        item,
+        work,
+        words,
+        frame,
+    )
+}
+
+// One edge of the file is tried: counted where it is cut or too long, else it lengthens the route.
+fn try_edge(
+    index: &[u32],
+    filing: Filing,
+    start: u32,
+    k: usize,
+    edge: u32,
+    item: &mut [u32],
+    extraction: Extraction,
+    work: &mut [u32],
+    words: &mut [u32],
+    frame: Frame,
+) -> Going
+    requires { ⌜ Trying 1099511627776 (now index) filing start k edge (now item) (at frame extraction) (now work) (now words) ⌝ }
+    ensures { λ r. ⌜ ((v : Trying 1099511627776 (now (index .entry)) filing start k edge (now (item .entry)) (at frame extraction) (now (work .entry)) (now (words .entry))) → Tried 1099511627776 (now (index .entry)) filing start k edge (now (item .entry)) (at frame extraction) (now (work .entry)) (now (words .entry)) v (goingAt frame r) (now (item .exit)) (now (work .exit)) (now (words .exit))) ⌝ }
+{
+    if item::contains(&item[1..k + 1], edge) {
+        return Going::On(extraction.cut());
+    }
+    let asked = extraction.budget(frame).admitted_length(k as u64 + 1);
+    if asked.allowed {
+        if k < MAX_EDGES {
+            return lengthen(
+                index,
+                filing,
+                start,
+                k,
+                edge,
+                item,
+                extraction,
+                work,
+                words,
+                frame,
+            );
+        }
+        return Going::Refused(PartialPathRefusal::TooLong);
+    }
+    Going::On(extraction.with_budget(asked.budget))
+}
+
+// An edge that leaves the route's end is tried if it belongs to the file; an edge of another file is not looked at.
+fn look_at(
+    index: &[u32],
+    filing: Filing,
+    start: u32,
+    k: usize,
+    edge: u32,
+    item: &mut [u32],
+    extraction: Extraction,
+    work: &mut [u32],
+    words: &mut [u32],
+    frame: Frame,
+) -> Going
+    requires { ⌜ Looking 1099511627776 (now index) filing start k edge (now item) (at frame extraction) (now work) (now words) ⌝ }
+    ensures { λ r. ⌜ ((v : Looking 1099511627776 (now (index .entry)) filing start k edge (now (item .entry)) (at frame extraction) (now (work .entry)) (now (words .entry))) → Looked 1099511627776 (now (index .entry)) filing start k edge (now (item .entry)) (at frame extraction) (now (work .entry)) (now (words .entry)) v (goingAt frame r) (now (item .exit)) (now (work .exit)) (now (words .exit))) ⌝ }
+{
+    if belongs(index, filing.file, store::edge(index, EdgeId(edge))) {
+        return try_edge(
+            index,
+            filing,
+            start,
+            k,
+            edge,
+            item,
+            extraction,
+            work,
+            words,
+            frame,
+        );
+    }
+    Going::On(extraction)
+}
+
+// Each outgoing edge of the route's end, by ascending number.
+pub fn expand(
+    index: &[u32],
+    filing: Filing,
+    ends: Ends,
+    k: usize,
+    item: &mut [u32],
+    extraction: Extraction,
+    work: &mut [u32],
+    words: &mut [u32],
+    frame: Frame,
+) -> Going
+    requires { ⌜ Expanding 549755813888 (now index) filing ends k (now item) (at frame extraction) (now work) (now words) ⌝ }
+    ensures { λ r. ⌜ ((v : Expanding 549755813888 (now (index .entry)) filing ends k (now (item .entry)) (at frame extraction) (now (work .entry)) (now (words .entry))) → Expanded 549755813888 (now (index .entry)) filing ends k (now (item .entry)) (at frame extraction) (now (work .entry)) (now (words .entry)) v (goingAt frame r) (now (work .exit)) (now (words .exit))) ⌝ }
+{
+    let mut on = extraction;
+    let mut link = store::first(index, NodeId(ends.end));
+    while 0 < link {
+        let edge = link - 1;
+        let going = look_at(
+            index,
+            filing,
+            ends.start,
+            k,
+            edge,
+            item,
+            on,
+            work,
+            words,
+            frame,
+        );
+        let Going::On(next) = going else {
+            return going;
+        };
+        on = next;
+        link = store::next(index, EdgeId(edge));
+    }
+    Going::On(on)
+}

@@ -1,0 +1,25 @@
+-- `path_cases::library_answer`: both areas have as many words as are lent.
+use borrow.Author.Needs.{needs}
+use Prim.Native.Nat.{ℕ}
+use mathlib.Core.Path.{sym}
+use lib.ListN.{length-replicate}
+use Rattle.path_cases.proofs.library_answer.Statement.{statement}
+use Rattle.path_cases.proofs.library_answer.Tie as tie
+
+slice-aggregate-answer-lent : tie.Need-slice-aggregate-answer-lent
+slice-aggregate-answer-lent c = sym (length-replicate {A = ℕ} 100000 0)
+
+slice-aggregate-answer-lent-2 : tie.Need-slice-aggregate-answer-lent-2
+slice-aggregate-answer-lent-2 c = sym (length-replicate {A = ℕ} 100000 0)
+
+answer-lent-requires : tie.Need-answer-lent-requires
+answer-lent-requires c κs = search needs
+
+same-length : tie.Need-same-length
+same-length c = search needs
+
+returns : tie.Need-returns
+returns c = search needs
+
+pub library-answer-spec : {M : Type 1} → statement M
+library-answer-spec = tie.close (tie.spec slice-aggregate-answer-lent slice-aggregate-answer-lent-2 answer-lent-requires same-length returns)

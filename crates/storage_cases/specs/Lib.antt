@@ -1,2 +1,0 @@
--- The bounds that the contracts of this program name.
-pub mod List
