@@ -1,5 +1,5 @@
 //! The proved library's side. The areas have the fewest slots in which no call
-//! is refused 31 or 32; the database has all the slots that one may have.
+//! is refused 31 or 32, and the database those that are used.
 
 use crate::settings::Settings;
 use crate::{Job, Told};
@@ -70,6 +70,10 @@ impl<'a> Ours<'a> {
         };
         let slots = ours.fewest_slots(Job::Replace);
         ours.run(Job::Replace, slots);
+        // Words behind the used ones would be cleared before every run of the
+        // replacement, and what the caches hold of a small job with them.
+        let used = ours.words[0] as usize;
+        ours.words.truncate(DATABASE_HEAD + used * RECORD_WORDS);
         ours
     }
 

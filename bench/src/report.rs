@@ -6,21 +6,39 @@ use crate::theirs::{self, Theirs};
 use crate::{JOBS, Job, Told};
 use std::time::{Duration, Instant};
 
-const RUNS: usize = 7;
-/// A job is not repeated for longer than this.
-const LONGEST: Duration = Duration::from_secs(4);
+/// So many rounds at least, and as many as begin within the time.
+const ROUNDS: usize = 7;
+const ENOUGH: Duration = Duration::from_millis(400);
+/// No round begins after this.
+const LONGEST: Duration = Duration::from_secs(16);
+/// A job that is done sooner is repeated until so much time is measured: one
+/// run of a microsecond would tell more of the clock than of the job.
+const SHORTEST: Duration = Duration::from_millis(2);
 
-/// The least time of several runs, in milliseconds.
-fn best_of(mut run: impl FnMut() -> Duration) -> f64 {
-    let begun = Instant::now();
-    let mut best = Duration::MAX;
-    for _ in 0..RUNS {
-        best = best.min(run());
-        if begun.elapsed() > LONGEST {
-            break;
-        }
+/// The mean of as many runs as take SHORTEST, in microseconds.
+fn mean_of(run: &mut impl FnMut() -> Duration) -> f64 {
+    let mut sum = Duration::ZERO;
+    let mut runs = 0;
+    while sum < SHORTEST {
+        sum += run();
+        runs += 1;
     }
-    best.as_secs_f64() * 1e3
+    sum.as_secs_f64() * 1e6 / f64::from(runs)
+}
+
+/// The least of several such means for each of the runs. They take turns, so
+/// that what else the machine does falls on all of them alike.
+fn best_of<const N: usize>(mut runs: [&mut dyn FnMut() -> Duration; N]) -> [f64; N] {
+    let begun = Instant::now();
+    let mut best = [f64::INFINITY; N];
+    let mut rounds = 0;
+    while (rounds < ROUNDS || begun.elapsed() < ENOUGH) && begun.elapsed() < LONGEST {
+        for (best, run) in best.iter_mut().zip(&mut runs) {
+            *best = best.min(mean_of(run));
+        }
+        rounds += 1;
+    }
+    best
 }
 
 fn timed(run: impl FnOnce()) -> Duration {
@@ -39,8 +57,17 @@ pub fn compare(name: &str, bytes: &[u8], settings: &Settings) -> bool {
         bytes.len()
     );
     println!(
-        "  {:<9} {:>6} {:>6} {:>10} {:>10} {:>10} {:>10} {:>7} {:>7}  answers",
-        "job", "calls", "slots", "ours", "less check", "Rust", "with load", "ratio", "ratio 2"
+        "  {:<9} {:>6} {:>6} {:>8} {:>11} {:>11} {:>11} {:>11} {:>7} {:>7}  answers",
+        "job",
+        "calls",
+        "slots",
+        "expanded",
+        "ours",
+        "less check",
+        "Rust",
+        "with load",
+        "ratio",
+        "ratio 2"
     );
     let mut ours = Ours::new(bytes, settings);
     let mut theirs = Theirs::new(bytes, settings);
@@ -60,20 +87,33 @@ fn compare_job(
     let slots = ours.fewest_slots(job);
     let (_, our_answers) = ours.run(job, slots);
     let (_, their_answers) = theirs.run(job);
-    let our_time = best_of(|| ours.run(job, slots).0);
-    let their_time = best_of(|| theirs.run(job).0);
-    let checks = best_of(|| timed(|| ours::check(bytes, calls)));
-    let loads = best_of(|| timed(|| theirs::load_often(bytes, calls)));
+    let [our_time, their_time, checks, loads] = best_of([
+        &mut || ours.run(job, slots).0,
+        &mut || theirs.run(job).0,
+        &mut || timed(|| ours::check(bytes, calls)),
+        &mut || timed(|| theirs::load_often(bytes, calls)),
+    ]);
     let bare = (our_time - checks).max(0.0);
     println!(
-        "  {:<9} {calls:>6} {slots:>6} {our_time:>10.3} {bare:>10.3} {their_time:>10.3} {:>10.3} {:>7.2} {:>7}  {}",
+        "  {:<9} {calls:>6} {slots:>6} {:>8} {our_time:>11.2} {bare:>11.2} {their_time:>11.2} {:>11.2} {:>7.2} {:>7}  {}",
         format!("{job:?}").to_lowercase(),
+        expanded(job, &our_answers),
         their_time + loads,
         (their_time + loads) / our_time,
         ratio(their_time, bare),
         verdict(&our_answers, &their_answers)
     );
     our_answers == their_answers
+}
+
+/// The expansions of all calls; a refused one tells of none.
+fn expanded(job: Job, answers: &[Told]) -> u64 {
+    let at = if job == Job::Replace { 1 } else { 2 };
+    answers
+        .iter()
+        .filter(|told| told[0] == 0)
+        .map(|told| told[at])
+        .sum()
 }
 
 /// A search on a small graph may take less time than its check varies by.

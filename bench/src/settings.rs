@@ -1,6 +1,7 @@
 //! What is searched under which limits: `NAME.img.cfg` holds six words, L C K
 //! of searches, L C of partial paths, and how many references are searched, 0
-//! for all; `-` is no limit. Without it there are no limits.
+//! for all; `-` is no limit. A seventh, `d`, means depth-first. Without the
+//! file there are no limits.
 
 use crate::Job;
 use crate::load::load;
@@ -10,6 +11,7 @@ use pozhdaghi::{Limits, Order, Request};
 const NO_LIMITS: &str = "- - - - - 0";
 
 pub struct Settings {
+    pub order: Order,
     pub search: Limits,
     pub partial: Limits,
     pub references: Vec<u32>,
@@ -27,6 +29,10 @@ impl Settings {
         let is_reference = |&node: &StackNodeId| graph.node(node).kind().is_reference();
         let references = graph.node_ids().filter(is_reference).map(StackNodeId::raw);
         Settings {
+            order: match words.get(6) {
+                Some(&"d") => Order::DepthFirst,
+                _ => Order::BreadthFirst,
+            },
             search: Limits {
                 length: limit(0),
                 paths: limit(1),
@@ -54,7 +60,7 @@ impl Settings {
 
     pub fn request(&self, job: Job) -> Request {
         Request {
-            order: Order::BreadthFirst,
+            order: self.order,
             limits: match job {
                 Job::Replace => self.partial,
                 Job::Direct | Job::Linear | Job::Stitched => self.search,

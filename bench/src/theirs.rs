@@ -8,6 +8,7 @@ use cfglib::graph::stack::{
     StackFileId, StackLinearResolutionError, StackNodeId, StackPartialPathConfig,
     StackPartialPathDatabase, StackResolution, StackSearchConfig,
 };
+use pozhdaghi::Order;
 use std::time::{Duration, Instant};
 
 pub struct Theirs<'a> {
@@ -60,11 +61,18 @@ impl<'a> Theirs<'a> {
         theirs
     }
 
+    fn order(&self) -> SearchOrder {
+        match self.settings.order {
+            Order::BreadthFirst => SearchOrder::BreadthFirst,
+            Order::DepthFirst => SearchOrder::DepthFirst,
+        }
+    }
+
     fn search_config(&self) -> StackSearchConfig {
         let limits = self.settings.search;
         let limit = |limit: Option<u64>| limit.map(|value| value as usize);
         StackSearchConfig {
-            order: SearchOrder::BreadthFirst,
+            order: self.order(),
             max_path_length: limit(limits.length),
             max_path_count: limit(limits.paths),
             max_complete_path_count: limit(limits.complete),
@@ -99,7 +107,7 @@ impl<'a> Theirs<'a> {
     fn replace_all(&mut self) -> (Duration, Vec<Told>) {
         let limits = self.settings.partial;
         let config = StackPartialPathConfig {
-            order: SearchOrder::BreadthFirst,
+            order: self.order(),
             max_path_length: limits.length.map(|value| value as usize),
             max_path_count: limits.paths.map(|value| value as usize),
         };
