@@ -4,7 +4,7 @@
 //! Nothing here allocates, panics or keeps state. The caller lends the image,
 //! the areas and the database words; every call leaves them as its contract
 //! says (`crates/service/src`). A refusal has the number and the values of
-//! document 01, "Turned back". The library's own work takes about 150 KB of
+//! document 01, "Turned back". The library's own work takes about 200 KB of
 //! the caller's stack.
 
 mod answer;

@@ -6,7 +6,7 @@ ghost use lib.Dec.{ltb};
 ghost use lib.ListN.{length};
 ghost use Rattle.semantics.specs.Lists.{has};
 ghost use Rattle.semantics.specs.Limits.{within};
-ghost use Rattle.storage.specs.Rows.{nodeRow, edgeRow};
+ghost use Rattle.storage.specs.Rows.{Blocks, nodeRow, edgeRow};
 ghost use Rattle.stepping.specs.Judged.{Ready, judgedOf};
 ghost use Rattle.edge_trial.specs.Trials.{triedBy, trialBy};
 use budget::path_budget::Budget;
@@ -26,7 +26,7 @@ pub enum Trial {
 
 // The edge is appended, or rejected by the path rules.
 fn tried(index: &[u32], steps: &[u32], k: u32, edge: u32) -> Trial
-    requires { ⌜ (length (now index) ≡ 28672) × Ready (now steps) k ⌝ }
+    requires { ⌜ Blocks (now index) × Ready (now steps) k ⌝ }
     ensures { λ r. ⌜ r ≡ triedBy (nodeRow (now (index .entry))) (judgedOf (nodeRow (now (index .entry))) (now (steps .entry)) k edge (edgeRow (now (index .entry)) edge)) ⌝ }
 {
     let effect = steps::judge(index, steps, k, edge);
@@ -40,7 +40,7 @@ fn tried(index: &[u32], steps: &[u32], k: u32, edge: u32) -> Trial
 
 // `edges` are those of the path; its steps stand in `steps`.
 pub fn judge(index: &[u32], steps: &[u32], edges: &[u32], edge: u32, budget: Budget) -> Trial
-    requires { ⌜ (length (now index) ≡ 28672) × Ready (now steps) (length (now edges)) ⌝ }
+    requires { ⌜ Blocks (now index) × Ready (now steps) (length (now edges)) ⌝ }
     ensures { λ r. ⌜ r ≡ trialBy (nodeRow (now (index .entry))) (has edge (now (edges .entry))) (within (length (now (edges .entry)) + 1) (budget .maxLength)) (ltb (length (now (edges .entry))) 127) (judgedOf (nodeRow (now (index .entry))) (now (steps .entry)) (length (now (edges .entry))) edge (edgeRow (now (index .entry)) edge)) ⌝ }
 {
     if item::contains(edges, edge) {

@@ -2,7 +2,7 @@
 -- Document 01, "Budget and frontier": "Breadth-first is a queue; depth-first takes the first pushed of the newest successors".
 use mathlib.Core.Path.{_≡_}
 use mathlib.Core.Bool.{Bool, true, false}
-use mathlib.Core.List.{List, [], _∷_, _++_, reverse, List·Memᴰ}
+use mathlib.Core.List.{List, [], _∷_, _++_, map, reverse, List·Memᴰ}
 use Prim.Native.Nat.{ℕ, _+_, _-_, _≤_, _<_}
 use lib.Dec.{ltb}
 use lib.ListN.{length}
@@ -11,7 +11,7 @@ use Rattle.semantics.specs.declared.search.SearchOrder.the-variants.{BreadthFir
 use Rattle.semantics.specs.Words.{slotsOf}
 use Rattle.words.specs.Ring.{ring}
 use Rattle.words.specs.Reversal.{revRange}
-use Rattle.words.specs.Slots.{IsSlot, SlotsIn}
+use Rattle.words.specs.Slots.{IsSlot, SlotsIn, padded}
 use Rattle.graph_search.specs.declared.path_frontier.Frontier.{Frontier}
 use Rattle.graph_search.specs.declared.path_frontier.Pushed.{Pushed}
 use Rattle.graph_search.specs.declared.path_frontier.Pushed.the-variants.{Done, Full}
@@ -20,6 +20,7 @@ use Rattle.graph_search.specs.declared.path_frontier.Popped.the-variants
 pub mod Held
 pub mod Laws
 pub mod Stands
+pub mod Widening
 
 -- ---- the two orders
 
@@ -133,3 +134,20 @@ pub record Pops (f : Frontier) (ws : List ℕ) (a : Popped) (s ws′ : List ℕ)
   pub frame : PopFrame f ws a ws′
   pub same-length : length ws′ ≡ length ws
   pub waits : (rest pending : List (List ℕ)) → Waits f ws rest pending → Takes a s ws′ (merged (f .order) rest pending)
+
+-- ---- longer slots
+
+-- slots of so many words are no shorter, and as many of them lie in the area
+pub record Wider (f : Frontier) (ws : List ℕ) (L : ℕ) : Type 0 where
+  pub longer : f .length ≤ L
+  pub room : SlotsIn L (f .capacity) ws
+
+abbrev pub widened : Frontier → ℕ → Frontier
+widened f L = record { order = f .order; length = L; first = f .first; count = f .count; pending = f .pending; capacity = f .capacity }
+
+-- the same items wait in them, with zeros behind
+pub record Widens (f : Frontier) (ws : List ℕ) (L : ℕ) (r : Frontier) (ws′ : List ℕ) : Type 0 where
+  pub is : r ≡ widened f L
+  pub same-length : length ws′ ≡ length ws
+  pub framed : Framed r ws′
+  pub waits : (rest pending : List (List ℕ)) → Waits f ws rest pending → Waits r ws′ (map (padded L) rest) (map (padded L) pending)

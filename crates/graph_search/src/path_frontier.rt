@@ -4,7 +4,7 @@ ghost use mathlib.Core.Path.{_≡_};
 ghost use mathlib.Core.Logic.{_⊎_};
 ghost use Prim.Native.Nat.{_+_, _≤_, _<_};
 ghost use Rattle.words.specs.Slots.{IsSlot};
-ghost use Rattle.graph_search.specs.Frontier.{empty, Framed, Front, Back, Pushes, Pops};
+ghost use Rattle.graph_search.specs.Frontier.{empty, Framed, Front, Back, Pushes, Pops, Wider, Widens};
 use semantics::search::SearchOrder;
 use words::slots;
 
@@ -110,6 +110,17 @@ impl Frontier {
         let mut next = self;
         next.count = last;
         next.pending = 0;
+        next
+    }
+
+    // The slots get more words each, so that longer items may wait: those that wait stay, with zeros behind. The lent slot is for the move.
+    pub fn widen(self, work: &mut [u32], length: usize, slot: &mut [u32]) -> Frontier
+        requires { ⌜ Framed self (now work) × Wider self (now work) length × IsSlot length (now slot) ⌝ }
+        ensures { λ r. ⌜ Widens self (now (work .entry)) length r (now (work .exit)) ⌝ }
+    {
+        slots::widen_slots(work, self.length, length, self.capacity, slot);
+        let mut next = self;
+        next.length = length;
         next
     }
 }

@@ -1,6 +1,6 @@
 -- The records of an image one after the other: what is at each place, and what it means that a record was put into an index.
 -- Document 01, "Graph image".
-use Prim.Native.Nat.{ℕ, _+_, _-_, _<_, _≤_}
+use Prim.Native.Nat.{ℕ, _+_, _*_, _-_, _<_, _≤_}
 use mathlib.Core.Path.{_≡_}
 use mathlib.Core.List.{List}
 use lib.Dec.{eqb}
@@ -14,7 +14,7 @@ use Rattle.semantics.specs.Bytes.{byteAt, short, long}
 use Rattle.semantics.specs.Image.{bodySize, symbolBytes, filesOf, nodesOf, edgesOf, nodeRecord, edgeRecord, scan, nodeIn, edgeIn, placeOf, firstRecord}
 use Rattle.semantics.specs.Answer.{Answer, andThen}
 use Rattle.semantics.specs.declared.refusal.ImageRefusal.{ImageRefusal}
-use Rattle.image.specs.Rows.{NODES, EDGES}
+use Rattle.image.specs.Rows.{NODES, EDGES, BLOCK}
 use Rattle.image.specs.Filling.{upto, Filled}
 pub mod Laws
 
@@ -30,6 +30,11 @@ pub record Headed (im : List ℕ) : Type 0 where
   pub some : 2 ≤ nodesOf im
   pub nodes : nodesOf im ≤ NODES
   pub edges : edgesOf im ≤ EDGES
+
+-- a block for each node and for each edge
+pub record Room (im index : List ℕ) : Type 0 where
+  pub nodes : BLOCK * nodesOf im ≤ length index
+  pub edges : BLOCK * edgesOf im ≤ length index
 
 -- a whole record of a kind that has fields
 pub record Fielded (im : List ℕ) (at kind : ℕ) : Type 0 where

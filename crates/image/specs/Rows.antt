@@ -1,9 +1,9 @@
--- The rows of an index: their places, the record that the words of a number are, and writing one.
+-- The blocks of an index: the places of the words, the record that the words of a number are, and writing one.
 -- Document 01, "Graph image": the fields of each record.
-use Prim.Native.Nat.{ℕ, _+_, _-_, _<_}
+use Prim.Native.Nat.{ℕ, _+_, _*_, _-_, _%_}
 use mathlib.Core.Path.{_≡_}
 use mathlib.Core.List.{List}
-use lib.Dec.{eqb, ltb}
+use lib.Dec.{eqb}
 use lib.ListN.{length, getD, set}
 use Rattle.semantics.specs.declared.graph.Node.{Node}
 use Rattle.semantics.specs.declared.graph.Node.the-variants as N
@@ -14,52 +14,63 @@ use Rattle.semantics.specs.Bytes.{signed}
 use Rattle.semantics.specs.Graph.{nodeId, fileId}
 pub mod Laws
 
--- THE LAYOUT. The rows that say what is there stand first, so that one stretch is cleared
+-- THE LAYOUT. The words of node n and of edge n stand side by side in block n: those of the node first, the link to its first edge last of them
 abbrev pub NODES : ℕ
 NODES = 2048
 
 abbrev pub EDGES : ℕ
 EDGES = 4096
 
+abbrev pub BLOCK : ℕ
+BLOCK = 10
+
 abbrev pub KIND : ℕ
 KIND = 0
 
-abbrev pub FIRST : ℕ
-FIRST = 2048
-
-abbrev pub SOURCE : ℕ
-SOURCE = 4096
-
-abbrev pub CLEARED : ℕ
-CLEARED = 8192
-
 abbrev pub FLAG : ℕ
-FLAG = 8192
+FLAG = 1
 
 abbrev pub FILE : ℕ
-FILE = 10240
+FILE = 2
 
 abbrev pub SYMBOL : ℕ
-SYMBOL = 12288
+SYMBOL = 3
 
 abbrev pub SCOPE : ℕ
-SCOPE = 14336
+SCOPE = 4
+
+abbrev pub FIRST : ℕ
+FIRST = 5
+
+abbrev pub SOURCE : ℕ
+SOURCE = 6
 
 abbrev pub TARGET : ℕ
-TARGET = 16384
+TARGET = 7
 
 abbrev pub NEXT : ℕ
-NEXT = 20480
+NEXT = 8
 
 abbrev pub PRECEDENCE : ℕ
-PRECEDENCE = 24576
+PRECEDENCE = 9
 
+-- THE SIZES: an index for every image, and one for an image with at most FEW nodes and at most FEW edges
 abbrev pub INDEX : ℕ
-INDEX = 28672
+INDEX = BLOCK * EDGES
 
--- word n of the row that stands from base on and has `width` words; 0 behind it
-unfoldable pub cell : List ℕ → ℕ → ℕ → ℕ → ℕ
-cell index base width n = pick (ltb n width) (getD index (base + n) 0) 0
+abbrev pub FEW : ℕ
+FEW = 128
+
+abbrev pub SMALL : ℕ
+SMALL = BLOCK * FEW
+
+-- an index is a list of whole blocks, so that the first word of a block stands for all of them
+abbrev pub Blocks : List ℕ → Type 0
+Blocks index = length index % BLOCK ≡ 0
+
+-- a word of block n; 0 behind the last block
+unfoldable pub cell : List ℕ → ℕ → ℕ → ℕ
+cell index row n = getD index (BLOCK * n + row) 0
 
 -- A RECORD FROM ITS WORDS
 unfoldable pub nodeOf : ℕ → ℕ → ℕ → ℕ → ℕ → Node
@@ -80,25 +91,29 @@ edgeOf source target precedence = pick (eqb source 0) E.Removed (E.Live (nodeId 
 -- WHAT AN INDEX HOLDS, whatever its words are
 unfoldable pub nodeRow : List ℕ → ℕ → Node
 unfolding cell nodeOf
-nodeRow index n = nodeOf (cell index KIND NODES n) (cell index FLAG NODES n) (cell index FILE NODES n) (cell index SYMBOL NODES n) (cell index SCOPE NODES n)
+nodeRow index n = nodeOf (cell index KIND n) (cell index FLAG n) (cell index FILE n) (cell index SYMBOL n) (cell index SCOPE n)
 
 unfoldable pub edgeRow : List ℕ → ℕ → Edge
 unfolding cell edgeOf
-edgeRow index e = edgeOf (cell index SOURCE EDGES e) (cell index TARGET EDGES e) (cell index PRECEDENCE EDGES e)
+edgeRow index e = edgeOf (cell index SOURCE e) (cell index TARGET e) (cell index PRECEDENCE e)
 
 -- a link is an edge's number plus 1; 0 is none
 abbrev pub firstRow : List ℕ → ℕ → ℕ
-firstRow index n = cell index FIRST NODES n
+firstRow index n = cell index FIRST n
 
 -- an index that holds nothing yet: no node, no edge, no link
 pub record Fresh (index : List ℕ) : Type 0 where
-  pub long : length index ≡ INDEX
-  pub clear : (j : ℕ) → j < CLEARED → getD index (KIND + j) 0 ≡ 0
+  pub long : Blocks index
+  pub clear : (i : ℕ) → getD index i 0 ≡ 0
 
 -- WRITING A RECORD
+unfoldable pub put : ℕ → ℕ → ℕ → List ℕ → List ℕ
+put row n v index = set index (BLOCK * n + row) v
+
 unfoldable pub putNode : ℕ → ℕ → ℕ → ℕ → ℕ → ℕ → List ℕ → List ℕ
-putNode n kind flag file symbol scope index =
-    set (set (set (set (set index (KIND + n) kind) (FLAG + n) flag) (FILE + n) file) (SYMBOL + n) symbol) (SCOPE + n) scope
+unfolding put
+putNode n kind flag file symbol scope index = put SCOPE n scope (put SYMBOL n symbol (put FILE n file (put FLAG n flag (put KIND n kind index))))
 
 unfoldable pub putEdge : ℕ → ℕ → ℕ → ℕ → List ℕ → List ℕ
-putEdge e source target precedence index = set (set (set index (SOURCE + e) source) (TARGET + e) target) (PRECEDENCE + e) precedence
+unfolding put
+putEdge e source target precedence index = put PRECEDENCE e precedence (put TARGET e target (put SOURCE e source index))

@@ -1,7 +1,7 @@
 // The test of one record at its place.
 // Document 01, "Graph image" and "Turned back": cut, kind and where it may stand, count, fields.
 ghost use mathlib.Core.Path.{_≡_};
-ghost use Prim.Native.Nat.{ℕ, _+_, _<_, _≤_};
+ghost use Prim.Native.Nat.{ℕ, _+_, _*_, _<_, _≤_};
 ghost use lib.ListN.{length};
 ghost use Rattle.semantics.specs.declared.refusal.ImageRefusal.the-variants.{Record};
 ghost use Rattle.semantics.specs.Lists.{pick};
@@ -11,7 +11,7 @@ ghost use Rattle.semantics.specs.Image.{isCut, mayStand, bodySize, symbolBytes,
 ghost use Rattle.image.specs.Steps.{answerOf};
 ghost use Rattle.image.specs.Records.{mostBytes, Fielded, nodeHere, edgeHere, NodePut, EdgePut, symbolIn, scopeIn};
 ghost use Rattle.image.specs.declared.step.Step.the-variants.{Next};
-ghost use Rattle.image.specs.Rows.{NODES, EDGES, INDEX};
+ghost use Rattle.image.specs.Rows.{BLOCK, Blocks};
 use crate::rows;
 use crate::step::Step;
 use semantics::refusal::ImageRefusal;
@@ -115,8 +115,8 @@ fn scope(image: &[u8], at: usize, kind: u32) -> u32
 // A file below F and, but in drop-scopes, a flag of 0 or 1; then the node's words.
 fn fields(image: &[u8], files: u32, n: u32, at: usize, kind: u32, index: &mut [u32]) -> Step
     requires { ⌜ Fielded (now image) at kind ⌝ }
-    requires { ⌜ length (now index) ≡ INDEX ⌝ }
-    requires { ⌜ n < NODES ⌝ }
+    requires { ⌜ Blocks (now index) ⌝ }
+    requires { ⌜ BLOCK * n < length (now index) ⌝ }
     ensures { λ r. ⌜ answerOf r ≡ pick (fieldsFit (now (image .entry)) files kind at (byteAt (now (image .entry)) at)) (ok (nextPlace (now (image .entry)) at)) (refuse (Record at)) ⌝ }
     ensures { λ r. ⌜ ((x : ℕ) → r ≡ Next x → NodePut n (nodeHere (now (image .entry)) at) (now (index .entry)) (now (index .exit))) ⌝ }
 {
@@ -148,8 +148,8 @@ fn fields(image: &[u8], files: u32, n: u32, at: usize, kind: u32, index: &mut [u
 // Cut, kind and where it may stand, count, fields; the node's words are put into the index on the way.
 pub fn node(image: &[u8], files: u32, n: u32, at: usize, index: &mut [u32]) -> Step
     requires { ⌜ length (now image) ≤ mostBytes ⌝ }
-    requires { ⌜ length (now index) ≡ INDEX ⌝ }
-    requires { ⌜ n < NODES ⌝ }
+    requires { ⌜ Blocks (now index) ⌝ }
+    requires { ⌜ BLOCK * n < length (now index) ⌝ }
     ensures { λ r. ⌜ answerOf r ≡ nodeRecord symbolBytes (now (image .entry)) files n at ⌝ }
     ensures { λ r. ⌜ ((x : ℕ) → r ≡ Next x → NodePut n (nodeHere (now (image .entry)) at) (now (index .entry)) (now (index .exit))) ⌝ }
 {
@@ -177,8 +177,8 @@ pub fn node(image: &[u8], files: u32, n: u32, at: usize, index: &mut [u32]) -> S
 // Cut, kind, count: an edge has 1 or 9 bytes behind its count byte.
 pub fn edge(image: &[u8], e: u32, at: usize, index: &mut [u32]) -> Step
     requires { ⌜ length (now image) ≤ mostBytes ⌝ }
-    requires { ⌜ length (now index) ≡ INDEX ⌝ }
-    requires { ⌜ e < EDGES ⌝ }
+    requires { ⌜ Blocks (now index) ⌝ }
+    requires { ⌜ BLOCK * e < length (now index) ⌝ }
     ensures { λ r. ⌜ answerOf r ≡ edgeRecord (now (image .entry)) at ⌝ }
     ensures { λ r. ⌜ ((x : ℕ) → r ≡ Next x → EdgePut e (edgeHere (now (image .entry)) at) (now (index .entry)) (now (index .exit))) ⌝ }
 {

@@ -5,10 +5,10 @@ ghost use Prim.Native.Nat.{ℕ, _+_, _*_, _<_, _≤_};
 ghost use lib.ListN.{length};
 ghost use Rattle.semantics.specs.Image.{symbolBytes, firstRecord, nodeRecord, edgeRecord, scan, placeOf, graphOf};
 ghost use Rattle.image.specs.Filling.{Held};
-ghost use Rattle.image.specs.Records.{mostBytes, Headed, NodesPut, EdgesPut, recordsOf};
+ghost use Rattle.image.specs.Records.{mostBytes, Headed, Room, NodesPut, EdgesPut, recordsOf};
 ghost use Rattle.image.specs.Steps.{answerOf};
 ghost use Rattle.image.specs.declared.step.Step.the-variants.{Next};
-ghost use Rattle.image.specs.Rows.{NODES, EDGES, INDEX, Fresh};
+ghost use Rattle.image.specs.Rows.{BLOCK, Blocks, Fresh};
 use crate::header;
 use crate::header::FIRST_RECORD;
 use crate::record;
@@ -17,8 +17,8 @@ use words::bytes;
 
 pub fn nodes(image: &[u8], files: u32, count: u32, index: &mut [u32]) -> Step
     requires { ⌜ length (now image) ≤ mostBytes ⌝ }
-    requires { ⌜ length (now index) ≡ INDEX ⌝ }
-    requires { ⌜ count ≤ NODES ⌝ }
+    requires { ⌜ Blocks (now index) ⌝ }
+    requires { ⌜ BLOCK * count ≤ length (now index) ⌝ }
     ensures { λ r. ⌜ answerOf r ≡ scan (nodeRecord symbolBytes (now (image .entry)) files) 0 firstRecord count ⌝ }
     ensures { λ r. ⌜ ((x : ℕ) → r ≡ Next x → (x ≡ placeOf (now (image .entry)) firstRecord count) × NodesPut (now (image .entry)) count (now (index .entry)) (now (index .exit))) ⌝ }
 {
@@ -37,8 +37,8 @@ pub fn nodes(image: &[u8], files: u32, count: u32, index: &mut [u32]) -> Step
 
 pub fn edges(image: &[u8], from: usize, count: u32, index: &mut [u32]) -> Step
     requires { ⌜ length (now image) ≤ mostBytes ⌝ }
-    requires { ⌜ length (now index) ≡ INDEX ⌝ }
-    requires { ⌜ count ≤ EDGES ⌝ }
+    requires { ⌜ Blocks (now index) ⌝ }
+    requires { ⌜ BLOCK * count ≤ length (now index) ⌝ }
     ensures { λ r. ⌜ answerOf r ≡ scan (λ e. edgeRecord (now (image .entry))) 0 from count ⌝ }
     ensures { λ r. ⌜ ((x : ℕ) → r ≡ Next x → EdgesPut (now (image .entry)) from count (now (index .entry)) (now (index .exit))) ⌝ }
 {
@@ -59,6 +59,7 @@ pub fn edges(image: &[u8], from: usize, count: u32, index: &mut [u32]) -> Step
 pub fn records(image: &[u8], index: &mut [u32]) -> Step
     requires { ⌜ Headed (now image) ⌝ }
     requires { ⌜ Fresh (now index) ⌝ }
+    requires { ⌜ Room (now image) (now index) ⌝ }
     ensures { λ r. ⌜ answerOf r ≡ recordsOf (now (image .entry)) ⌝ }
     ensures { λ r. ⌜ ((x : ℕ) → r ≡ Next x → Held (graphOf symbolBytes (now (image .entry))) (now (index .exit))) ⌝ }
 {

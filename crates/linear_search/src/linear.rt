@@ -7,7 +7,7 @@ ghost use Rattle.semantics.specs.Image.{symbolBytes, checkImage};
 ghost use Rattle.semantics.specs.Recorded.{recorded, returned};
 ghost use Rattle.semantics.specs.Told.{toldLinearResolution};
 ghost use Rattle.semantics.specs.Calls.{linearCall};
-ghost use Rattle.storage.specs.Rows.{Loaded};
+ghost use Rattle.storage.specs.Rows.{Loaded, Takes};
 ghost use Rattle.path.specs.Shadows.Laws.{JumpAt};
 ghost use Rattle.recorded.specs.Beatable.{HoldsGraph};
 ghost use Rattle.recorded.specs.Replies.{replyOf};
@@ -207,7 +207,32 @@ pub fn search_loaded(
     }
 }
 
-// The image is checked, then searched; a refused image leaves the result area zero.
+// The image is checked into the lent index, then searched; a refused image leaves the result area zero.
+fn search_in(
+    image: &[u8],
+    index: &mut [u32],
+    reference: u32,
+    limits: SearchLimits,
+    reply: Reply,
+    result: &mut [u32],
+) -> LinearResolution
+    requires { ⌜ Takes (now image) (now index) ⌝ }
+    ensures { λ r. ⌜ DoesLinear (linearCall base (replyOf reply) (checkImage symbolBytes (now (image .entry))) (linearRequestOf limits (now (result .entry)) reference)) r (now (result .exit)) ⌝ }
+{
+    match check::load_fresh(image, index) {
+        Checked::Refused(r) => {
+            slots::zero(result);
+            LinearResolution::Image(r)
+        }
+        Checked::Accepted {
+            files: _,
+            nodes: _,
+            edges: _,
+        } => search_loaded(index, reference, limits, reply, result),
+    }
+}
+
+// A small image gets a small index: zeroing a large one would take longer than the search.
 fn search_image(
     image: &[u8],
     reference: u32,
@@ -217,18 +242,12 @@ fn search_image(
 ) -> LinearResolution
     ensures { λ r. ⌜ DoesLinear (linearCall base (replyOf reply) (checkImage symbolBytes (now (image .entry))) (linearRequestOf limits (now (result .entry)) reference)) r (now (result .exit)) ⌝ }
 {
-    let mut index = [0u32; rows::INDEX];
-    match check::load_fresh(image, &mut index) {
-        Checked::Refused(r) => {
-            slots::zero(result);
-            LinearResolution::Image(r)
-        }
-        Checked::Accepted {
-            files: _,
-            nodes: _,
-            edges: _,
-        } => search_loaded(&index, reference, limits, reply, result),
+    if check::is_small(image) {
+        let mut index = [0u32; rows::SMALL];
+        return search_in(image, &mut index, reference, limits, reply, result);
     }
+    let mut index = [0u32; rows::INDEX];
+    search_in(image, &mut index, reference, limits, reply, result)
 }
 
 // Linear search from a reference, on any bytes and numbers: the returned paths.

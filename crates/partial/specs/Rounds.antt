@@ -1,11 +1,13 @@
 -- The rounds of a computation, in code against the enumeration.
 -- Document 01, "Partial paths": `StackPartialPathSet::compute`.
-use Prim.Native.Nat.{ℕ, _-_, _*_, _≤_}
+use Prim.Native.Nat.{ℕ, _-_, _*_, _<_, _≤_}
 use mathlib.Core.Path.{_≡_}
-use mathlib.Core.List.{List}
-use lib.ListN.{length}
+use mathlib.Core.Logic.{_⊎_}
+use mathlib.Core.List.{List, _++_}
+use lib.ListN.{length, take, getD}
 use Rattle.semantics.specs.declared.refusal.PartialPathRefusal.{PartialPathRefusal}
 use Rattle.semantics.specs.Answer.{Answer, ok, refuse}
+use Rattle.semantics.specs.Words.{zeros}
 use Rattle.semantics.specs.Graph.{Graph, viewOf}
 use Rattle.semantics.specs.Enumeration.{State, each, run, merge}
 use Rattle.semantics.specs.PartialPaths.{Route, partialStats}
@@ -13,14 +15,21 @@ use Rattle.storage.specs.Rows.{Loaded}
 use Rattle.words.specs.Slots.{IsSlot}
 use Rattle.partial_state.specs.declared.filing.Filing.{Filing}
 use Rattle.partial_state.specs.declared.extraction.Frame.{Frame}
-use Rattle.partial_state.specs.Routes.{held, Traced}
+use Rattle.partial_state.specs.Routes.{held, Waiting}
 use Rattle.partial_state.specs.Filings.{Fits, filedIn}
 use Rattle.partial_state.specs.Reps.{frameOf, settingOf, Rep, Untouched, Tells}
 use Rattle.partial.specs.declared.compute.Computed.{Computed}
-use Rattle.partial.specs.declared.compute.Computed.the-variants.{Done, Refused}
-use Rattle.partial_state.specs.Extractions.{Computation, Course}
-use Rattle.partial_trial.specs.Expansions.{triesOf}
+use Rattle.partial.specs.declared.compute.Computed.the-variants.{Done, Filed, Refused}
+use Rattle.partial_state.specs.Extractions.{Computation, Course, Grows}
+use Rattle.partial_trial.specs.Expansions.{Roomy, triesOf}
 pub mod Laws
+pub mod Kept
+
+-- ROOM FOR ONE MORE EDGE behind the route in the front of the item: there is some, or the slots become as long as any
+abbrev pub MadeRoom : Computation → List ℕ → List ℕ → Computation → List ℕ → List ℕ → Type 0
+MadeRoom x item ws y item′ ws′ =
+    ((y ≡ x) × (item′ ≡ item) × (ws′ ≡ ws) × Roomy (getD item 0 0) (x .frontier .length))
+    ⊎ (Grows x ws 128 y ws′ × (item′ ≡ take (x .frontier .length) item ++ zeros (128 - x .frontier .length)))
 
 -- A ROUND: the route in the item was popped
 pub record Rounding (most : ℕ) (index : List ℕ) (f : Filing) (item : List ℕ) (x : Computation) (ws db : List ℕ) : Type 0 where
@@ -28,8 +37,9 @@ pub record Rounding (most : ℕ) (index : List ℕ) (f : Filing) (item : List �
   pub loaded : Loaded graph index
   pub origin : List ℕ
   pub route : Route
-  pub words : item ≡ held 128 route
-  pub good : Traced (viewOf graph) (f .file) route
+  pub words : item ≡ held (x .frontier .length) route
+  pub good : Waiting (viewOf graph) (f .file) (x .frontier .length) route
+  pub room : Roomy (length (route .edges)) (x .frontier .length)
   pub fits : Fits f db
   pub model : State Route
   pub rep : Rep (viewOf graph) f origin x ws db model
@@ -51,10 +61,12 @@ pub record Driving (index : List ℕ) (f : Filing) (item : List ℕ) (x : Comput
   pub looked : model .tally .looked ≤ 4096 * x .budget .expanded
   pub expanded : x .budget .expanded ≤ 16777216
 
--- it is finished with this state, whose found routes are filed, or refused alike
+-- it is finished with this state, whose found routes are filed, or refused alike; or there was room for some, and these are filed
 abbrev pub Ends : Filing → List ℕ → Computed → List ℕ → Answer PartialPathRefusal (State Route) → Type 0
 Ends f origin (Done stats) db (ok u) = (stats ≡ partialStats u) × (stats .found ≡ length (u .kept)) × (db ≡ filedIn f (u .kept) origin)
 Ends f origin (Done stats) db (refuse y) = ⊥
+Ends f origin Filed db (ok u) = (0 < f .room) × (db ≡ filedIn f (u .kept) origin)
+Ends f origin Filed db (refuse y) = 0 < f .room
 Ends f origin (Refused r) db (ok u) = ⊥
 Ends f origin (Refused r) db (refuse y) = (r ≡ y) × Untouched f origin db
 

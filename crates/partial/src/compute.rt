@@ -1,12 +1,18 @@
 // The partial paths of a file on a loaded graph: they are counted, and filed in the database where a place is given for them.
 // Document 01, "Partial paths": `StackPartialPathSet::compute`.
-ghost use Rattle.partial_state.specs.Extractions.{at, goingAt};
-ghost use Rattle.partial.specs.Rounds.{Rounding, Rounded, Driving, DrivenTo};
+ghost use mathlib.Core.Path.{_≡_};
+ghost use mathlib.Core.Bool.{true};
+ghost use Prim.Native.Nat.{_+_, _≤_, _<_, _^_};
+ghost use lib.ListN.{length, take, getD};
+ghost use Rattle.graph_search.specs.Frontier.{Framed, Wider};
+ghost use Rattle.partial_state.specs.Extractions.{at, goingAt, takenAt, Taking};
+ghost use Rattle.partial.specs.Rounds.{MadeRoom, Rounding, Rounded, Driving, DrivenTo};
 ghost use Rattle.partial.specs.Requests.{Computing, ComputedTo};
 use partial_state::extraction::Config;
 use partial_state::extraction::Extraction;
 use partial_state::extraction::Frame;
 use partial_state::extraction::Going;
+use partial_state::extraction::SHORT_SLOT;
 use partial_state::extraction::Taken;
 use partial_state::filing::Filing;
 use partial_state::route;
@@ -15,11 +21,51 @@ use partial_trial::seed;
 use semantics::bounds::SLOT_WORDS;
 use semantics::refusal::PartialPathRefusal;
 use semantics::search::PartialPathStats;
+use words::slots;
 
-// The computation is finished, or refused.
+// The computation is finished, or as many paths are filed as there is room for, or it is refused.
 pub enum Computed {
     Done(PartialPathStats),
+    Filed,
     Refused(PartialPathRefusal),
+}
+
+// Are as many paths found as there is room for? What is found behind them would only be counted.
+fn is_filed(filing: Filing, found: u64) -> bool
+    ensures { λ r. ⌜ (r ≡ true → (0 < filing .room) × (filing .room ≤ found)) ⌝ }
+{
+    let room = filing.room as u64;
+    if 0 < room {
+        return room <= found;
+    }
+    false
+}
+
+// The next route is copied into the front of the item, as many words as a slot has.
+fn take_front(on: Extraction, work: &mut [u32], item: &mut [u32], frame: Frame) -> Taken
+    requires { ⌜ Framed (at frame on .frontier) (now work) × (frame .slot ≤ length (now item)) × (on .expanded + 1 < 2 ^ 64) ⌝ }
+    ensures { λ r. ⌜ Taking (at frame on) (now (work .entry)) (takenAt frame r) (take (frame .slot) (now (item .exit))) (now (work .exit)) ⌝ }
+{
+    let slot = frame.slot;
+    on.take(work, &mut item[0..slot], frame)
+}
+
+// A route that fills its slot has no word for one more edge: then the slots get as many words as the longest route needs, and so does the
+// route in the item.
+fn make_room(extraction: Extraction, item: &mut [u32], work: &mut [u32], frame: Frame) -> Frame
+    requires { ⌜ Framed (at frame extraction .frontier) (now work) × Wider (at frame extraction .frontier) (now work) 128 × (length (now item) ≡ 128) × (getD (now item) 0 0 < 128) ⌝ }
+    ensures { λ r. ⌜ MadeRoom (at frame extraction) (now (item .entry)) (now (work .entry)) (at r extraction) (now (item .exit)) (now (work .exit)) ⌝ }
+{
+    let slot = frame.slot;
+    let k = item[0] as usize;
+    if k + 1 < slot {
+        return frame;
+    }
+    if slot < SLOT_WORDS {
+        slots::zero(&mut item[slot..SLOT_WORDS]);
+        return frame.widen(extraction, work);
+    }
+    frame
 }
 
 // The popped route is expanded.
@@ -40,7 +86,33 @@ fn round(
     expand::expand(index, filing, ends, k, item, extraction, work, words, frame)
 }
 
-// Routes are taken and expanded until none waits, or the path count or a refusal ends the computation.
+// The same with the route in the front of the item.
+fn round_front(
+    index: &[u32],
+    filing: Filing,
+    item: &mut [u32],
+    extraction: Extraction,
+    work: &mut [u32],
+    words: &mut [u32],
+    frame: Frame,
+) -> Going
+    requires { ⌜ Rounding 549755813888 (now index) filing (take (frame .slot) (now item)) (at frame extraction) (now work) (now words) × (frame .slot ≤ length (now item)) ⌝ }
+    ensures { λ r. ⌜ ((v : Rounding 549755813888 (now (index .entry)) filing (take (frame .slot) (now (item .entry))) (at frame extraction) (now (work .entry)) (now (words .entry))) → Rounded 549755813888 (now (index .entry)) filing (take (frame .slot) (now (item .entry))) (at frame extraction) (now (work .entry)) (now (words .entry)) v (goingAt frame r) (now (work .exit)) (now (words .exit))) ⌝ }
+{
+    let slot = frame.slot;
+    round(
+        index,
+        filing,
+        &mut item[0..slot],
+        extraction,
+        work,
+        words,
+        frame,
+    )
+}
+
+// Routes are taken and expanded until none waits, or all are filed, or the path count or a refusal ends the computation. Round the loop goes the length of a slot
+// and not the frame, whose copies the processor would wait for.
 fn drive(
     index: &[u32],
     filing: Filing,
@@ -54,12 +126,19 @@ fn drive(
     ensures { λ r. ⌜ ((v : Driving (now (index .entry)) filing (now (item .entry)) (at frame extraction) (now (work .entry)) (now (words .entry))) → DrivenTo (now (index .entry)) filing (now (item .entry)) (at frame extraction) (now (work .entry)) (now (words .entry)) v r (now (words .exit))) ⌝ }
 {
     let mut on = extraction;
+    let mut slot = frame.slot;
     loop {
-        match on.take(work, item, frame) {
+        if is_filed(filing, on.found) {
+            return Computed::Filed;
+        }
+        let within = frame.with_slot(slot);
+        match take_front(on, work, item, within) {
             Taken::Over(last) => return Computed::Done(last.stats()),
             Taken::TooMany => return Computed::Refused(PartialPathRefusal::TooManyExpansions),
             Taken::Expand(next) => {
-                match round(index, filing, item, next, work, words, frame) {
+                let ready = make_room(next, item, work, within);
+                slot = ready.slot;
+                match round_front(index, filing, item, next, work, words, ready) {
                     Going::On(s) => {
                         on = s;
                     }
@@ -82,6 +161,7 @@ pub fn compute(
     requires { ⌜ Computing (now index) nodes filing (now words) ⌝ }
     ensures { λ r. ⌜ ComputedTo (now (index .entry)) nodes filing config (now (work .entry)) (now (words .entry)) r (now (words .exit)) ⌝ }
 {
+    let mut start = [0u32; SHORT_SLOT];
     let mut item = [0u32; SLOT_WORDS];
     let frame = Frame::new(config, work.len() / SLOT_WORDS);
     let extraction = Extraction::new();
@@ -89,7 +169,7 @@ pub fn compute(
         index,
         filing.file,
         nodes,
-        &mut item,
+        &mut start,
         extraction,
         work,
         frame,

@@ -1,12 +1,13 @@
 // A file replaced in the database. Document 01, "Partial paths": `replace_file`; 33 follows a finished computation.
 // A refused replacement alters no word, and the words behind the used slots may hold anything: so the paths are computed and counted
-// first, and computed again and filed when all refusals are past.
+// first, and computed again and filed when all refusals are past; the second computation ends with the last of them.
 ghost use mathlib.Core.Path.{_≡_};
 ghost use Rattle.semantics.specs.Limits.{base};
 ghost use Rattle.semantics.specs.Image.{symbolBytes, checkImage};
 ghost use Rattle.semantics.specs.Told.{toldReplacement};
 ghost use Rattle.semantics.specs.Database.{filesOnly, replaceWords};
 ghost use Rattle.semantics.specs.Calls.{replaceCall};
+ghost use Rattle.storage.specs.Rows.{Takes};
 ghost use Rattle.partial.specs.Requests.{requestOf, askedBy, Storing, Replacing, Inspecting, replacedOn, inspectedOn, Leaves, Does};
 use crate::compute;
 use crate::compute::Computed;
@@ -31,7 +32,7 @@ pub struct Sizes {
     pub nodes: u32,
 }
 
-// The found paths are filed in the place of the file's old ones. The second computation takes the course of the first.
+// The found paths are filed in the place of the file's old ones. The second computation takes the course of the first, up to the last of them.
 fn store(
     index: &[u32],
     sizes: Sizes,
@@ -84,6 +85,8 @@ fn replace_known(
             }
             Replacement::Full
         }
+        // never taken: a filing without room is not filled
+        Computed::Filed => Replacement::Full,
     }
 }
 
@@ -105,18 +108,19 @@ pub fn replace_loaded(
     }
 }
 
-// The image before that. The work area is zero after every call.
-fn replace_image(
+// The image before that, into the lent index. The work area is zero after every call.
+fn replace_in(
     image: &[u8],
+    index: &mut [u32],
     file: u32,
     config: Config,
     work: &mut [u32],
     words: &mut [u32],
 ) -> Replacement
+    requires { ⌜ Takes (now image) (now index) ⌝ }
     ensures { λ r. ⌜ Does (replaceCall base filesOnly (checkImage symbolBytes (now (image .entry))) (askedBy config (now (work .entry)) file) (now (words .entry))) r (now (work .exit)) (now (words .exit)) ⌝ }
 {
-    let mut index = [0u32; rows::INDEX];
-    let checked = check::load_fresh(image, &mut index);
+    let checked = check::load_fresh(image, index);
     match checked {
         Checked::Refused(r) => {
             slots::zero(work);
@@ -127,11 +131,29 @@ fn replace_image(
             nodes,
             edges: _,
         } => {
-            let answer = replace_loaded(&index, Sizes { files, nodes }, file, config, work, words);
+            let answer = replace_loaded(index, Sizes { files, nodes }, file, config, work, words);
             slots::zero(work);
             answer
         }
     }
+}
+
+// A small image gets a small index: zeroing a large one would take longer than the rest.
+fn replace_image(
+    image: &[u8],
+    file: u32,
+    config: Config,
+    work: &mut [u32],
+    words: &mut [u32],
+) -> Replacement
+    ensures { λ r. ⌜ Does (replaceCall base filesOnly (checkImage symbolBytes (now (image .entry))) (askedBy config (now (work .entry)) file) (now (words .entry))) r (now (work .exit)) (now (words .exit)) ⌝ }
+{
+    if check::is_small(image) {
+        let mut index = [0u32; rows::SMALL];
+        return replace_in(image, &mut index, file, config, work, words);
+    }
+    let mut index = [0u32; rows::INDEX];
+    replace_in(image, &mut index, file, config, work, words)
 }
 
 // Any bytes, numbers and words.

@@ -16,7 +16,7 @@ use Rattle.graph_search.specs.declared.path_frontier.Pushed.the-variants as Pus
 use Rattle.graph_search.specs.declared.path_frontier.Popped.{Popped}
 use Rattle.graph_search.specs.declared.path_frontier.Popped.the-variants as Popped
 use Rattle.budget.specs.Budget.{fresh, withMaxLength, withMaxPaths, expansion, statsOf}
-use Rattle.graph_search.specs.Frontier.{empty, Pushes, Pops}
+use Rattle.graph_search.specs.Frontier.{empty, Pushes, Pops, Widens}
 use Rattle.semantics.specs.declared.refusal.PartialPathRefusal.{PartialPathRefusal}
 use Rattle.semantics.specs.declared.search.Limit.the-variants.{Absent}
 use Rattle.partial_state.specs.declared.extraction.Config.{Config}
@@ -30,8 +30,16 @@ pub mod Laws
 
 -- ---- what is handed on in code
 
+-- the words of a waiting slot while no route has more edges than fit in them
+abbrev pub shortSlot : ℕ
+shortSlot = 16
+
 abbrev pub frameWith : Config → ℕ → Frame
-frameWith c waiting = record { order = c .order; length = c .length; paths = c .paths; waiting = waiting }
+frameWith c waiting = record { order = c .order; length = c .length; paths = c .paths; waiting = waiting; slot = shortSlot }
+
+-- with slots of so many words
+abbrev pub slottedBy : ℕ → Frame → Frame
+slottedBy L fr = record { order = fr .order; length = fr .length; paths = fr .paths; waiting = fr .waiting; slot = L }
 
 abbrev pub nothingYet : Extraction
 nothingYet = record { first = 0; count = 0; pending = 0; expanded = 0; cycles = 0; found = 0; lengthLimited = false; countLimited = false }
@@ -76,7 +84,7 @@ pub data Opening : Type 0 where
 -- what is handed on, in its frame
 abbrev pub at : Frame → Extraction → Computation
 at fr p = record {
-  frontier = record { order = fr .order; length = 128; first = p .first; count = p .count; pending = p .pending; capacity = fr .waiting };
+  frontier = record { order = fr .order; length = fr .slot; first = p .first; count = p .count; pending = p .pending; capacity = fr .waiting };
   budget = record { maxLength = fr .length; maxPaths = fr .paths; maxComplete = Absent; expanded = p .expanded; complete = 0; lengthLimited = p .lengthLimited; countLimited = p .countLimited; completeLimited = false };
   cycles = p .cycles;
   found = p .found;
@@ -92,7 +100,7 @@ takenAt fr (Expand p) = opening (at fr p)
 takenAt fr TooMany = exceeding
 
 abbrev pub newComputation : Config → ℕ → Computation
-newComputation c capacity = record { frontier = empty (c .order) 128 capacity; budget = withMaxPaths (c .paths) (withMaxLength (c .length) fresh); cycles = 0; found = 0 }
+newComputation c capacity = record { frontier = empty (c .order) shortSlot capacity; budget = withMaxPaths (c .paths) (withMaxLength (c .length) fresh); cycles = 0; found = 0 }
 
 abbrev pub withBudget : Budget → Computation → Computation
 withBudget b x = record { frontier = x .frontier; budget = b; cycles = x .cycles; found = x .found }
@@ -143,3 +151,9 @@ pub record Taking (x : Computation) (ws : List ℕ) (a : Opening) (item ws′ : 
   pub popped : Popped
   pub pops : Pops (x .frontier) ws popped item ws′
   pub is : a ≡ openingOf x popped
+
+-- the waiting slots get so many words
+pub record Grows (x : Computation) (ws : List ℕ) (L : ℕ) (y : Computation) (ws′ : List ℕ) : Type 0 where
+  pub frontier : Frontier
+  pub widens : Widens (x .frontier) ws L frontier ws′
+  pub is : y ≡ withFrontier frontier x

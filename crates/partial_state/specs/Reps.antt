@@ -12,13 +12,14 @@ use Rattle.semantics.specs.Answer.{Answer, ok, refuse, andThen}
 use Rattle.semantics.specs.Graph.{View}
 use Rattle.semantics.specs.Enumeration.{State, Setting, keep, pushItem}
 use Rattle.semantics.specs.PartialPaths.{Route, partialSetting}
-use Rattle.words.specs.Slots.{IsSlot}
+use Rattle.words.specs.Slots.{IsSlot, SlotsIn}
+use Rattle.graph_search.specs.declared.path_frontier.Frontier.{Frontier}
 use Rattle.graph_search.specs.Frontier.{Framed}
 use Rattle.graph_search.specs.Frontier.Stands.{Stands}
 use Rattle.partial_state.specs.declared.route.Ends.{Ends}
 use Rattle.partial_state.specs.declared.filing.Filing.{Filing}
 use Rattle.partial_state.specs.declared.extraction.Frame.{Frame}
-use Rattle.partial_state.specs.Routes.{held, endsOf, Traced}
+use Rattle.partial_state.specs.Routes.{held, endsOf, Waiting}
 use Rattle.partial_state.specs.Filings.{Fits, filedIn}
 use Rattle.partial_state.specs.Extractions.{Computation, Course, goes, stops, statsIn}
 pub mod Laws
@@ -36,19 +37,25 @@ pub record Few (n : ℕ) (t : SearchStats) : Type 0 where
 
 -- what a computation never changes
 abbrev pub frameOf : Computation → Frame
-frameOf x = record { order = x .frontier .order; length = x .budget .maxLength; paths = x .budget .maxPaths; waiting = x .frontier .capacity }
+frameOf x = record { order = x .frontier .order; length = x .budget .maxLength; paths = x .budget .maxPaths; waiting = x .frontier .capacity; slot = x .frontier .length }
 
 abbrev pub settingOf : Frame → Setting PartialPathRefusal
 settingOf f = partialSetting (f .order) (f .paths) (f .waiting)
 
+-- a slot has words for a count and a start, and the area as many slots of full length
+pub record Sized (f : Frontier) (ws : List ℕ) : Type 0 where
+  pub start : 2 ≤ f .length
+  pub most : f .length ≤ 128
+  pub room : SlotsIn 128 (f .capacity) ws
+
 -- the computation in code, its work area and the database stand for a state of the enumeration; `origin` is the database without what was filed
 pub record Rep (g : View) (f : Filing) (origin : List ℕ) (x : Computation) (ws db : List ℕ) (m : State Route) : Type 0 where
-  pub sized : x .frontier .length ≡ 128
-  pub stands : Stands (held 128) (x .frontier) ws m
+  pub sized : Sized (x .frontier) ws
+  pub stands : Stands (held (x .frontier .length)) (x .frontier) ws m
   pub counts : Counts x m
   pub few : Few (m .tally .looked) (m .stats)
   pub filed : db ≡ filedIn f (m .kept) origin
-  pub traced : (r : Route) → List·Memᴰ r (m .rest) ⊎ List·Memᴰ r (m .pending) → Traced g (f .file) r
+  pub traced : (r : Route) → List·Memᴰ r (m .rest) ⊎ List·Memᴰ r (m .pending) → Waiting g (f .file) (x .frontier .length) r
 
 -- where nothing may be filed the database is as it was
 abbrev pub Untouched : Filing → List ℕ → List ℕ → Type 0
@@ -64,14 +71,14 @@ Tells g f origin fr (stops r) ws db (refuse y) = (r ≡ y) × Untouched f origin
 -- the areas have their slots, and one more path can be counted and filed
 pub record Extendable (x : Computation) (f : Filing) (item ws db : List ℕ) : Type 0 where
   pub framed : Framed (x .frontier) ws
-  pub slot : IsSlot 128 item
-  pub sized : x .frontier .length ≡ 128
-  pub short : getD item 0 0 ≤ 127
+  pub slot : IsSlot (x .frontier .length) item
+  pub most : x .frontier .length ≤ 128
+  pub short : getD item 0 0 < x .frontier .length
   pub few : x .found + 1 < 2 ^ 64
   pub fits : Fits f db
 
 -- the enumeration keeps and pushes alike; the edge that led here is among those looked at
 abbrev pub ExtendsTo : Computation → Bool → Ends → Filing → List ℕ → List ℕ → List ℕ → Course → List ℕ → List ℕ → Type 0
 ExtendsTo x endpoint e f item ws db a ws′ db′ =
-    (g : View) (origin : List ℕ) (m : State Route) (q : Route) (n : ℕ) → Rep g f origin x ws db m → Few n (m .stats) → n + 1 ≡ m .tally .looked → Traced g (f .file) q → e ≡ endsOf q → item ≡ held 128 q
+    (g : View) (origin : List ℕ) (m : State Route) (q : Route) (n : ℕ) → Rep g f origin x ws db m → Few n (m .stats) → n + 1 ≡ m .tally .looked → Waiting g (f .file) (x .frontier .length) q → e ≡ endsOf q → item ≡ held (x .frontier .length) q
     → Tells g f origin (frameOf x) a ws′ db′ (andThen (keep endpoint (settingOf (frameOf x)) m q) (pushItem (settingOf (frameOf x)) q))

@@ -1,6 +1,6 @@
 -- A route that waits, as the words of a slot, and the ends that are read from them.
 -- Document 01, "Answer": "Waiting paths are held likewise, a partial path without edges keeping its start in the first edge word".
-use Prim.Native.Nat.{ℕ, _≤_}
+use Prim.Native.Nat.{ℕ, _≤_, _<_}
 use mathlib.Core.List.{List, [], _∷_}
 use lib.Dec.{ltb}
 use lib.ListN.{length, take, getD}
@@ -38,7 +38,11 @@ endsIn edge item =
 abbrev pub endsOf : Route → Ends
 endsOf r = record { start = r .start; end = r .current }
 
--- a route on the way: edges of the file, each going on from the last one's target, and no more than a slot has words for
+-- a route on the way: edges of the file, each going on from the last one's target, and no more than the longest slot has words for
 pub record Traced (g : View) (file : ℕ) (r : Route) : Type 0 where
   pub walk : Walk g (belongs g file) (r .start) (r .edges) (r .current)
   pub short : length (r .edges) ≤ 127
+
+-- one that waits in a slot of L words
+abbrev pub Waiting : View → ℕ → ℕ → Route → Type 0
+Waiting g file L r = Traced g file r × (length (r .edges) < L)

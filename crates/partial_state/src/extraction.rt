@@ -3,8 +3,8 @@
 ghost use mathlib.Core.Path.{_≡_};
 ghost use Prim.Native.Nat.{_+_, _<_, _≤_, _^_};
 ghost use Rattle.words.specs.Slots.{IsSlot};
-ghost use Rattle.graph_search.specs.Frontier.{Framed};
-ghost use Rattle.partial_state.specs.Extractions.{at, frameWith, nothingYet, countedBy, placedBy, cutIn, foundIn, goingAt, takenAt, partialIn, Extends, Taking};
+ghost use Rattle.graph_search.specs.Frontier.{Framed, Wider};
+ghost use Rattle.partial_state.specs.Extractions.{at, frameWith, nothingYet, countedBy, placedBy, cutIn, foundIn, goingAt, takenAt, partialIn, Extends, Taking, slottedBy, Grows};
 ghost use Rattle.partial_state.specs.Reps.{Extendable, ExtendsTo};
 use crate::filing;
 use crate::filing::Filing;
@@ -20,6 +20,9 @@ use semantics::search::Limit;
 use semantics::search::PartialPathStats;
 use semantics::search::SearchOrder;
 
+// The words of a waiting slot while no route has more edges than fit in them: thousands of routes may wait, and most have few edges.
+pub const SHORT_SLOT: usize = 16;
+
 // The frontier order, and the limits on edges of a path and on expansions.
 pub struct Config {
     pub order: SearchOrder,
@@ -27,12 +30,13 @@ pub struct Config {
     pub paths: Limit,
 }
 
-// What a computation never changes: its order, limits, and waiting slots.
+// What a computation never changes: its order, limits, and waiting slots. Their words become more once, when a route is too long for them.
 pub struct Frame {
     pub order: SearchOrder,
     pub length: Limit,
     pub paths: Limit,
     pub waiting: usize,
+    pub slot: usize,
 }
 
 // What it changes: the frontier's place, counts and flags.
@@ -72,7 +76,26 @@ impl Frame {
             length,
             paths,
             waiting,
+            slot: SHORT_SLOT,
         }
+    }
+
+    // The same with slots of so many words.
+    pub fn with_slot(mut self, slot: usize) -> Frame
+        ensures { λ r. ⌜ r ≡ slottedBy slot self ⌝ }
+    {
+        self.slot = slot;
+        self
+    }
+
+    // Longer routes may wait from now on: the slots get as many words as the longest needs.
+    pub fn widen(self, extraction: Extraction, work: &mut [u32]) -> Frame
+        requires { ⌜ Framed (at self extraction .frontier) (now work) × Wider (at self extraction .frontier) (now work) 128 ⌝ }
+        ensures { λ r. ⌜ Grows (at self extraction) (now (work .entry)) 128 (at r extraction) (now (work .exit)) ⌝ }
+    {
+        let mut slot = [0u32; SLOT_WORDS];
+        extraction.frontier(self).widen(work, SLOT_WORDS, &mut slot);
+        self.with_slot(SLOT_WORDS)
     }
 }
 
@@ -99,7 +122,7 @@ impl Extraction {
         let order = frame.order;
         Frontier {
             order,
-            length: SLOT_WORDS,
+            length: frame.slot,
             first: self.first,
             count: self.count,
             pending: self.pending,
@@ -165,7 +188,7 @@ impl Extraction {
 
     // The route in the item waits; 31 when all waiting slots are taken.
     pub fn push(self, work: &mut [u32], item: &[u32], frame: Frame) -> Going
-        requires { ⌜ Framed (at frame self .frontier) (now work) × IsSlot 128 (now item) ⌝ }
+        requires { ⌜ Framed (at frame self .frontier) (now work) × IsSlot (frame .slot) (now item) ⌝ }
         ensures { λ r. ⌜ Extends (at frame self) (now (work .entry)) (now (item .entry)) (goingAt frame r) (now (work .exit)) ⌝ }
     {
         let pushed = self.frontier(frame).push(work, item);
@@ -199,7 +222,7 @@ impl Extraction {
 
     // The next route is taken out of the frontier, and its expansion is put to the budget, then to the bound on expansions.
     pub fn take(self, work: &mut [u32], item: &mut [u32], frame: Frame) -> Taken
-        requires { ⌜ Framed (at frame self .frontier) (now work) × IsSlot 128 (now item) × (self .expanded + 1 < 2 ^ 64) ⌝ }
+        requires { ⌜ Framed (at frame self .frontier) (now work) × IsSlot (frame .slot) (now item) × (self .expanded + 1 < 2 ^ 64) ⌝ }
         ensures { λ r. ⌜ Taking (at frame self) (now (work .entry)) (takenAt frame r) (now (item .exit)) (now (work .exit)) ⌝ }
     {
         let popped = self.frontier(frame).pop(work, item);

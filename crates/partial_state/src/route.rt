@@ -4,8 +4,7 @@ ghost use mathlib.Core.Path.{_≡_};
 ghost use Prim.Native.Nat.{_<_, _≤_};
 ghost use lib.ListN.{length, getD};
 ghost use Rattle.semantics.specs.PartialPaths.{routeAt, targetOf};
-ghost use Rattle.storage.specs.Rows.{edgeRow};
-ghost use Rattle.words.specs.Slots.{IsSlot};
+ghost use Rattle.storage.specs.Rows.{Blocks, edgeRow};
 ghost use Rattle.partial_state.specs.Routes.{held, sourceOf, endsIn};
 use semantics::graph::Edge;
 use semantics::graph::EdgeId;
@@ -20,8 +19,8 @@ pub struct Ends {
 
 // The words become a route without edges.
 pub fn begin(item: &mut [u32], start: u32)
-    requires { ⌜ IsSlot 128 (now item) ⌝ }
-    ensures { λ _. ⌜ now (item .exit) ≡ held 128 (routeAt start) ⌝ }
+    requires { ⌜ 2 ≤ length (now item) ⌝ }
+    ensures { λ _. ⌜ now (item .exit) ≡ held (length (now (item .entry))) (routeAt start) ⌝ }
 {
     slots::zero(item);
     item[1] = start;
@@ -57,7 +56,7 @@ pub fn target_of(edge: Edge) -> u32
 
 // The ends of the route in the words.
 pub fn ends_of(index: &[u32], item: &[u32]) -> Ends
-    requires { ⌜ (length (now index) ≡ 28672) × IsSlot 128 (now item) × (getD (now item) 0 0 ≤ 127) ⌝ }
+    requires { ⌜ Blocks (now index) × (2 ≤ length (now item)) × (getD (now item) 0 0 < length (now item)) ⌝ }
     ensures { λ r. ⌜ r ≡ endsIn (edgeRow (now (index .entry))) (now (item .entry)) ⌝ }
 {
     let count = item[0] as usize;

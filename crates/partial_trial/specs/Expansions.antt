@@ -1,7 +1,8 @@
 -- The expansion of a route by the edges of a file, in code against the enumeration.
 -- Document 01, "Partial paths": `StackPartialPathSet::compute`.
-use Prim.Native.Nat.{ℕ, _≤_}
+use Prim.Native.Nat.{ℕ, _+_, _<_, _≤_}
 use mathlib.Core.Path.{_≡_}
+use mathlib.Core.Logic.{_⊎_}
 use mathlib.Core.Bool.{true}
 use mathlib.Core.List.{List, List·Memᴰ}
 use lib.ListN.{length}
@@ -17,12 +18,16 @@ use Rattle.search_state.specs.Items.{Carries}
 use Rattle.partial_state.specs.declared.route.Ends as R
 use Rattle.partial_state.specs.declared.filing.Filing.{Filing}
 use Rattle.partial_state.specs.declared.extraction.Frame.{Frame}
-use Rattle.partial_state.specs.Routes.{Traced}
+use Rattle.partial_state.specs.Routes.{Waiting}
 use Rattle.partial_state.specs.Filings.{Fits}
 use Rattle.partial_state.specs.Reps.{frameOf, settingOf, Rep, Tells}
 use Rattle.partial_state.specs.Extractions.{Computation, Course}
 pub mod Laws
 pub mod Edges
+
+-- behind k edges a slot of L words has room for one more, or is as long as any
+abbrev pub Roomy : ℕ → ℕ → Type 0
+Roomy k L = (k + 1 < L) ⊎ (L ≡ 128)
 
 -- THE ROUTE UNDER EXPANSION: its edges in the item, and the state of the enumeration; at most `most` edges were looked at
 pub record Given (most : ℕ) (index : List ℕ) (f : Filing) (start k : ℕ) (item : List ℕ) (x : Computation) (ws db : List ℕ) : Type 0 where
@@ -32,8 +37,9 @@ pub record Given (most : ℕ) (index : List ℕ) (f : Filing) (start k : ℕ) (i
   pub route : Route
   pub starts : start ≡ route .start
   pub count : length (route .edges) ≡ k
-  pub carries : Carries 128 item (route .edges)
-  pub good : Traced (viewOf graph) (f .file) route
+  pub carries : Carries (x .frontier .length) item (route .edges)
+  pub good : Waiting (viewOf graph) (f .file) (x .frontier .length) route
+  pub room : Roomy k (x .frontier .length)
   pub fits : Fits f db
   pub model : State Route
   pub rep : Rep (viewOf graph) f origin x ws db model
@@ -57,7 +63,7 @@ module _ (most : ℕ) (index : List ℕ) (f : Filing) (start k : ℕ) (item : Li
   -- the enumeration's answer, and the item with the same route in front
   pub record Answered (a : Course) (item′ ws′ db′ : List ℕ) (t : Answer PartialPathRefusal (State Route)) : Type 0 where
     pub tells : Tells (viewOf (v .graph)) f (v .origin) (frameOf x) a ws′ db′ t
-    pub carries : Carries 128 item′ (v .route .edges)
+    pub carries : Carries (x .frontier .length) item′ (v .route .edges)
 
 module _ (most : ℕ) (index : List ℕ) (f : Filing) (start k e : ℕ) (item : List ℕ) (x : Computation) (ws db : List ℕ) where
   -- the answer to an edge that is neither cut nor too long

@@ -29,7 +29,7 @@ pub record Seeding (item : List ℕ) (x : Computation) (ws : List ℕ) : Type 0 
   pub filing : Filing
   pub origin : List ℕ
   pub database : List ℕ
-  pub slot : IsSlot 128 item
+  pub slot : IsSlot (x .frontier .length) item
   pub model : State Route
   pub rep : Rep view filing origin x ws database model
 

@@ -2,10 +2,9 @@
 // recorded if it reaches an endpoint, and is then pushed". Stacks are not examined.
 ghost use mathlib.Core.Path.{_≡_};
 ghost use Prim.Native.Nat.{_<_};
-ghost use lib.ListN.{length};
 ghost use Rattle.semantics.specs.Graph.{Graph, viewOf};
 ghost use Rattle.semantics.specs.PartialPaths.{isOfFile};
-ghost use Rattle.storage.specs.Rows.{Loaded};
+ghost use Rattle.storage.specs.Rows.{Blocks, Loaded};
 ghost use Rattle.partial_state.specs.Extractions.{at, goingAt};
 ghost use Rattle.partial_trial.specs.Expansions.{Given, Looking, Trying, Tried, Looked, Lengthened, Expanding, Expanded};
 use partial_state::extraction::Extraction;
@@ -26,7 +25,7 @@ use storage::store;
 
 // An edge belongs to a file if either end does.
 fn belongs(index: &[u32], file: u32, edge: Edge) -> bool
-    requires { ⌜ length (now index) ≡ 28672 ⌝ }
+    requires { ⌜ Blocks (now index) ⌝ }
     ensures { λ r. ⌜ ((g : Graph) → Loaded g (now (index .entry)) → r ≡ isOfFile (viewOf g) file edge) ⌝ }
 {
     match edge {

@@ -3,7 +3,7 @@
 ghost use mathlib.Core.Path.{_≡_};
 ghost use lib.ListN.{length};
 ghost use Rattle.semantics.specs.Graph.{Graph};
-ghost use Rattle.storage.specs.Rows.{Loaded};
+ghost use Rattle.storage.specs.Rows.{Blocks, Loaded};
 ghost use Rattle.partial_state.specs.Extractions.{at, goingAt};
 ghost use Rattle.partial_trial.specs.Seeds.{Holds, Seeding, Started, NodeSeeded, FileSeeded, Seeded};
 use partial_state::extraction::Extraction;
@@ -42,7 +42,7 @@ fn seed_node(
     work: &mut [u32],
     frame: Frame,
 ) -> Going
-    requires { ⌜ (length (now index) ≡ 28672) × Seeding (now item) (at frame extraction) (now work) ⌝ }
+    requires { ⌜ Blocks (now index) × Seeding (now item) (at frame extraction) (now work) ⌝ }
     ensures { λ r. ⌜ ((g : Graph) → Loaded g (now (index .entry)) → (v : Seeding (now (item .entry)) (at frame extraction) (now (work .entry))) → NodeSeeded (now (item .entry)) (at frame extraction) (now (work .entry)) v g file n (goingAt frame r) (now (work .exit))) ⌝ }
 {
     let node = store::node(index, NodeId(n));

@@ -1,14 +1,13 @@
 // From outside: is a path complete, does one path shadow another? Each path is a reference and a lent edge list, replayed first.
 // Document 01, "Path".
 ghost use mathlib.Core.Path.{_≡_};
-ghost use lib.ListN.{length};
 ghost use Rattle.semantics.specs.Limits.{base};
 ghost use Rattle.semantics.specs.Graph.{Graph, viewOf};
 ghost use Rattle.semantics.specs.Path as Rules;
 ghost use Rattle.semantics.specs.Image.{symbolBytes, checkImage};
 ghost use Rattle.semantics.specs.Told.{toldJudgement};
 ghost use Rattle.semantics.specs.Calls.{leftFirst, completeCall, shadowsCall};
-ghost use Rattle.storage.specs.Rows.{Loaded};
+ghost use Rattle.storage.specs.Rows.{Blocks, Loaded, Takes};
 ghost use Rattle.path.specs.Shadows.Laws.{JumpAt};
 ghost use Rattle.path.specs.Replays.{judgedAs};
 use crate::replay::replay_loaded;
@@ -41,7 +40,7 @@ fn shadows_loaded(
     right: u32,
     right_edges: &[u32],
 ) -> Judgement
-    requires { ⌜ length (now index) ≡ 28672 ⌝ }
+    requires { ⌜ Blocks (now index) ⌝ }
     ensures { λ r. ⌜ ((g : Graph) → Loaded g (now (index .entry)) → JumpAt (viewOf g) → r ≡ leftFirst (Rules.replay base (viewOf g) left (now («left_edges» .entry))) (Rules.replay base (viewOf g) right (now («right_edges» .entry)))) ⌝ }
 {
     let first = replay_loaded(index, left, left_edges).answer;
@@ -52,24 +51,58 @@ fn shadows_loaded(
     judged(second, shadows::shadows(index, left_edges, right_edges))
 }
 
-// Does the path of a reference and an edge list end at a definition with both stacks empty?
-pub fn is_complete(image: &[u8], reference: NodeId, edges: &[u32]) -> Judgement
-    ensures { λ r. ⌜ toldJudgement r ≡ toldJudgement (completeCall base (checkImage symbolBytes (now (image .entry))) (reference .0) (now (edges .entry))) ⌝ }
+// The image is checked into the lent index, then the path is replayed and judged.
+fn is_complete_in(image: &[u8], index: &mut [u32], reference: u32, edges: &[u32]) -> Judgement
+    requires { ⌜ Takes (now image) (now index) ⌝ }
+    ensures { λ r. ⌜ toldJudgement r ≡ toldJudgement (completeCall base (checkImage symbolBytes (now (image .entry))) reference (now (edges .entry))) ⌝ }
 {
-    let mut index = [0u32; rows::INDEX];
-    match check::load_fresh(image, &mut index) {
+    match check::load_fresh(image, index) {
         Checked::Refused(r) => Judgement::Image(r),
         Checked::Accepted {
             files: _,
             nodes: _,
             edges: _,
         } => {
-            let replayed = replay_loaded(&index, reference.0, edges);
+            let replayed = replay_loaded(index, reference, edges);
             let answer = replayed.answer;
             let path = replayed.path;
             let last = get_step(&path.steps, path.count as usize);
-            judged(answer, step::is_complete(&index, last))
+            judged(answer, step::is_complete(index, last))
         }
+    }
+}
+
+// Does the path of a reference and an edge list end at a definition with both stacks empty?
+pub fn is_complete(image: &[u8], reference: NodeId, edges: &[u32]) -> Judgement
+    ensures { λ r. ⌜ toldJudgement r ≡ toldJudgement (completeCall base (checkImage symbolBytes (now (image .entry))) (reference .0) (now (edges .entry))) ⌝ }
+{
+    if check::is_small(image) {
+        let mut index = [0u32; rows::SMALL];
+        return is_complete_in(image, &mut index, reference.0, edges);
+    }
+    let mut index = [0u32; rows::INDEX];
+    is_complete_in(image, &mut index, reference.0, edges)
+}
+
+// The image is checked into the lent index, then both paths are replayed and compared.
+fn shadows_in(
+    image: &[u8],
+    index: &mut [u32],
+    left: u32,
+    left_edges: &[u32],
+    right: u32,
+    right_edges: &[u32],
+) -> Judgement
+    requires { ⌜ Takes (now image) (now index) ⌝ }
+    ensures { λ r. ⌜ toldJudgement r ≡ toldJudgement (shadowsCall base (checkImage symbolBytes (now (image .entry))) left (now («left_edges» .entry)) right (now («right_edges» .entry))) ⌝ }
+{
+    match check::load_fresh(image, index) {
+        Checked::Refused(r) => Judgement::Image(r),
+        Checked::Accepted {
+            files: _,
+            nodes: _,
+            edges: _,
+        } => shadows_loaded(index, left, left_edges, right, right_edges),
     }
 }
 
@@ -83,13 +116,10 @@ pub fn shadows(
 ) -> Judgement
     ensures { λ r. ⌜ toldJudgement r ≡ toldJudgement (shadowsCall base (checkImage symbolBytes (now (image .entry))) (left .0) (now («left_edges» .entry)) (right .0) (now («right_edges» .entry))) ⌝ }
 {
-    let mut index = [0u32; rows::INDEX];
-    match check::load_fresh(image, &mut index) {
-        Checked::Refused(r) => Judgement::Image(r),
-        Checked::Accepted {
-            files: _,
-            nodes: _,
-            edges: _,
-        } => shadows_loaded(&index, left.0, left_edges, right.0, right_edges),
+    if check::is_small(image) {
+        let mut index = [0u32; rows::SMALL];
+        return shadows_in(image, &mut index, left.0, left_edges, right.0, right_edges);
     }
+    let mut index = [0u32; rows::INDEX];
+    shadows_in(image, &mut index, left.0, left_edges, right.0, right_edges)
 }

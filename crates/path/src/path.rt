@@ -2,8 +2,7 @@
 // What both stacks hold stands in its steps, as inside the searches.
 ghost use mathlib.Core.Path.{_≡_};
 ghost use Prim.Native.Nat.{_<_};
-ghost use lib.ListN.{length};
-ghost use Rattle.storage.specs.Rows.{nodeRow, edgeRow};
+ghost use Rattle.storage.specs.Rows.{Blocks, nodeRow, edgeRow};
 ghost use Rattle.stepping.specs.Judged.{begunOf, judgedOf};
 ghost use Rattle.stepping.specs.StepWords.{stepAt};
 ghost use Rattle.path.specs.Values.{emptyPath, isJumpEdge, startedBy, appendedBy, Sized, Growing};
@@ -76,7 +75,7 @@ pub fn empty() -> Path
 
 // An edge into node 1 is followed by a jump step.
 fn is_jump(index: &[u32], edge: u32) -> bool
-    requires { ⌜ length (now index) ≡ 28672 ⌝ }
+    requires { ⌜ Blocks (now index) ⌝ }
     ensures { λ r. ⌜ r ≡ isJumpEdge (edgeRow (now (index .entry)) edge) ⌝ }
 {
     match store::edge(index, EdgeId(edge)) {
@@ -91,7 +90,7 @@ fn is_jump(index: &[u32], edge: u32) -> bool
 
 // The path that starts at a reference.
 pub fn from_reference(index: &[u32], reference: u32) -> Grown
-    requires { ⌜ length (now index) ≡ 28672 ⌝ }
+    requires { ⌜ Blocks (now index) ⌝ }
     ensures { λ r. ⌜ r ≡ startedBy reference (begunOf (nodeRow (now (index .entry))) reference) ⌝ }
 {
     let effect = begin(index, reference);
@@ -112,7 +111,7 @@ pub fn from_reference(index: &[u32], reference: u32) -> Grown
 
 // The path with an edge more, or as it was beside the refusal.
 pub fn append(path: Path, index: &[u32], edge: u32) -> Grown
-    requires { ⌜ (length (now index) ≡ 28672) × Growing path ⌝ }
+    requires { ⌜ Blocks (now index) × Growing path ⌝ }
     ensures { λ r. ⌜ r ≡ appendedBy path edge (isJumpEdge (edgeRow (now (index .entry)) edge)) (judgedOf (nodeRow (now (index .entry))) (path .steps) (path .count) edge (edgeRow (now (index .entry)) edge)) ⌝ }
 {
     let count = path.count;

@@ -1,14 +1,13 @@
 // From outside: a lent edge list is replayed from a reference. Document 01, "Path".
 ghost use mathlib.Core.Path.{_≡_};
 ghost use Prim.Native.Nat.{ℕ};
-ghost use lib.ListN.{length};
 ghost use Rattle.semantics.specs.Limits.{base};
 ghost use Rattle.semantics.specs.Graph.{Graph, viewOf};
 ghost use Rattle.semantics.specs.Path as Rules;
 ghost use Rattle.semantics.specs.Image.{symbolBytes, checkImage};
 ghost use Rattle.semantics.specs.Told.{toldReplayed};
 ghost use Rattle.semantics.specs.Calls.{replayCall};
-ghost use Rattle.storage.specs.Rows.{Loaded};
+ghost use Rattle.storage.specs.Rows.{Blocks, Loaded, Takes};
 ghost use Rattle.path.specs.Shadows.Laws.{JumpAt};
 ghost use Rattle.path.specs.Values.{readPath};
 ghost use Rattle.path.specs.Replays.{refusedBy, Answers};
@@ -49,7 +48,7 @@ fn refused(effect: Effect) -> ReplayOutcome
 
 // Each edge is appended in turn, the bound being tested first.
 pub fn replay_loaded(index: &[u32], reference: u32, edges: &[u32]) -> ReplayOutcome
-    requires { ⌜ length (now index) ≡ 28672 ⌝ }
+    requires { ⌜ Blocks (now index) ⌝ }
     ensures { λ r. ⌜ ((g : Graph) → Loaded g (now (index .entry)) → JumpAt (viewOf g) → Answers r (Rules.replay base (viewOf g) reference (now (edges .entry)))) ⌝ }
 {
     let begun = from_reference(index, reference);
@@ -80,13 +79,13 @@ pub fn replay_loaded(index: &[u32], reference: u32, edges: &[u32]) -> ReplayOutc
     }
 }
 
-// The path of a reference and an edge list, on any bytes and any numbers.
-pub fn replay(image: &[u8], reference: NodeId, edges: &[u32]) -> ReplayOutcome
-    ensures { λ r. ⌜ toldReplayed (r .answer) ≡ toldReplayed (replayCall base (checkImage symbolBytes (now (image .entry))) (reference .0) (now (edges .entry)) .answer) ⌝ }
-    ensures { λ r. ⌜ readPath (r .path) ≡ replayCall base (checkImage symbolBytes (now (image .entry))) (reference .0) (now (edges .entry)) .path ⌝ }
+// The image is checked into the lent index, then the edge list is replayed.
+fn replay_in(image: &[u8], index: &mut [u32], reference: u32, edges: &[u32]) -> ReplayOutcome
+    requires { ⌜ Takes (now image) (now index) ⌝ }
+    ensures { λ r. ⌜ toldReplayed (r .answer) ≡ toldReplayed (replayCall base (checkImage symbolBytes (now (image .entry))) reference (now (edges .entry)) .answer) ⌝ }
+    ensures { λ r. ⌜ readPath (r .path) ≡ replayCall base (checkImage symbolBytes (now (image .entry))) reference (now (edges .entry)) .path ⌝ }
 {
-    let mut index = [0u32; rows::INDEX];
-    match check::load_fresh(image, &mut index) {
+    match check::load_fresh(image, index) {
         Checked::Refused(r) => ReplayOutcome {
             answer: Replayed::Image(r),
             path: empty(),
@@ -95,6 +94,19 @@ pub fn replay(image: &[u8], reference: NodeId, edges: &[u32]) -> ReplayOutcome
             files: _,
             nodes: _,
             edges: _,
-        } => replay_loaded(&index, reference.0, edges),
+        } => replay_loaded(index, reference, edges),
     }
+}
+
+// The path of a reference and an edge list, on any bytes and any numbers.
+pub fn replay(image: &[u8], reference: NodeId, edges: &[u32]) -> ReplayOutcome
+    ensures { λ r. ⌜ toldReplayed (r .answer) ≡ toldReplayed (replayCall base (checkImage symbolBytes (now (image .entry))) (reference .0) (now (edges .entry)) .answer) ⌝ }
+    ensures { λ r. ⌜ readPath (r .path) ≡ replayCall base (checkImage symbolBytes (now (image .entry))) (reference .0) (now (edges .entry)) .path ⌝ }
+{
+    if check::is_small(image) {
+        let mut index = [0u32; rows::SMALL];
+        return replay_in(image, &mut index, reference.0, edges);
+    }
+    let mut index = [0u32; rows::INDEX];
+    replay_in(image, &mut index, reference.0, edges)
 }

@@ -1,10 +1,9 @@
 // Does one path shadow another? Document 01, "Path": both step lists are walked until the shorter ends.
 // The walk goes over edge lists: an edge into jump, node 1, is followed by a jump step, so jump steps need not be stored.
 ghost use mathlib.Core.Path.{_≡_};
-ghost use lib.ListN.{length};
 ghost use Rattle.semantics.specs.Graph.{nodeId};
 ghost use Rattle.semantics.specs.declared.graph.Edge.the-variants as E;
-ghost use Rattle.storage.specs.Rows.{edgeRow};
+ghost use Rattle.storage.specs.Rows.{Blocks, edgeRow};
 ghost use Rattle.path.specs.Shadows.{alike, meet, yes, shadowsEdges};
 use semantics::graph::Edge;
 use semantics::graph::EdgeId;
@@ -57,7 +56,7 @@ fn compare(source: u32, target: u32, precedence: i32, right: Edge) -> Met
 }
 
 fn meet_edges(index: &[u32], left: u32, right: u32) -> Met
-    requires { ⌜ length (now index) ≡ 28672 ⌝ }
+    requires { ⌜ Blocks (now index) ⌝ }
     ensures { λ r. ⌜ r ≡ meet (edgeRow (now (index .entry)) left) (edgeRow (now (index .entry)) right) ⌝ }
 {
     match store::edge(index, EdgeId(left)) {
@@ -77,7 +76,7 @@ fn meet_edges(index: &[u32], left: u32, right: u32) -> Met
 
 // The walk over the edges of both paths.
 pub fn shadows(index: &[u32], left: &[u32], right: &[u32]) -> bool
-    requires { ⌜ length (now index) ≡ 28672 ⌝ }
+    requires { ⌜ Blocks (now index) ⌝ }
     ensures { λ r. ⌜ r ≡ shadowsEdges (edgeRow (now (index .entry))) (now (left .entry)) (now (right .entry)) ⌝ }
 {
     let mut i: usize = 0;

@@ -3,6 +3,7 @@
 use Prim.Native.Nat.{ℕ}
 use mathlib.Core.Bool.{Bool, false, not}
 use mathlib.Core.List.{List, [], _∷_, _++_}
+use lib.ListN.{getD}
 use Rattle.semantics.specs.Lists.{or, and, same, pick}
 pub mod Laws
 pub mod Paths
@@ -29,6 +30,10 @@ unfoldable pub beatenList : (List ℕ → List ℕ → Bool) → List ℕ → Li
 unfolding same
 beatenList beats l [] = false
 beatenList beats l (m ∷ ms) = or (and (not (same l m)) (beats m l)) (beatenList beats l ms)
+
+-- is list j beaten by another one
+abbrev pub beatenAt : (List ℕ → List ℕ → Bool) → List (List ℕ) → ℕ → Bool
+beatenAt beats ls j = beatenList beats (getD ls j []) ls
 
 -- the lists for which the test fails
 unfoldable pub without : (List ℕ → Bool) → List (List ℕ) → List (List ℕ)

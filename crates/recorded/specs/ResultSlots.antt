@@ -74,6 +74,10 @@ pub record Marked (L : ℕ) (mark : ℕ → Bool) (ls : List (List ℕ)) (ws : L
   pub held : Held L mark ls ws
   pub behind : drop (L * length ls) ws ≡ zeros (length ws - L * length ls)
 
+-- a call that marks those of the n lists for which the test holds among all of them
+abbrev pub Marks : ℕ → ℕ → (List (List ℕ) → ℕ → Bool) → List ℕ → List ℕ → Type 0
+Marks L n test ws ws′ = (length ws′ ≡ length ws) × ((k : Lists L n ws) → Marked L (test (k .lists)) (k .lists) ws′)
+
 -- some n lists stand in the slots, some of them marked
 pub record MarkedLists (L n : ℕ) (ws : List ℕ) : Type 0 where
   pub mark : ℕ → Bool

@@ -1,8 +1,9 @@
 // The edge lists that result slots hold. A slot is marked by SLOT_WORDS more in its count word; reading a count takes the mark off.
 // Document 01, "Answer": "A result slot is 128 words of 32 bits: edge count, edges, zeros".
 ghost use mathlib.Core.Path.{_≡_};
+ghost use mathlib.Core.Bool.{true, false};
 ghost use Prim.Native.Nat.{_*_};
-ghost use lib.ListN.{getD};
+ghost use lib.ListN.{length, getD};
 ghost use Rattle.semantics.specs.Lists.{same};
 ghost use Rattle.words.specs.Slots.{InArea};
 ghost use Rattle.recorded.specs.ResultSlots.{countOf, edgesAt, Fitting};
@@ -26,11 +27,28 @@ pub fn edge_count(result: &[u32], i: usize) -> usize
     unmarked(result[SLOT_WORDS * i]) as usize
 }
 
-// Are the lists equal? Paths from one reference differ at their ends most often, so the ends are compared first.
+// Do their first numbers tell two lists of one length apart?
+fn starts_apart(left: &[u32], right: &[u32]) -> bool
+    requires { ⌜ length (now left) ≡ length (now right) ⌝ }
+    ensures { λ r. ⌜ (r ≡ true → same (now (left .entry)) (now (right .entry)) ≡ false) ⌝ }
+{
+    if 0 < left.len() {
+        if left[0] != right[0] {
+            return true;
+        }
+    }
+    false
+}
+
+// Are the lists equal? Paths from one reference differ at their ends most often, so the lists are compared from there. Many ways into one
+// scope end alike, and differ in the first edge: it is looked at before.
 fn is_same(left: &[u32], right: &[u32]) -> bool
     ensures { λ r. ⌜ r ≡ same (now (left .entry)) (now (right .entry)) ⌝ }
 {
     if left.len() != right.len() {
+        return false;
+    }
+    if starts_apart(left, right) {
         return false;
     }
     let mut k = left.len();

@@ -9,23 +9,26 @@ ghost use lib.Dec.{ltb};
 ghost use lib.ListN.{length, getD};
 ghost use Rattle.semantics.specs.Words.{area};
 ghost use Rattle.words.specs.Slots.{InArea};
-ghost use Rattle.storage.specs.Rows.{edgeRow};
+ghost use Rattle.storage.specs.Rows.{Blocks, edgeRow};
 ghost use Rattle.path.specs.Shadows.{shadowsEdges};
-ghost use Rattle.recorded.specs.Beatable.{HoldsGraph};
-ghost use Rattle.recorded.specs.EdgeLists.{beatenList, without, unbeatenLists};
-ghost use Rattle.recorded.specs.ResultSlots.{Lists, Leaves, edgesAt, listsAt, Fitting, AllFitting, markIf, Marked, MarkedLists, Keeps};
+ghost use Rattle.recorded.specs.Beatable.{HoldsGraph, Known};
+ghost use Rattle.recorded.specs.EdgeLists.{beatenList, beatenAt, without, unbeatenLists};
+ghost use Rattle.recorded.specs.ResultSlots.{Lists, Leaves, edgesAt, listsAt, Fitting, AllFitting, markIf, Marked, Marks, MarkedLists, Keeps};
 use crate::beatable;
 use crate::closing;
 use crate::lists;
 use path::shadows;
 use semantics::bounds::SLOT_WORDS;
+use storage::rows;
 
 // From so many paths on it is worth asking first whether a path can be shadowed at all.
 const MANY: usize = 32;
+// A word for each node that a graph may have.
+const NODES: usize = rows::NODES as usize;
 
 // Does the path in slot i shadow the path in slot j?
 fn shadows_slot(index: &[u32], result: &[u32], i: usize, j: usize) -> bool
-    requires { ⌜ length (now index) ≡ 28672 ⌝ }
+    requires { ⌜ Blocks (now index) ⌝ }
     requires { ⌜ Fitting 128 i (now result) × Fitting 128 j (now result) ⌝ }
     ensures { λ r. ⌜ r ≡ shadowsEdges (edgeRow (now (index .entry))) (edgesAt 128 i (now (result .entry))) (edgesAt 128 j (now (result .entry))) ⌝ }
 {
@@ -38,7 +41,7 @@ fn shadows_slot(index: &[u32], result: &[u32], i: usize, j: usize) -> bool
 
 // Does one of the n paths shadow the path in slot i? No path shadows itself.
 fn is_shadowed(index: &[u32], result: &[u32], n: usize, i: usize) -> bool
-    requires { ⌜ length (now index) ≡ 28672 ⌝ }
+    requires { ⌜ Blocks (now index) ⌝ }
     requires { ⌜ AllFitting 128 n (now result) × Fitting 128 i (now result) ⌝ }
     ensures { λ r. ⌜ r ≡ beatenList (shadowsEdges (edgeRow (now (index .entry)))) (edgesAt 128 i (now (result .entry))) (listsAt 128 n (now (result .entry))) ⌝ }
 {
@@ -51,17 +54,15 @@ fn is_shadowed(index: &[u32], result: &[u32], n: usize, i: usize) -> bool
 }
 
 // The same. Of many paths most are let off by their own edges alone, before they are compared with all others.
-fn judge(index: &[u32], result: &[u32], n: usize, i: usize) -> bool
+fn judge(index: &[u32], result: &[u32], best: &mut [u32], n: usize, i: usize) -> bool
     requires { ⌜ HoldsGraph (now index) ⌝ }
     requires { ⌜ AllFitting 128 n (now result) × Fitting 128 i (now result) ⌝ }
-    ensures { λ r. ⌜ r ≡ beatenList (shadowsEdges (edgeRow (now (index .entry)))) (edgesAt 128 i (now (result .entry))) (listsAt 128 n (now (result .entry))) ⌝ }
+    requires { ⌜ Known (now index) (now best) ⌝ }
+    ensures { λ r. ⌜ Known (now (index .entry)) (now (best .exit)) × (r ≡ beatenList (shadowsEdges (edgeRow (now (index .entry)))) (edgesAt 128 i (now (result .entry))) (listsAt 128 n (now (result .entry)))) ⌝ }
 {
-    if n < MANY {
-        return is_shadowed(index, result, n, i);
-    }
     let start = SLOT_WORDS * i + 1;
     let count = lists::edge_count(result, i);
-    if beatable::has_beatable(index, &result[start..start + count]) {
+    if beatable::has_beatable(index, best, &result[start..start + count]) {
         return is_shadowed(index, result, n, i);
     }
     false
@@ -78,16 +79,43 @@ fn mark_if(result: &mut [u32], i: usize, test: bool)
     }
 }
 
-// Each of the n slots that another one shadows is marked.
+// Each of the n slots that another one shadows is marked. Each path is compared with all others.
+fn mark_few(index: &[u32], result: &mut [u32], n: usize)
+    requires { ⌜ HoldsGraph (now index) ⌝ }
+    requires { ⌜ Lists 128 n (now result) ⌝ }
+    ensures { λ _. ⌜ Marks 128 n (beatenAt (shadowsEdges (edgeRow (now (index .entry))))) (now (result .entry)) (now (result .exit)) ⌝ }
+{
+    for i in 0..n {
+        let shadowed = is_shadowed(index, result, n, i);
+        mark_if(result, i, shadowed);
+    }
+}
+
+// The same. What is found out about a node for one path serves the others.
+fn mark_many(index: &[u32], result: &mut [u32], best: &mut [u32], n: usize)
+    requires { ⌜ HoldsGraph (now index) ⌝ }
+    requires { ⌜ Lists 128 n (now result) ⌝ }
+    requires { ⌜ Known (now index) (now best) ⌝ }
+    ensures { λ _. ⌜ Marks 128 n (beatenAt (shadowsEdges (edgeRow (now (index .entry))))) (now (result .entry)) (now (result .exit)) ⌝ }
+{
+    for i in 0..n {
+        let shadowed = judge(index, result, best, n, i);
+        mark_if(result, i, shadowed);
+    }
+}
+
+// The same. The words of the nodes are zeroed only where there are many paths: else that would take longer than comparing them.
 fn mark_shadowed(index: &[u32], result: &mut [u32], n: usize)
     requires { ⌜ HoldsGraph (now index) ⌝ }
     requires { ⌜ Lists 128 n (now result) ⌝ }
-    ensures { λ _. ⌜ (length (now (result .exit)) ≡ length (now (result .entry))) × ((k : Lists 128 n (now (result .entry))) → Marked 128 (λ (j : ℕ). beatenList (shadowsEdges (edgeRow (now (index .entry)))) (getD (k .lists) j []) (k .lists)) (k .lists) (now (result .exit))) ⌝ }
+    ensures { λ _. ⌜ Marks 128 n (beatenAt (shadowsEdges (edgeRow (now (index .entry))))) (now (result .entry)) (now (result .exit)) ⌝ }
 {
-    for i in 0..n {
-        let shadowed = judge(index, result, n, i);
-        mark_if(result, i, shadowed);
+    if n < MANY {
+        mark_few(index, result, n);
+        return;
     }
+    let mut best = [0u32; NODES];
+    mark_many(index, result, &mut best, n);
 }
 
 // Slot i becomes slot `to`, unless it is marked.

@@ -6,7 +6,7 @@ ghost use Rattle.semantics.specs.Image.{symbolBytes, checkImage};
 ghost use Rattle.semantics.specs.Recorded.{recorded, returned};
 ghost use Rattle.semantics.specs.Told.{toldResolution};
 ghost use Rattle.semantics.specs.Calls.{directCall};
-ghost use Rattle.storage.specs.Rows.{Loaded};
+ghost use Rattle.storage.specs.Rows.{Loaded, Takes};
 ghost use Rattle.path.specs.Shadows.Laws.{JumpAt};
 ghost use Rattle.recorded.specs.Beatable.{HoldsGraph};
 ghost use Rattle.recorded.specs.Replies.{replyOf};
@@ -191,7 +191,35 @@ pub fn search_loaded(
     conclude(index, driven, reply, work, result)
 }
 
-// The image is checked, then searched; a refused image leaves both areas zero.
+// The image is checked into the lent index, then searched; a refused image leaves both areas zero.
+fn search_in(
+    image: &[u8],
+    index: &mut [u32],
+    reference: u32,
+    order: SearchOrder,
+    limits: SearchLimits,
+    reply: Reply,
+    work: &mut [u32],
+    result: &mut [u32],
+) -> Resolution
+    requires { ⌜ Takes (now image) (now index) ⌝ }
+    ensures { λ r. ⌜ Does (directCall base (replyOf reply) (checkImage symbolBytes (now (image .entry))) (requestOf order limits (now (work .entry)) (now (result .entry)) reference)) r (now (work .exit)) (now (result .exit)) ⌝ }
+{
+    match check::load_fresh(image, index) {
+        Checked::Refused(r) => {
+            slots::zero(work);
+            slots::zero(result);
+            Resolution::Image(r)
+        }
+        Checked::Accepted {
+            files: _,
+            nodes: _,
+            edges: _,
+        } => search_loaded(index, reference, order, limits, reply, work, result),
+    }
+}
+
+// A small image gets a small index: zeroing a large one would take longer than the search.
 fn search_image(
     image: &[u8],
     reference: u32,
@@ -203,19 +231,30 @@ fn search_image(
 ) -> Resolution
     ensures { λ r. ⌜ Does (directCall base (replyOf reply) (checkImage symbolBytes (now (image .entry))) (requestOf order limits (now (work .entry)) (now (result .entry)) reference)) r (now (work .exit)) (now (result .exit)) ⌝ }
 {
-    let mut index = [0u32; rows::INDEX];
-    match check::load_fresh(image, &mut index) {
-        Checked::Refused(r) => {
-            slots::zero(work);
-            slots::zero(result);
-            Resolution::Image(r)
-        }
-        Checked::Accepted {
-            files: _,
-            nodes: _,
-            edges: _,
-        } => search_loaded(&index, reference, order, limits, reply, work, result),
+    if check::is_small(image) {
+        let mut index = [0u32; rows::SMALL];
+        return search_in(
+            image,
+            &mut index,
+            reference,
+            order,
+            limits,
+            reply,
+            work,
+            result,
+        );
     }
+    let mut index = [0u32; rows::INDEX];
+    search_in(
+        image,
+        &mut index,
+        reference,
+        order,
+        limits,
+        reply,
+        work,
+        result,
+    )
 }
 
 // Direct search from a reference, on any bytes and numbers: the returned paths.

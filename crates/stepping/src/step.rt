@@ -3,13 +3,11 @@
 // step j made. A scope list is only ever the scope stack plus one, so lists share their tails and nothing is copied.
 ghost use mathlib.Core.Path.{_≡_};
 ghost use Prim.Native.Nat.{_<_};
-ghost use lib.ListN.{length};
 ghost use Rattle.semantics.specs.Graph.{isExported};
-ghost use Rattle.storage.specs.Rows.{nodeRow, edgeRow};
+ghost use Rattle.storage.specs.Rows.{Blocks, nodeRow, edgeRow};
 ghost use Rattle.stepping.specs.Steps.{plainStep, pushStep, popOf, popScopedOf, jumpOf, pushScopedOf, askedScope, appliedOf};
 ghost use Rattle.stepping.specs.Judged.{begunOf, followed, completeStep};
 use crate::node::is_definition;
-use crate::node::is_exported;
 use crate::node::is_reference;
 use crate::node::is_removed;
 use semantics::graph::Edge;
@@ -151,14 +149,14 @@ pub fn applied(
     top: Step,
     over: Step,
 ) -> Effect
-    requires { ⌜ (k < 4294967295) × (length (now index) ≡ 28672) ⌝ }
+    requires { ⌜ (k < 4294967295) × Blocks (now index) ⌝ }
     ensures { λ r. ⌜ r ≡ appliedOf (isExported (nodeRow (now (index .entry)) (askedScope node over))) node target edge k last top over ⌝ }
 {
     match node {
         Node::Removed => Effect::Refused(PathRefusal::UnknownNode(NodeId(target))),
         Node::Root => Effect::Done(plain(edge, target, last.symbols, last.scopes)),
         Node::JumpToScope => {
-            let exported = is_exported(store::node(index, NodeId(over.scope)));
+            let exported = store::is_exported(index, NodeId(over.scope));
             jump(exported, target, edge, last, over)
         }
         Node::Scope {
@@ -181,7 +179,7 @@ pub fn applied(
             scope,
             reference: _,
         } => {
-            let exported = is_exported(store::node(index, scope));
+            let exported = store::is_exported(index, scope);
             push_scoped(exported, symbol, scope.0, target, edge, k, last)
         }
         Node::PopScoped {
@@ -195,7 +193,7 @@ pub fn applied(
 
 // What becomes of an edge behind `last`: 12, 13, or its target applied.
 pub fn follow(index: &[u32], edge: u32, k: u32, last: Step, top: Step, over: Step) -> Effect
-    requires { ⌜ (k < 4294967295) × (length (now index) ≡ 28672) ⌝ }
+    requires { ⌜ (k < 4294967295) × Blocks (now index) ⌝ }
     ensures { λ r. ⌜ r ≡ followed (nodeRow (now (index .entry))) edge k last top over (edgeRow (now (index .entry)) edge) ⌝ }
 {
     match store::edge(index, EdgeId(edge)) {
@@ -227,7 +225,7 @@ pub fn follow(index: &[u32], edge: u32, k: u32, last: Step, top: Step, over: Ste
 
 // Step 0 of a path: 10, 11, or the reference applied to empty stacks.
 pub fn begin(index: &[u32], reference: u32) -> Effect
-    requires { ⌜ length (now index) ≡ 28672 ⌝ }
+    requires { ⌜ Blocks (now index) ⌝ }
     ensures { λ r. ⌜ r ≡ begunOf (nodeRow (now (index .entry))) reference ⌝ }
 {
     let node = store::node(index, NodeId(reference));
@@ -243,7 +241,7 @@ pub fn begin(index: &[u32], reference: u32) -> Effect
 
 // Does a path that starts at a reference end here, at a definition with both stacks empty?
 pub fn is_complete(index: &[u32], s: Step) -> bool
-    requires { ⌜ length (now index) ≡ 28672 ⌝ }
+    requires { ⌜ Blocks (now index) ⌝ }
     ensures { λ r. ⌜ r ≡ completeStep (nodeRow (now (index .entry))) s ⌝ }
 {
     if s.symbols != 0 {

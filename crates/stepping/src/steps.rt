@@ -3,7 +3,7 @@
 ghost use mathlib.Core.Path.{_≡_};
 ghost use Prim.Native.Nat.{_+_, _*_, _≤_};
 ghost use lib.ListN.{length};
-ghost use Rattle.storage.specs.Rows.{nodeRow, edgeRow};
+ghost use Rattle.storage.specs.Rows.{Blocks, nodeRow, edgeRow};
 ghost use Rattle.stepping.specs.StepWords.{stepAt, withStep, makerIn};
 ghost use Rattle.stepping.specs.Judged.{Ready, judgedOf, wordsAfter};
 use crate::step::Effect;
@@ -55,7 +55,7 @@ pub fn maker(steps: &[u32], cell: u32) -> Step
 
 // Judges an edge on the path of k edges that stands in the steps.
 pub fn judge(index: &[u32], steps: &[u32], k: u32, edge: u32) -> Effect
-    requires { ⌜ (length (now index) ≡ 28672) × Ready (now steps) k ⌝ }
+    requires { ⌜ Blocks (now index) × Ready (now steps) k ⌝ }
     ensures { λ r. ⌜ r ≡ judgedOf (nodeRow (now (index .entry))) (now (steps .entry)) k edge (edgeRow (now (index .entry)) edge) ⌝ }
 {
     let last = get_step(steps, k as usize);
@@ -66,7 +66,7 @@ pub fn judge(index: &[u32], steps: &[u32], k: u32, edge: u32) -> Effect
 
 // Judges an edge, and adds its step where it is not refused.
 pub fn append(index: &[u32], steps: &mut [u32], k: u32, edge: u32) -> Effect
-    requires { ⌜ (length (now index) ≡ 28672) × Ready (now steps) k × (8 * (k + 1) + 8 ≤ length (now steps)) ⌝ }
+    requires { ⌜ Blocks (now index) × Ready (now steps) k × (8 * (k + 1) + 8 ≤ length (now steps)) ⌝ }
     ensures { λ r. ⌜ r ≡ judgedOf (nodeRow (now (index .entry))) (now (steps .entry)) k edge (edgeRow (now (index .entry)) edge) ⌝ }
     ensures { λ r. ⌜ now (steps .exit) ≡ wordsAfter (now (steps .entry)) (k + 1) r ⌝ }
 {

@@ -9,7 +9,7 @@ ghost use Rattle.semantics.specs.Recorded.{recorded, returned};
 ghost use Rattle.semantics.specs.Database.{filesOnly, checkDatabase};
 ghost use Rattle.semantics.specs.Told.{toldResolution};
 ghost use Rattle.semantics.specs.Calls.{onSlots, stitchedCall};
-ghost use Rattle.storage.specs.Rows.{Loaded};
+ghost use Rattle.storage.specs.Rows.{Loaded, Takes};
 ghost use Rattle.path.specs.Shadows.Laws.{JumpAt};
 ghost use Rattle.recorded.specs.Beatable.{HoldsGraph};
 ghost use Rattle.recorded.specs.Replies.{replyOf};
@@ -248,7 +248,47 @@ fn search_database(
     }
 }
 
-// The image is checked, then the database; a refused image leaves both areas zero.
+// The image is checked into the lent index, then the database; a refused image leaves both areas zero.
+fn search_in(
+    image: &[u8],
+    index: &mut [u32],
+    words: &[u32],
+    reference: u32,
+    order: SearchOrder,
+    limits: SearchLimits,
+    reply: Reply,
+    work: &mut [u32],
+    result: &mut [u32],
+) -> Resolution
+    requires { ⌜ Takes (now image) (now index) ⌝ }
+    ensures { λ r. ⌜ Does (stitchedCall base (replyOf reply) filesOnly (checkImage symbolBytes (now (image .entry))) (now (words .entry)) (requestOf order limits (now (work .entry)) (now (result .entry)) reference)) r (now (work .exit)) (now (result .exit)) ⌝ }
+{
+    match storage::check::load_fresh(image, index) {
+        Checked::Refused(r) => {
+            slots::zero(work);
+            slots::zero(result);
+            Resolution::Image(r)
+        }
+        Checked::Accepted {
+            files,
+            nodes,
+            edges: _,
+        } => search_database(
+            index,
+            words,
+            nodes,
+            files,
+            reference,
+            order,
+            limits,
+            reply,
+            work,
+            result,
+        ),
+    }
+}
+
+// A small image gets a small index: zeroing a large one would take longer than the search.
 fn search_image(
     image: &[u8],
     words: &[u32],
@@ -261,30 +301,32 @@ fn search_image(
 ) -> Resolution
     ensures { λ r. ⌜ Does (stitchedCall base (replyOf reply) filesOnly (checkImage symbolBytes (now (image .entry))) (now (words .entry)) (requestOf order limits (now (work .entry)) (now (result .entry)) reference)) r (now (work .exit)) (now (result .exit)) ⌝ }
 {
-    let mut index = [0u32; rows::INDEX];
-    match storage::check::load_fresh(image, &mut index) {
-        Checked::Refused(r) => {
-            slots::zero(work);
-            slots::zero(result);
-            Resolution::Image(r)
-        }
-        Checked::Accepted {
-            files,
-            nodes,
-            edges: _,
-        } => search_database(
-            &index,
+    if storage::check::is_small(image) {
+        let mut index = [0u32; rows::SMALL];
+        return search_in(
+            image,
+            &mut index,
             words,
-            nodes,
-            files,
             reference,
             order,
             limits,
             reply,
             work,
             result,
-        ),
+        );
     }
+    let mut index = [0u32; rows::INDEX];
+    search_in(
+        image,
+        &mut index,
+        words,
+        reference,
+        order,
+        limits,
+        reply,
+        work,
+        result,
+    )
 }
 
 // Stitched search from a reference, on any bytes, words and numbers: the returned paths.

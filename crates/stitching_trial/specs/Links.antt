@@ -4,13 +4,13 @@ use Prim.Native.Nat.{ℕ, suc, _+_, _<_, _≤_}
 use mathlib.Core.Path.{_≡_}
 use mathlib.Core.Bool.{true}
 use mathlib.Core.List.{List, [], _∷_}
-use lib.Dec.{eqb}
+use lib.Dec.{eqb, ltb}
 use lib.ListN.{length, getD, set, drop}
-use Rattle.semantics.specs.Lists.{consIf}
+use Rattle.semantics.specs.Lists.{pick, consIf}
 use Rattle.semantics.specs.Limits.{base}
 use Rattle.semantics.specs.PartialPaths.{Slot, dead, slot}
 use Rattle.semantics.specs.Database.{nodesIn, filesOnly, slotsIn, wellFormed}
-use Rattle.storage.specs.Rows.{NODES, cell}
+use Rattle.storage.specs.Rows.{NODES}
 use Rattle.database.specs.Records.{InWords, countWord}
 pub mod Laws
 
@@ -23,6 +23,10 @@ NEXT = 2048
 
 abbrev pub LINKS : ℕ
 LINKS = 6144
+
+-- word n of the row that stands from `from` on and has `width` words; 0 behind it
+unfoldable pub cell : List ℕ → ℕ → ℕ → ℕ → ℕ
+cell links from width n = pick (ltb n width) (getD links (from + n) 0) 0
 
 -- a link is a record's number plus 1; 0 is none
 abbrev pub firstLink : List ℕ → ℕ → ℕ

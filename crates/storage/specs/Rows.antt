@@ -3,16 +3,17 @@
 use Prim.Native.Nat.{ℕ, _+_, _≤_}
 use mathlib.Core.Path.{_≡_}
 use mathlib.Core.List.{List, [], _∷_}
-use lib.ListN.{length, getD, set}
+use lib.ListN.{length}
 use Rattle.semantics.specs.Graph.{Graph, viewOf}
--- the rows themselves are those that the pass over the image fills; crates above find both here
-pub use Rattle.image.specs.Rows.{NODES, EDGES, KIND, FIRST, SOURCE, FLAG, FILE, SYMBOL, SCOPE, TARGET, NEXT, PRECEDENCE, INDEX, firstRow, Fresh}
-unfoldable pub use Rattle.image.specs.Rows.{cell, nodeOf, edgeOf, nodeRow, edgeRow}
+use Rattle.image.specs.Records.{Headed, Room}
+-- the blocks themselves are those that the pass over the image fills; crates above find both here
+pub use Rattle.image.specs.Rows.{NODES, EDGES, BLOCK, KIND, FLAG, FILE, SYMBOL, SCOPE, FIRST, SOURCE, TARGET, NEXT, PRECEDENCE, INDEX, FEW, SMALL, Blocks, firstRow, Fresh}
+unfoldable pub use Rattle.image.specs.Rows.{cell, nodeOf, edgeOf, nodeRow, edgeRow, put}
 pub mod Laws
 pub mod Use
 
 abbrev pub nextRow : List ℕ → ℕ → ℕ
-nextRow index e = cell index NEXT EDGES e
+nextRow index e = cell index NEXT e
 
 -- following the links from `link` on runs over just these edges
 abbrev pub Runs : List ℕ → ℕ → List ℕ → Type 0
@@ -21,13 +22,19 @@ Runs index link (e ∷ es) = (link ≡ e + 1) × Runs index (nextRow index e) es
 
 -- the index holds the graph
 pub record Loaded (g : Graph) (index : List ℕ) : Type 0 where
-  pub long : length index ≡ INDEX
+  pub long : Blocks index
   pub node : (n : ℕ) → nodeRow index n ≡ (viewOf g) .node n
   pub edge : (e : ℕ) → edgeRow index e ≡ (viewOf g) .edge e
   pub runs : (n : ℕ) → Runs index (firstRow index n) ((viewOf g) .out n)
   pub nodes : length (g .nodes) ≤ NODES
   pub edges : length (g .edges) ≤ EDGES
 
+-- an index that takes an image: there is nothing in it yet, and for an accepted header it has a block for each node and each edge
+pub record Takes (im index : List ℕ) : Type 0 where
+  pub fresh : Fresh index
+  pub room : Headed im → Room im index
+
 -- the edge is put in front of those that leave its source s
 unfoldable pub putLink : ℕ → ℕ → List ℕ → List ℕ
-putLink e s index = set (set index (NEXT + e) (getD index (FIRST + s) 0)) (FIRST + s) (e + 1)
+unfolding cell put
+putLink e s index = put FIRST s (e + 1) (put NEXT e (cell index FIRST s) index)

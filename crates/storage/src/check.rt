@@ -1,19 +1,20 @@
 // The check of a whole image, and the index of the graph that it holds.
 // Document 01, "Turned back": size and length as 2, then 1, 3, the records in order, bytes left over, and last 5 in record order.
 ghost use mathlib.Core.Path.{_≡_};
-ghost use Prim.Native.Nat.{ℕ, _<_};
+ghost use mathlib.Core.Bool.{true};
+ghost use Prim.Native.Nat.{ℕ, _<_, _≤_};
 ghost use lib.ListN.{length};
 ghost use Rattle.semantics.specs.declared.answer.Checked.the-variants as Checked;
 ghost use Rattle.semantics.specs.declared.refusal.ImageRefusal.the-variants as Image;
 ghost use Rattle.semantics.specs.Answer.{ok};
 ghost use Rattle.semantics.specs.Calls.{checkCall};
 ghost use Rattle.semantics.specs.Graph.{Graph};
-ghost use Rattle.semantics.specs.Image.{symbolBytes, firstRecord, header, placeOf, graphOf, checkImage};
+ghost use Rattle.semantics.specs.Image.{symbolBytes, firstRecord, header, nodesOf, edgesOf, placeOf, graphOf, checkImage};
 ghost use Rattle.semantics.specs.Told.{toldChecked};
 ghost use Rattle.storage.specs.Checks.{referencesOf};
 ghost use Rattle.image.specs.Filling.{Held};
-ghost use Rattle.image.specs.Records.{Headed};
-ghost use Rattle.storage.specs.Rows.{INDEX, Fresh, Loaded};
+ghost use Rattle.image.specs.Records.{Headed, Room};
+ghost use Rattle.storage.specs.Rows.{INDEX, FEW, Takes, Loaded};
 use crate::links;
 use crate::refs;
 use crate::rows;
@@ -37,6 +38,7 @@ fn misfit(image: &[u8], from: usize, k: u32) -> Checked
 fn refer(image: &[u8], index: &mut [u32]) -> Checked
     requires { ⌜ Headed (now image) ⌝ }
     requires { ⌜ Held (graphOf symbolBytes (now image)) (now index) ⌝ }
+    requires { ⌜ Room (now image) (now index) ⌝ }
     ensures { λ r. ⌜ r ≡ checkCall (referencesOf (now (image .entry))) ⌝ }
     ensures { λ r. ⌜ ((g : Graph) → referencesOf (now (image .entry)) ≡ ok g → Loaded g (now (index .exit))) ⌝ }
 {
@@ -61,7 +63,7 @@ fn refer(image: &[u8], index: &mut [u32]) -> Checked
 // The records in order, bytes left over, what the records refer to.
 fn read(image: &[u8], index: &mut [u32]) -> Checked
     requires { ⌜ header (now image) ≡ ok firstRecord ⌝ }
-    requires { ⌜ Fresh (now index) ⌝ }
+    requires { ⌜ Takes (now image) (now index) ⌝ }
     ensures { λ r. ⌜ r ≡ checkCall (checkImage symbolBytes (now (image .entry))) ⌝ }
     ensures { λ r. ⌜ ((g : Graph) → checkImage symbolBytes (now (image .entry)) ≡ ok g → Loaded g (now (index .exit))) ⌝ }
 {
@@ -78,7 +80,7 @@ fn read(image: &[u8], index: &mut [u32]) -> Checked
 
 // The check into a fresh index: where the image is accepted, the index then holds its graph.
 pub fn load_fresh(image: &[u8], index: &mut [u32]) -> Checked
-    requires { ⌜ Fresh (now index) ⌝ }
+    requires { ⌜ Takes (now image) (now index) ⌝ }
     ensures { λ r. ⌜ r ≡ checkCall (checkImage symbolBytes (now (image .entry))) ⌝ }
     ensures { λ r. ⌜ ((g : Graph) → checkImage symbolBytes (now (image .entry)) ≡ ok g → Loaded g (now (index .exit))) ⌝ }
 {
@@ -88,7 +90,7 @@ pub fn load_fresh(image: &[u8], index: &mut [u32]) -> Checked
     }
 }
 
-// The same into an index with any words.
+// The same into a large index with any words.
 pub fn load(image: &[u8], index: &mut [u32]) -> Checked
     requires { ⌜ length (now index) ≡ INDEX ⌝ }
     ensures { λ r. ⌜ r ≡ checkCall (checkImage symbolBytes (now (image .entry))) ⌝ }
@@ -98,10 +100,30 @@ pub fn load(image: &[u8], index: &mut [u32]) -> Checked
     load_fresh(image, index)
 }
 
-// The check of any bytes.
+// Does a small index take the image? Asked of any bytes, before they are checked.
+pub fn is_small(image: &[u8]) -> bool
+    ensures { λ r. ⌜ (r ≡ true → (nodesOf (now (image .entry)) ≤ FEW) × (edgesOf (now (image .entry)) ≤ FEW)) ⌝ }
+{
+    if image.len() < header::FIRST_RECORD {
+        return false;
+    }
+    if rows::FEW < header::nodes(image) {
+        return false;
+    }
+    if rows::FEW < header::edges(image) {
+        return false;
+    }
+    true
+}
+
+// The check of any bytes. A small image gets a small index: zeroing a large one would take longer than the check.
 pub fn check(image: &[u8]) -> Checked
     ensures { λ r. ⌜ toldChecked r ≡ toldChecked (checkCall (checkImage symbolBytes (now (image .entry)))) ⌝ }
 {
+    if is_small(image) {
+        let mut index = [0u32; rows::SMALL];
+        return load_fresh(image, &mut index);
+    }
     let mut index = [0u32; rows::INDEX];
     load_fresh(image, &mut index)
 }

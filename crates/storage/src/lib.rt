@@ -4,5 +4,5 @@ pub mod check;
 pub mod links;
 pub mod refs;
 pub mod store;
-// The rows of the index that `image` fills and `store` reads.
+// The blocks of the index that `image` fills and `store` reads.
 pub use image::rows;

@@ -1,34 +1,34 @@
 // The outgoing edges of each node, linked from the last edge down, so that each list ascends.
 // Document 01, "Graph image": `outgoing` of a node means its live edges by ascending number.
 ghost use mathlib.Core.Path.{_≡_};
-ghost use Prim.Native.Nat.{ℕ, _+_, _<_, _≤_};
+ghost use Prim.Native.Nat.{ℕ, _+_, _*_, _<_, _≤_};
 ghost use lib.ListN.{length};
 ghost use Rattle.semantics.specs.Graph.{Graph};
-ghost use Rattle.storage.specs.Rows.{EDGES, INDEX, Loaded};
+ghost use Rattle.storage.specs.Rows.{EDGES, BLOCK, Blocks, Loaded};
 ghost use Rattle.storage.specs.Links.{Linked};
 ghost use Rattle.storage.specs.References.{Sources};
 use crate::rows;
 
 // A live edge goes in front of the edges of its source that are linked already.
 fn link_one(index: &mut [u32], e: u32)
-    requires { ⌜ length (now index) ≡ INDEX ⌝ }
-    requires { ⌜ e < EDGES ⌝ }
+    requires { ⌜ Blocks (now index) ⌝ }
+    requires { ⌜ (e < EDGES) × (BLOCK * e < length (now index)) ⌝ }
     requires { ⌜ Sources (now index) ⌝ }
     ensures { λ _. ⌜ Sources (now (index .exit)) ⌝ }
     ensures { λ _. ⌜ ((g : Graph) → e < length (g .edges) → Linked g (now (index .entry)) (e + 1) → Linked g (now (index .exit)) e) ⌝ }
 {
-    let k = e as usize;
-    let source = index[rows::SOURCE + k];
+    let at = rows::BLOCK * e as usize;
+    let source = index[at + rows::SOURCE];
     if 0 < source {
-        let s = (source - 1) as usize;
-        index[rows::NEXT + k] = index[rows::FIRST + s];
-        index[rows::FIRST + s] = e + 1;
+        let from = rows::BLOCK * (source - 1) as usize;
+        index[at + rows::NEXT] = index[from + rows::FIRST];
+        index[from + rows::FIRST] = e + 1;
     }
 }
 
 pub fn link(index: &mut [u32], count: u32)
-    requires { ⌜ length (now index) ≡ INDEX ⌝ }
-    requires { ⌜ count ≤ EDGES ⌝ }
+    requires { ⌜ Blocks (now index) ⌝ }
+    requires { ⌜ (count ≤ EDGES) × (BLOCK * count ≤ length (now index)) ⌝ }
     requires { ⌜ Sources (now index) ⌝ }
     ensures { λ _. ⌜ ((g : Graph) → length (g .edges) ≡ count → Linked g (now (index .entry)) count → Loaded g (now (index .exit))) ⌝ }
 {

@@ -2,12 +2,13 @@
 -- Document 01, "Answer": "A result slot is 128 words of 32 bits .. Waiting paths are held likewise".
 use mathlib.Core.Path.{_≡_}
 use mathlib.Core.List.{List, _++_, flatten}
-use Prim.Native.Nat.{ℕ, _+_, _*_, _≤_, _<_}
+use Prim.Native.Nat.{ℕ, _+_, _-_, _*_, _≤_, _<_}
 use lib.ListN.{length, take, drop}
-use Rattle.semantics.specs.Words.{slotsOf}
+use Rattle.semantics.specs.Words.{zeros, slotsOf}
 use Rattle.words.specs.Reversal.{revRange}
 pub mod Laws
 pub mod Reversed
+pub mod Wider
 
 -- slot i lies in the area
 abbrev pub InArea : ℕ → ℕ → List ℕ → Type 0
@@ -42,3 +43,7 @@ swapSlots L i j ws = putSlot L j (slotAt L i ws) (putSlot L i (slotAt L j ws) ws
 unfoldable pub reverseSlots : ℕ → ℕ → ℕ → List ℕ → List ℕ
 unfolding slotsOf revRange flatten
 reverseSlots L lo n ws = flatten (revRange lo n (slotsOf L (lo + n) ws)) ++ drop (L * (lo + n)) ws
+
+-- the words of a slot in a longer one, with zeros behind
+abbrev pub padded : ℕ → List ℕ → List ℕ
+padded L s = s ++ zeros (L - length s)

@@ -1,10 +1,11 @@
 // Slots in a word area that the caller lends: cleared, written, read, copied, exchanged and turned round. The slot length is an argument.
 // Document 01, "Answer": "A result slot is 128 words of 32 bits: edge count, edges, zeros", "Waiting paths are held likewise".
 ghost use mathlib.Core.Path.{_≡_};
-ghost use Prim.Native.Nat.{_+_, _<_};
-ghost use lib.ListN.{length};
-ghost use Rattle.semantics.specs.Words.{zeros, encode};
-ghost use Rattle.words.specs.Slots.{InArea, SlotsIn, IsSlot, Room, slotAt, putSlot, swapSlots, reverseSlots};
+ghost use mathlib.Core.List.{_++_, map};
+ghost use Prim.Native.Nat.{_+_, _≤_, _<_};
+ghost use lib.ListN.{length, drop};
+ghost use Rattle.semantics.specs.Words.{zeros, encode, slotsOf};
+ghost use Rattle.words.specs.Slots.{InArea, SlotsIn, IsSlot, Room, slotAt, putSlot, swapSlots, reverseSlots, padded};
 
 // Every word becomes 0.
 pub fn zero(area: &mut [u32])
@@ -112,5 +113,29 @@ pub fn reverse_slots(area: &mut [u32], length: usize, lo: usize, n: usize)
         swap_slots(area, length, at, at + 1 + between);
         at += 1;
         left = between;
+    }
+}
+
+// Slot i of the short ones becomes slot i of the long ones: its words go into the front of the lent slot, and that is written.
+fn widen_slot(area: &mut [u32], short: usize, length: usize, i: usize, slot: &mut [u32])
+    requires { ⌜ InArea short i (now area) × InArea length i (now area) × IsSlot length (now slot) × (short ≤ length) ⌝ }
+    ensures { λ _. ⌜ now (slot .exit) ≡ slotAt short i (now (area .entry)) ++ drop short (now (slot .entry)) ⌝ }
+    ensures { λ _. ⌜ now (area .exit) ≡ putSlot length i (slotAt short i (now (area .entry)) ++ drop short (now (slot .entry))) (now (area .entry)) ⌝ }
+{
+    read_slot(area, short, i, &mut slot[0..short]);
+    write_slot(area, length, i, slot);
+}
+
+// The first n slots get more words each, with zeros behind. From the last one down, so that none is overwritten before it is read: a longer
+// slot stands no lower than the shorter one of its number.
+pub fn widen_slots(area: &mut [u32], short: usize, length: usize, n: usize, slot: &mut [u32])
+    requires { ⌜ SlotsIn length n (now area) × IsSlot length (now slot) × (short ≤ length) ⌝ }
+    ensures { λ _. ⌜ slotsOf length n (now (area .exit)) ≡ map (padded length) (slotsOf short n (now (area .entry))) ⌝ }
+{
+    zero(slot);
+    let mut i = n;
+    while 0 < i {
+        i -= 1;
+        widen_slot(area, short, length, i, slot);
     }
 }

@@ -1,18 +1,18 @@
 -- One record more in an index.
 -- Serves document 01, "Graph image": each word is a field of its record.
-use Prim.Native.Nat.{ℕ, _+_, _<_, _≤_}
+use Prim.Native.Nat.{ℕ, _+_, _*_, _<_, _≤_}
 use native.Mathlib.Omega.{arith}
 use native.Mathlib.Decide.{decLt, ℕ-discrete}
-use mathlib.Core.Path.{_≡_, sym, ap, _∙_}
+use mathlib.Core.Path.{_≡_, sym, _∙_}
 use mathlib.Core.List.{List}
 use borrow.Author.Tests.{lt-ltb, le-ltb}
-use lib.ListN.{length, getD, set, length-set}
+use lib.ListN.{length, length-set}
 use Rattle.semantics.specs.declared.graph.Node.{Node}
 use Rattle.semantics.specs.declared.graph.Node.the-variants as N
 use Rattle.semantics.specs.declared.graph.Edge.{Edge}
 use Rattle.semantics.specs.declared.graph.Edge.the-variants as E
-use Rattle.image.specs.Rows.{NODES, EDGES, KIND, FIRST, SOURCE, CLEARED, FLAG, FILE, SYMBOL, SCOPE, TARGET, PRECEDENCE, INDEX, cell, nodeOf, edgeOf, nodeRow, edgeRow, firstRow, Fresh, putNode, putEdge}
-use Rattle.image.specs.Rows.Laws.{cell-in, cell-out, cell-same, cell-other}
+use Rattle.image.specs.Rows.{BLOCK, KIND, FLAG, FILE, SYMBOL, SCOPE, FIRST, SOURCE, TARGET, PRECEDENCE, Blocks, cell, nodeOf, edgeOf, nodeRow, edgeRow, firstRow, Fresh, put, putNode, putEdge}
+use Rattle.image.specs.Rows.Laws.{cell-same, cell-other}
 use Rattle.image.specs.Filling.{upto, Filled}
 
 -- one more of a sequence
@@ -35,78 +35,78 @@ filled-as l f d k = record { long = k .long; node = λ n. k .node n ∙ f n; edg
 
 -- A FRESH INDEX
 module _ (l : List ℕ) (f : Fresh l) where
-  clear-cell : (base width n : ℕ) → base + width ≤ CLEARED → cell l base width n ≡ 0
-  clear-cell base width n h = go (decLt n width)
-    where
-      go : Dec (n < width) → cell l base width n ≡ 0
-      go (yes p) = cell-in l base width n p ∙ ap (λ (i : ℕ). getD l i 0) (let z : base + n ≡ KIND + (base + n) = omega arith in z) ∙ f .clear (base + n) (omega arith)
-      go (no p) = cell-out l base width n (omega arith)
+  clear-cell : (row n : ℕ) → cell l row n ≡ 0
+  unfolding cell
+  clear-cell row n = f .clear (BLOCK * n + row)
 
   pub cleared : Filled (λ n. N.Removed) (λ e. E.Removed) l
   unfolding nodeRow nodeOf edgeRow edgeOf
   cleared = record {
     long = f .long;
-    node = λ n. rw (clear-cell KIND NODES n (omega arith));
-    edge = λ e. rw (clear-cell SOURCE EDGES e (omega arith));
-    kinds = λ n. rw (clear-cell KIND NODES n (omega arith)) (omega arith);
-    unlinked = λ n. clear-cell FIRST NODES n (omega arith);
+    node = λ n. rw (clear-cell KIND n);
+    edge = λ e. rw (clear-cell SOURCE e);
+    kinds = λ n. rw (clear-cell KIND n) (omega arith);
+    unlinked = λ n. clear-cell FIRST n;
   }
 
 -- ONE NODE MORE
-module _ (l : List ℕ) (long : length l ≡ INDEX) (n kind flag file symbol scope : ℕ) (h : n < NODES) where
+module _ (l : List ℕ) (long : Blocks l) (n kind flag file symbol scope : ℕ) (h : BLOCK * n < length l) where
   a1 : List ℕ
-  a1 = set l (KIND + n) kind
+  a1 = put KIND n kind l
 
   a2 : List ℕ
   unfolding a1
-  a2 = set a1 (FLAG + n) flag
+  a2 = put FLAG n flag a1
 
   a3 : List ℕ
   unfolding a2
-  a3 = set a2 (FILE + n) file
+  a3 = put FILE n file a2
 
   a4 : List ℕ
   unfolding a3
-  a4 = set a3 (SYMBOL + n) symbol
+  a4 = put SYMBOL n symbol a3
 
-  put-long : length (putNode n kind flag file symbol scope l) ≡ INDEX
+  put-long : Blocks (putNode n kind flag file symbol scope l)
   unfolding putNode
   put-long = simp length-set long
 
-  -- a word that is none of the five
-  put-other : (base width m : ℕ) → (m < width → base + m ≡ KIND + n → ⊥) → (m < width → base + m ≡ FLAG + n → ⊥) → (m < width → base + m ≡ FILE + n → ⊥)
-      → (m < width → base + m ≡ SYMBOL + n → ⊥) → (m < width → base + m ≡ SCOPE + n → ⊥) → cell (putNode n kind flag file symbol scope l) base width m ≡ cell l base width m
+  -- a word that is none of the five: one of another block, or one of the words behind them
+  put-apart : (row m : ℕ) → row < BLOCK → (m ≡ n → ⊥) → cell (putNode n kind flag file symbol scope l) row m ≡ cell l row m
   unfolding a1 a2 a3 a4 putNode
-  put-other base width m p q r s t =
-      cell-other a4 base width m (SCOPE + n) scope t ∙ cell-other a3 base width m (SYMBOL + n) symbol s ∙ cell-other a2 base width m (FILE + n) file r
-      ∙ cell-other a1 base width m (FLAG + n) flag q ∙ cell-other l base width m (KIND + n) kind p
+  put-apart row m b d =
+      cell-other a4 row m SCOPE n scope (λ x. d (omega arith)) ∙ cell-other a3 row m SYMBOL n symbol (λ x. d (omega arith)) ∙ cell-other a2 row m FILE n file (λ x. d (omega arith))
+      ∙ cell-other a1 row m FLAG n flag (λ x. d (omega arith)) ∙ cell-other l row m KIND n kind (λ x. d (omega arith))
 
-  put-kind : cell (putNode n kind flag file symbol scope l) KIND NODES n ≡ kind
+  put-behind : (row m : ℕ) → SCOPE < row → row < BLOCK → cell (putNode n kind flag file symbol scope l) row m ≡ cell l row m
+  unfolding a1 a2 a3 a4 putNode
+  put-behind row m a b =
+      cell-other a4 row m SCOPE n scope (λ x. omega arith) ∙ cell-other a3 row m SYMBOL n symbol (λ x. omega arith) ∙ cell-other a2 row m FILE n file (λ x. omega arith)
+      ∙ cell-other a1 row m FLAG n flag (λ x. omega arith) ∙ cell-other l row m KIND n kind (λ x. omega arith)
+
+  put-kind : cell (putNode n kind flag file symbol scope l) KIND n ≡ kind
   unfolding a1 a2 a3 a4 putNode
   put-kind =
-      cell-other a4 KIND NODES n (SCOPE + n) scope (λ x y. omega arith) ∙ cell-other a3 KIND NODES n (SYMBOL + n) symbol (λ x y. omega arith)
-      ∙ cell-other a2 KIND NODES n (FILE + n) file (λ x y. omega arith) ∙ cell-other a1 KIND NODES n (FLAG + n) flag (λ x y. omega arith)
-      ∙ cell-same l KIND NODES n kind h (omega arith)
+      cell-other a4 KIND n SCOPE n scope (λ x. omega arith) ∙ cell-other a3 KIND n SYMBOL n symbol (λ x. omega arith) ∙ cell-other a2 KIND n FILE n file (λ x. omega arith)
+      ∙ cell-other a1 KIND n FLAG n flag (λ x. omega arith) ∙ cell-same l KIND n kind (omega arith)
 
-  put-flag : cell (putNode n kind flag file symbol scope l) FLAG NODES n ≡ flag
+  put-flag : cell (putNode n kind flag file symbol scope l) FLAG n ≡ flag
   unfolding a1 a2 a3 a4 putNode
   put-flag =
-      cell-other a4 FLAG NODES n (SCOPE + n) scope (λ x y. omega arith) ∙ cell-other a3 FLAG NODES n (SYMBOL + n) symbol (λ x y. omega arith)
-      ∙ cell-other a2 FLAG NODES n (FILE + n) file (λ x y. omega arith) ∙ cell-same a1 FLAG NODES n flag h (simp length-set (omega arith))
+      cell-other a4 FLAG n SCOPE n scope (λ x. omega arith) ∙ cell-other a3 FLAG n SYMBOL n symbol (λ x. omega arith) ∙ cell-other a2 FLAG n FILE n file (λ x. omega arith)
+      ∙ cell-same a1 FLAG n flag (simp length-set (omega arith))
 
-  put-file : cell (putNode n kind flag file symbol scope l) FILE NODES n ≡ file
+  put-file : cell (putNode n kind flag file symbol scope l) FILE n ≡ file
   unfolding a1 a2 a3 a4 putNode
   put-file =
-      cell-other a4 FILE NODES n (SCOPE + n) scope (λ x y. omega arith) ∙ cell-other a3 FILE NODES n (SYMBOL + n) symbol (λ x y. omega arith)
-      ∙ cell-same a2 FILE NODES n file h (simp length-set (omega arith))
+      cell-other a4 FILE n SCOPE n scope (λ x. omega arith) ∙ cell-other a3 FILE n SYMBOL n symbol (λ x. omega arith) ∙ cell-same a2 FILE n file (simp length-set (omega arith))
 
-  put-symbol : cell (putNode n kind flag file symbol scope l) SYMBOL NODES n ≡ symbol
+  put-symbol : cell (putNode n kind flag file symbol scope l) SYMBOL n ≡ symbol
   unfolding a1 a2 a3 a4 putNode
-  put-symbol = cell-other a4 SYMBOL NODES n (SCOPE + n) scope (λ x y. omega arith) ∙ cell-same a3 SYMBOL NODES n symbol h (simp length-set (omega arith))
+  put-symbol = cell-other a4 SYMBOL n SCOPE n scope (λ x. omega arith) ∙ cell-same a3 SYMBOL n symbol (simp length-set (omega arith))
 
-  put-scope : cell (putNode n kind flag file symbol scope l) SCOPE NODES n ≡ scope
+  put-scope : cell (putNode n kind flag file symbol scope l) SCOPE n ≡ scope
   unfolding a1 a2 a3 a4 putNode
-  put-scope = cell-same a4 SCOPE NODES n scope h (simp length-set (omega arith))
+  put-scope = cell-same a4 SCOPE n scope (simp length-set (omega arith))
 
   put-here : nodeRow (putNode n kind flag file symbol scope l) n ≡ nodeOf kind flag file symbol scope
   unfolding nodeRow
@@ -115,38 +115,25 @@ module _ (l : List ℕ) (long : length l ≡ INDEX) (n kind flag file symbol sco
   put-else : (m : ℕ) → (m ≡ n → ⊥) → nodeRow (putNode n kind flag file symbol scope l) m ≡ nodeRow l m
   unfolding nodeRow
   put-else m d =
-      rw (
-        put-other KIND NODES m (λ x y. d (omega arith)) (λ x y. omega arith) (λ x y. omega arith) (λ x y. omega arith) (λ x y. omega arith),
-        put-other FLAG NODES m (λ x y. omega arith) (λ x y. d (omega arith)) (λ x y. omega arith) (λ x y. omega arith) (λ x y. omega arith),
-        put-other FILE NODES m (λ x y. omega arith) (λ x y. omega arith) (λ x y. d (omega arith)) (λ x y. omega arith) (λ x y. omega arith),
-        put-other SYMBOL NODES m (λ x y. omega arith) (λ x y. omega arith) (λ x y. omega arith) (λ x y. d (omega arith)) (λ x y. omega arith),
-        put-other SCOPE NODES m (λ x y. omega arith) (λ x y. omega arith) (λ x y. omega arith) (λ x y. omega arith) (λ x y. d (omega arith)),
-      )
+      rw (put-apart KIND m (omega arith) d, put-apart FLAG m (omega arith) d, put-apart FILE m (omega arith) d, put-apart SYMBOL m (omega arith) d, put-apart SCOPE m (omega arith) d)
 
   -- what is no node stays
-  put-edge-cell : (base m : ℕ) → (m < EDGES → base + m ≡ KIND + n → ⊥) → SCOPE + NODES ≤ base → cell (putNode n kind flag file symbol scope l) base EDGES m ≡ cell l base EDGES m
-  put-edge-cell base m d e = put-other base EDGES m d (λ x y. omega arith) (λ x y. omega arith) (λ x y. omega arith) (λ x y. omega arith)
-
   put-edges : (e : ℕ) → edgeRow (putNode n kind flag file symbol scope l) e ≡ edgeRow l e
   unfolding edgeRow
   put-edges e =
-      rw (
-        put-other SOURCE EDGES e (λ x y. omega arith) (λ x y. omega arith) (λ x y. omega arith) (λ x y. omega arith) (λ x y. omega arith),
-        put-edge-cell TARGET e (λ x y. omega arith) (omega arith),
-        put-edge-cell PRECEDENCE e (λ x y. omega arith) (omega arith),
-      )
+      rw (put-behind SOURCE e (omega arith) (omega arith), put-behind TARGET e (omega arith) (omega arith), put-behind PRECEDENCE e (omega arith) (omega arith))
 
   put-firsts : (m : ℕ) → firstRow (putNode n kind flag file symbol scope l) m ≡ firstRow l m
-  put-firsts m = put-other FIRST NODES m (λ x y. omega arith) (λ x y. omega arith) (λ x y. omega arith) (λ x y. omega arith) (λ x y. omega arith)
+  put-firsts m = put-behind FIRST m (omega arith) (omega arith)
 
-  put-kinds : kind < 9 → ((m : ℕ) → cell l KIND NODES m < 9) → (m : ℕ) → cell (putNode n kind flag file symbol scope l) KIND NODES m < 9
+  put-kinds : kind < 9 → ((m : ℕ) → cell l KIND m < 9) → (m : ℕ) → cell (putNode n kind flag file symbol scope l) KIND m < 9
   put-kinds k s m = go (ℕ-discrete m n)
     where
-      go : Dec (m ≡ n) → cell (putNode n kind flag file symbol scope l) KIND NODES m < 9
+      go : Dec (m ≡ n) → cell (putNode n kind flag file symbol scope l) KIND m < 9
       go (yes e) = rw e (rw put-kind k)
-      go (no d) = rw (put-other KIND NODES m (λ x y. d (omega arith)) (λ x y. omega arith) (λ x y. omega arith) (λ x y. omega arith) (λ x y. omega arith)) (s m)
+      go (no d) = rw (put-apart KIND m (omega arith) d) (s m)
 
-pub filled-node : (l : List ℕ) (f : ℕ → Node) (E : ℕ → Edge) (n kind flag file symbol scope : ℕ) → n < NODES → kind < 9 → nodeOf kind flag file symbol scope ≡ f n
+pub filled-node : (l : List ℕ) (f : ℕ → Node) (E : ℕ → Edge) (n kind flag file symbol scope : ℕ) → BLOCK * n < length l → kind < 9 → nodeOf kind flag file symbol scope ≡ f n
     → Filled (upto n f N.Removed) E l → Filled (upto (n + 1) f N.Removed) E (putNode n kind flag file symbol scope l)
 filled-node l f E n kind flag file symbol scope h k e d = record {
   long = put-long l (d .long) n kind flag file symbol scope h;
@@ -161,38 +148,41 @@ filled-node l f E n kind flag file symbol scope h k e d = record {
     go m (no q) = put-else l (d .long) n kind flag file symbol scope h m q ∙ d .node m ∙ sym (upto-more n f N.Removed m q)
 
 -- ONE EDGE MORE
-module _ (l : List ℕ) (long : length l ≡ INDEX) (e source target precedence : ℕ) (h : e < EDGES) where
+module _ (l : List ℕ) (long : Blocks l) (e source target precedence : ℕ) (h : BLOCK * e < length l) where
   b1 : List ℕ
-  b1 = set l (SOURCE + e) source
+  b1 = put SOURCE e source l
 
   b2 : List ℕ
   unfolding b1
-  b2 = set b1 (TARGET + e) target
+  b2 = put TARGET e target b1
 
-  edge-long : length (putEdge e source target precedence l) ≡ INDEX
+  edge-long : Blocks (putEdge e source target precedence l)
   unfolding putEdge
   edge-long = simp length-set long
 
-  -- a word that is none of the three
-  edge-other : (base width m : ℕ) → (m < width → base + m ≡ SOURCE + e → ⊥) → (m < width → base + m ≡ TARGET + e → ⊥) → (m < width → base + m ≡ PRECEDENCE + e → ⊥)
-      → cell (putEdge e source target precedence l) base width m ≡ cell l base width m
+  -- a word that is none of the three: one of another block, or one of the words in front of them
+  edge-apart : (row m : ℕ) → row < BLOCK → (m ≡ e → ⊥) → cell (putEdge e source target precedence l) row m ≡ cell l row m
   unfolding b1 b2 putEdge
-  edge-other base width m p q r =
-      cell-other b2 base width m (PRECEDENCE + e) precedence r ∙ cell-other b1 base width m (TARGET + e) target q ∙ cell-other l base width m (SOURCE + e) source p
+  edge-apart row m b d =
+      cell-other b2 row m PRECEDENCE e precedence (λ x. d (omega arith)) ∙ cell-other b1 row m TARGET e target (λ x. d (omega arith)) ∙ cell-other l row m SOURCE e source (λ x. d (omega arith))
 
-  edge-source : cell (putEdge e source target precedence l) SOURCE EDGES e ≡ source
+  edge-before : (row m : ℕ) → row < SOURCE → cell (putEdge e source target precedence l) row m ≡ cell l row m
+  unfolding b1 b2 putEdge
+  edge-before row m b =
+      cell-other b2 row m PRECEDENCE e precedence (λ x. omega arith) ∙ cell-other b1 row m TARGET e target (λ x. omega arith) ∙ cell-other l row m SOURCE e source (λ x. omega arith)
+
+  edge-source : cell (putEdge e source target precedence l) SOURCE e ≡ source
   unfolding b1 b2 putEdge
   edge-source =
-      cell-other b2 SOURCE EDGES e (PRECEDENCE + e) precedence (λ x y. omega arith) ∙ cell-other b1 SOURCE EDGES e (TARGET + e) target (λ x y. omega arith)
-      ∙ cell-same l SOURCE EDGES e source h (omega arith)
+      cell-other b2 SOURCE e PRECEDENCE e precedence (λ x. omega arith) ∙ cell-other b1 SOURCE e TARGET e target (λ x. omega arith) ∙ cell-same l SOURCE e source (omega arith)
 
-  edge-target : cell (putEdge e source target precedence l) TARGET EDGES e ≡ target
+  edge-target : cell (putEdge e source target precedence l) TARGET e ≡ target
   unfolding b1 b2 putEdge
-  edge-target = cell-other b2 TARGET EDGES e (PRECEDENCE + e) precedence (λ x y. omega arith) ∙ cell-same b1 TARGET EDGES e target h (simp length-set (omega arith))
+  edge-target = cell-other b2 TARGET e PRECEDENCE e precedence (λ x. omega arith) ∙ cell-same b1 TARGET e target (simp length-set (omega arith))
 
-  edge-precedence : cell (putEdge e source target precedence l) PRECEDENCE EDGES e ≡ precedence
+  edge-precedence : cell (putEdge e source target precedence l) PRECEDENCE e ≡ precedence
   unfolding b1 b2 putEdge
-  edge-precedence = cell-same b2 PRECEDENCE EDGES e precedence h (simp length-set (omega arith))
+  edge-precedence = cell-same b2 PRECEDENCE e precedence (simp length-set (omega arith))
 
   edge-here : edgeRow (putEdge e source target precedence l) e ≡ edgeOf source target precedence
   unfolding edgeRow
@@ -200,36 +190,22 @@ module _ (l : List ℕ) (long : length l ≡ INDEX) (e source target precedence 
 
   edge-else : (m : ℕ) → (m ≡ e → ⊥) → edgeRow (putEdge e source target precedence l) m ≡ edgeRow l m
   unfolding edgeRow
-  edge-else m d =
-      rw (
-        edge-other SOURCE EDGES m (λ x y. d (omega arith)) (λ x y. omega arith) (λ x y. omega arith),
-        edge-other TARGET EDGES m (λ x y. omega arith) (λ x y. d (omega arith)) (λ x y. omega arith),
-        edge-other PRECEDENCE EDGES m (λ x y. omega arith) (λ x y. omega arith) (λ x y. d (omega arith)),
-      )
+  edge-else m d = rw (edge-apart SOURCE m (omega arith) d, edge-apart TARGET m (omega arith) d, edge-apart PRECEDENCE m (omega arith) d)
 
   -- no word of a node
-  edge-node-cell : (base m : ℕ) → base + NODES ≤ TARGET → (m < NODES → base + m ≡ SOURCE + e → ⊥) → cell (putEdge e source target precedence l) base NODES m ≡ cell l base NODES m
-  edge-node-cell base m b d = edge-other base NODES m d (λ x y. omega arith) (λ x y. omega arith)
-
   edge-nodes : (m : ℕ) → nodeRow (putEdge e source target precedence l) m ≡ nodeRow l m
   unfolding nodeRow
   edge-nodes m =
-      rw (
-        edge-node-cell KIND m (omega arith) (λ x y. omega arith),
-        edge-node-cell FLAG m (omega arith) (λ x y. omega arith),
-        edge-node-cell FILE m (omega arith) (λ x y. omega arith),
-        edge-node-cell SYMBOL m (omega arith) (λ x y. omega arith),
-        edge-node-cell SCOPE m (omega arith) (λ x y. omega arith),
-      )
+      rw (edge-before KIND m (omega arith), edge-before FLAG m (omega arith), edge-before FILE m (omega arith), edge-before SYMBOL m (omega arith), edge-before SCOPE m (omega arith))
 
-pub filled-edge : (l : List ℕ) (F : ℕ → Node) (f : ℕ → Edge) (e source target precedence : ℕ) → e < EDGES → edgeOf source target precedence ≡ f e
+pub filled-edge : (l : List ℕ) (F : ℕ → Node) (f : ℕ → Edge) (e source target precedence : ℕ) → BLOCK * e < length l → edgeOf source target precedence ≡ f e
     → Filled F (upto e f E.Removed) l → Filled F (upto (e + 1) f E.Removed) (putEdge e source target precedence l)
 filled-edge l F f e source target precedence h q d = record {
   long = edge-long l (d .long) e source target precedence h;
   node = λ m. edge-nodes l (d .long) e source target precedence h m ∙ d .node m;
   edge = λ m. go m (ℕ-discrete m e);
-  kinds = λ m. rw (edge-node-cell l (d .long) e source target precedence h KIND m (omega arith) (λ x y. omega arith)) (d .kinds m);
-  unlinked = λ m. edge-node-cell l (d .long) e source target precedence h FIRST m (omega arith) (λ x y. omega arith) ∙ d .unlinked m;
+  kinds = λ m. rw (edge-before l (d .long) e source target precedence h KIND m (omega arith)) (d .kinds m);
+  unlinked = λ m. edge-before l (d .long) e source target precedence h FIRST m (omega arith) ∙ d .unlinked m;
 }
   where
     go : (m : ℕ) → Dec (m ≡ e) → edgeRow (putEdge e source target precedence l) m ≡ upto (e + 1) f E.Removed m

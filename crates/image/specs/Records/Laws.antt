@@ -23,7 +23,7 @@ use Rattle.semantics.specs.Bytes.{byteAt, short, long}
 use Rattle.semantics.specs.Bytes.Laws.{wide-long}
 use Rattle.semantics.specs.Graph.{viewOf}
 use Rattle.semantics.specs.Image.{symbolBytes, filesOf, nodesOf, edgesOf, header, isCut, mayStand, bodySize, fieldsFit, nextPlace, nodeRecord, edgeRecord, scan, flagAt, nodeIn, edgeIn, nodesFrom, edgesFrom, placeOf, firstRecord, firstEdge, graphOf}
-use Rattle.image.specs.Rows.{NODES, EDGES, Fresh, nodeOf, edgeOf, putNode, putEdge}
+use Rattle.image.specs.Rows.{BLOCK, Fresh, nodeOf, edgeOf, putNode, putEdge}
 use Rattle.image.specs.Filling.{upto, Filled, Held}
 use Rattle.image.specs.Filling.Laws.{filled-node, filled-edge, filled-as, cleared}
 use Rattle.image.specs.Records.{Headed, Fielded, nodeHere, edgeHere, nodeAt, edgeAt, NodePut, EdgePut, NodesPut, EdgesPut, Run, symbolIn, scopeIn}
@@ -154,12 +154,12 @@ module _ (im : List ℕ) (files at kind count file next : ℕ) (isFile : file �
       flag-fits h = simp (lt-leb files (short im (at + 2)) (omega arith), ne-eqb kind 8 flagged, lt-ltb (byteAt im (at + count)) 2 (omega arith))
 
 -- PUT INTO THE INDEX
-pub node-put : (n kind flag file symbol scope : ℕ) (x : Node) (before after : List ℕ) → n < NODES → kind < 9 → nodeOf kind flag file symbol scope ≡ x
+pub node-put : (n kind flag file symbol scope : ℕ) (x : Node) (before after : List ℕ) → BLOCK * n < length before → kind < 9 → nodeOf kind flag file symbol scope ≡ x
     → after ≡ putNode n kind flag file symbol scope before → NodePut n x before after
 node-put n kind flag file symbol scope x before after h k e q f D g d =
     subst (Filled (upto (n + 1) f N.Removed) D) (sym q) (filled-node before f D n kind flag file symbol scope h k (e ∙ g) d)
 
-pub edge-put : (e source target precedence : ℕ) (x : Edge) (before after : List ℕ) → e < EDGES → edgeOf source target precedence ≡ x
+pub edge-put : (e source target precedence : ℕ) (x : Edge) (before after : List ℕ) → BLOCK * e < length before → edgeOf source target precedence ≡ x
     → after ≡ putEdge e source target precedence before → EdgePut e x before after
 edge-put e source target precedence x before after h k q F f g d =
     subst (Filled F (upto (e + 1) f E.Removed)) (sym q) (filled-edge before F f e source target precedence h (k ∙ g) d)
@@ -196,16 +196,16 @@ full-words im at (suc (suc (suc (suc (suc (suc (suc zero))))))) h b = rw (wide-l
 full-words im at (suc (suc (suc (suc (suc (suc (suc (suc k)))))))) h b = absurd (omega (arith, b))
 
 -- the words of a record that was read are put into the index
-pub bare-put : (im : List ℕ) (n at kind : ℕ) (before after : List ℕ) → n < NODES → byteAt im (at + 1) ≡ kind → kind < 3
+pub bare-put : (im : List ℕ) (n at kind : ℕ) (before after : List ℕ) → BLOCK * n < length before → byteAt im (at + 1) ≡ kind → kind < 3
     → after ≡ putNode n kind 0 0 0 0 before → NodePut n (nodeHere im at) before after
 bare-put im n at kind before after h r b q = node-put n kind 0 0 0 0 (nodeHere im at) before after h (omega arith) (rw r (bare-words im at kind b)) q
 
-pub drop-put : (im : List ℕ) (n at kind file : ℕ) (before after : List ℕ) → n < NODES → Fielded im at kind → kind ≡ 8 → file ≡ short im (at + 2)
+pub drop-put : (im : List ℕ) (n at kind file : ℕ) (before after : List ℕ) → BLOCK * n < length before → Fielded im at kind → kind ≡ 8 → file ≡ short im (at + 2)
     → after ≡ putNode n kind 0 file 0 0 before → NodePut n (nodeHere im at) before after
 drop-put im n at kind file before after h k e f q =
     node-put n kind 0 file 0 0 (nodeHere im at) before after h (omega arith) (rw (k .reads, e, f) (drop-words im at)) q
 
-pub full-put : (im : List ℕ) (n at kind flag file symbol scope : ℕ) (before after : List ℕ) → n < NODES → Fielded im at kind → (kind ≡ 8 → ⊥)
+pub full-put : (im : List ℕ) (n at kind flag file symbol scope : ℕ) (before after : List ℕ) → BLOCK * n < length before → Fielded im at kind → (kind ≡ 8 → ⊥)
     → flag ≡ byteAt im (at + byteAt im at) → file ≡ short im (at + 2) → symbol ≡ symbolIn im at kind → scope ≡ scopeIn im at kind
     → after ≡ putNode n kind flag file symbol scope before → NodePut n (nodeHere im at) before after
 full-put im n at kind flag file symbol scope before after h k d e f g i q =
@@ -249,13 +249,13 @@ live-words im at =
     let z : short im (at + 2) + 1 - 1 ≡ short im (at + 2) = omega arith in
     rw (ne-eqb (short im (at + 2) + 1) 0 (λ e. omega arith), z)
 
-pub removed-put : (im : List ℕ) (e at kind : ℕ) (before after : List ℕ) → e < EDGES → byteAt im (at + 1) ≡ kind → kind < 1
+pub removed-put : (im : List ℕ) (e at kind : ℕ) (before after : List ℕ) → BLOCK * e < length before → byteAt im (at + 1) ≡ kind → kind < 1
     → after ≡ putEdge e 0 0 0 before → EdgePut e (edgeHere im at) before after
 removed-put im e at kind before after h r b q =
     let z : kind ≡ 0 = omega arith in
     edge-put e 0 0 0 (edgeHere im at) before after h (rw (r, z) (removed-words im at)) q
 
-pub live-put : (im : List ℕ) (e at kind source target precedence : ℕ) (before after : List ℕ) → e < EDGES → byteAt im (at + 1) ≡ kind → kind ≡ 1
+pub live-put : (im : List ℕ) (e at kind source target precedence : ℕ) (before after : List ℕ) → BLOCK * e < length before → byteAt im (at + 1) ≡ kind → kind ≡ 1
     → source ≡ short im (at + 2) → target ≡ short im (at + 4) → precedence ≡ long im (at + 6)
     → after ≡ putEdge e (source + 1) target precedence before → EdgePut e (edgeHere im at) before after
 live-put im e at kind source target precedence before after h r k s t p q =

@@ -1,44 +1,45 @@
--- One word of a row and many: what a store changes.
+-- One word of a block: what a store changes.
 -- Serves document 01, "Graph image": each word is a field of its record, whatever was written besides.
-use Prim.Native.Nat.{ℕ, _+_, _<_, _≤_}
+use Prim.Native.Nat.{ℕ, _+_, _*_, _<_, _≤_}
 use native.Mathlib.Omega.{arith}
 use native.Mathlib.Decide.{decLt}
-use mathlib.Core.Path.{_≡_, sym, ap, _∙_}
+use mathlib.Core.Path.{_≡_, ap, _∙_}
 use mathlib.Core.List.{List}
-use borrow.Author.Tests.{lt-ltb, le-ltb}
-use lib.ListN.{length, getD, set}
+use lib.ListN.{length, getD, set, List·getD-eq-default}
 use lib.Seq.{getD-set-same, getD-set-other}
-use Rattle.image.specs.Rows.{cell}
+use Rattle.image.specs.Rows.{BLOCK, cell, put}
 
--- ONE WORD OF A ROW, for every base and width
-pub cell-in : (l : List ℕ) (base width n : ℕ) → n < width → cell l base width n ≡ getD l (base + n) 0
+-- a word of a block that is not there
+pub cell-out : (l : List ℕ) (row n : ℕ) → length l ≤ BLOCK * n → cell l row n ≡ 0
 unfolding cell
-cell-in l base width n h = rw (lt-ltb n width h)
+cell-out l row n h = List·getD-eq-default l 0 {n = BLOCK * n + row} (omega arith)
 
-pub cell-out : (l : List ℕ) (base width n : ℕ) → width ≤ n → cell l base width n ≡ 0
-unfolding cell
-cell-out l base width n h = rw (le-ltb n width h)
+-- the word that was stored
+pub cell-same : (l : List ℕ) (row n v : ℕ) → BLOCK * n + row < length l → cell (put row n v l) row n ≡ v
+unfolding cell put
+cell-same l row n v h = getD-set-same l (BLOCK * n + row) v 0 h
 
-pub cell-same : (l : List ℕ) (base width n v : ℕ) → n < width → base + n < length l → cell (set l (base + n) v) base width n ≡ v
-cell-same l base width n v h b = cell-in (set l (base + n) v) base width n h ∙ getD-set-same l (base + n) v 0 b
+-- any other word stays
+pub cell-other : (l : List ℕ) (row n r m v : ℕ) → (BLOCK * n + row ≡ BLOCK * m + r → ⊥) → cell (put r m v l) row n ≡ cell l row n
+unfolding cell put
+cell-other l row n r m v h = getD-set-other l (BLOCK * m + r) (BLOCK * n + row) v 0 h
 
--- a store elsewhere leaves it
-pub cell-other : (l : List ℕ) (base width n i v : ℕ) → (n < width → base + n ≡ i → ⊥) → cell (set l i v) base width n ≡ cell l base width n
-cell-other l base width n i v h = go (decLt n width)
+-- the first words are 0
+abbrev pub Cleared : List ℕ → ℕ → Type 0
+Cleared l k = (i : ℕ) → i < k → getD l i 0 ≡ 0
+
+pub cleared-more : (l : List ℕ) (k : ℕ) → k < length l → Cleared l k → Cleared (set l k 0) (k + 1)
+cleared-more l k h c i b = go (decLt i k)
   where
-    go : Dec (n < width) → cell (set l i v) base width n ≡ cell l base width n
-    go (yes p) = cell-in (set l i v) base width n p ∙ getD-set-other l i (base + n) v 0 (h p) ∙ sym (cell-in l base width n p)
-    go (no p) = cell-out (set l i v) base width n (omega arith) ∙ sym (cell-out l base width n (omega arith))
-
--- MANY WORDS OF A ROW: from base on they are f 0, f 1, .. below k
-abbrev pub Row : List ℕ → ℕ → (ℕ → ℕ) → ℕ → Type 0
-Row l base f k = (j : ℕ) → j < k → getD l (base + j) 0 ≡ f j
-
-pub row-more : (l : List ℕ) (base : ℕ) (f : ℕ → ℕ) (k i v : ℕ) → i ≡ base + k → i < length l → v ≡ f k → Row l base f k → Row (set l i v) base f (k + 1)
-row-more l base f k i v b h e r j lt = go (decLt j k)
-  where
-    go : Dec (j < k) → getD (set l i v) (base + j) 0 ≡ f j
-    go (yes p) = getD-set-other l i (base + j) v 0 (λ q. omega arith) ∙ r j p
+    go : Dec (i < k) → getD (set l k 0) i 0 ≡ 0
+    go (yes p) = getD-set-other l k i 0 0 (λ (e : i ≡ k). omega arith) ∙ c i p
     go (no p) =
-        let q : base + j ≡ i = omega arith in
-        ap (λ (m : ℕ). getD (set l i v) m 0) q ∙ getD-set-same l i v 0 h ∙ e ∙ ap f (omega arith)
+        let q : i ≡ k = omega arith in
+        ap (λ (m : ℕ). getD (set l k 0) m 0) q ∙ getD-set-same l k 0 0 h
+
+pub all-cleared : (l : List ℕ) (k : ℕ) → length l ≤ k → Cleared l k → (i : ℕ) → getD l i 0 ≡ 0
+all-cleared l k h c i = go (decLt i k)
+  where
+    go : Dec (i < k) → getD l i 0 ≡ 0
+    go (yes p) = c i p
+    go (no p) = List·getD-eq-default l 0 {n = i} (omega arith)

@@ -45,11 +45,11 @@ use Rattle.partial_state.specs.declared.extraction.Frame.{Frame}
 use Rattle.partial_state.specs.Routes.{held}
 use Rattle.partial_state.specs.Filings.{Fits, filedIn}
 use Rattle.partial_state.specs.Filings.Laws.{take-all, filed-none, filed-nowhere}
-use Rattle.partial_state.specs.Extractions.{Computation, Course, goes, stops, newComputation}
+use Rattle.partial_state.specs.Extractions.{shortSlot, Computation, Course, goes, stops, newComputation}
 use Rattle.partial_state.specs.Reps.{frameOf, settingOf, Rep, Untouched, Tells}
 use Rattle.partial_state.specs.Reps.Laws.{tells-on, tells-refused}
 use Rattle.partial.specs.declared.compute.Computed.{Computed}
-use Rattle.partial.specs.declared.compute.Computed.the-variants.{Done, Refused}
+use Rattle.partial.specs.declared.compute.Computed.the-variants.{Done, Filed, Refused}
 use Rattle.partial.specs.declared.replace.Sizes.{Sizes}
 use Rattle.partial.specs.Rounds.{Driving, Ends, runFrom, DrivenTo}
 use Rattle.partial_trial.specs.Seeds.{Seeding, Seeded}
@@ -92,8 +92,8 @@ module _ (index : List ℕ) (g : Graph) (loaded : Loaded g index) (f : Filing) (
 
   nothing : Rep (viewOf g) f db fresh ws db blank
   nothing = record {
-    sized = refl;
-    stands = stands-blank (held 128) (c .order) 128 (length ws / 128) ws (omega arith) (whole-fits 128 (length ws));
+    sized = record { start = omega arith; most = omega arith; room = whole-fits 128 (length ws) };
+    stands = stands-blank (held shortSlot) (c .order) shortSlot (length ws / 128) ws (omega arith) (omega (arith, whole-fits 128 (length ws)));
     counts = record { stats = refl; found = refl };
     few = record { complete = omega arith; cycles = omega arith };
     filed = sym (filed-none f db);
@@ -101,10 +101,10 @@ module _ (index : List ℕ) (g : Graph) (loaded : Loaded g index) (f : Filing) (
   }
 
   -- what the starts are given
-  pub begins : (item : List ℕ) → length item ≡ 128 → Seeding item x ws
-  begins item l = record { view = viewOf g; filing = f; origin = db; database = db; slot = l; model = blank; rep = subst (λ (y : Computation). Rep (viewOf g) f db y ws db blank) (sym made) nothing }
+  pub begins : (item : List ℕ) → length item ≡ shortSlot → Seeding item x ws
+  begins item l = record { view = viewOf g; filing = f; origin = db; database = db; slot = l ∙ sym (ap (λ (y : Computation). y .frontier .length) made); model = blank; rep = subst (λ (y : Computation). Rep (viewOf g) f db y ws db blank) (sym made) nothing }
 
-  module _ (item : List ℕ) (long : length item ≡ 128) (a : Course) (ws′ : List ℕ) (s : Seeded item x ws (begins item long) g (f .file) a ws′) where
+  module _ (item : List ℕ) (long : length item ≡ shortSlot) (a : Course) (ws′ : List ℕ) (s : Seeded item x ws (begins item long) g (f .file) a ws′) where
     abbrev seeds : Answer PartialPathRefusal (State Route)
     seeds = Enumeration.seed (fileSettingOf base asks) blank (startRoutes g (f .file))
 
@@ -149,22 +149,39 @@ module _ (index : List ℕ) (g : Graph) (loaded : Loaded g index) (f : Filing) (
 done-refused : (s : PartialPathStats) (r : PartialPathRefusal) → Done s ≡ Refused r → ⊥
 done-refused s r e = let z : _≡_ {A = ℕ} 0 1 = cc in omega arith
 
+filed-refused : (r : PartialPathRefusal) → Filed ≡ Refused r → ⊥
+filed-refused r e = let z : _≡_ {A = ℕ} 0 1 = cc in omega arith
+
+filed-done : (s : PartialPathStats) → Filed ≡ Done s → ⊥
+filed-done s e = let z : _≡_ {A = ℕ} 0 1 = cc in omega arith
+
 module _ (f : Filing) (db db′ : List ℕ) where
+  -- without room for any none is filed
+  ends-none : (a : Computed) (t : Answer PartialPathRefusal (State Route)) → Ends f db a db′ t → a ≡ Filed → 0 < f .room
+  ends-none (Done s) t h e = absurd (filed-done s (sym e))
+  ends-none Filed (ok m) h e = h .0
+  ends-none Filed (refuse r) h e = h
+  ends-none (Refused r) t h e = absurd (filed-refused r (sym e))
+
   -- a computation that is not refused files what it found
   ends-filed : (a : Computed) (t : Answer PartialPathRefusal (State Route)) (u : State Route) → Ends f db a db′ t → t ≡ ok u → db′ ≡ filedIn f (u .kept) db
   ends-filed (Done s) (ok m) u h e = let z = ok-inj m u e in h .2 ∙ ap (λ (y : State Route). filedIn f (y .kept) db) z
   ends-filed (Done s) (refuse r) u h e = absurd h
+  ends-filed Filed (ok m) u h e = let z = ok-inj m u e in h .1 ∙ ap (λ (y : State Route). filedIn f (y .kept) db) z
+  ends-filed Filed (refuse r) u h e = absurd (refuse-ok r u e)
   ends-filed (Refused r) (ok m) u h e = absurd h
   ends-filed (Refused r) (refuse y) u h e = absurd (refuse-ok y u e)
 
   ends-refused : (a : Computed) (t : Answer PartialPathRefusal (State Route)) (r : PartialPathRefusal) → Ends f db a db′ t → a ≡ Refused r → (t ≡ refuse r) × Untouched f db db′
   ends-refused (Done s) t r h e = absurd (done-refused s r e)
+  ends-refused Filed t r h e = absurd (filed-refused r e)
   ends-refused (Refused y) (ok m) r h e = absurd h
   ends-refused (Refused y) (refuse z) r h e = let w : y ≡ r = cc in (ap (λ (k : PartialPathRefusal). refuse k) (sym (h .0) ∙ w), h .1)
 
   ends-done : (a : Computed) (t : Answer PartialPathRefusal (State Route)) (s : PartialPathStats) → Ends f db a db′ t → a ≡ Done s → (u : State Route) × (t ≡ ok u) × (s ≡ partialStats u) × (s .found ≡ length (u .kept)) × (db′ ≡ filedIn f (u .kept) db)
   ends-done (Done y) (ok m) s h e = let z : y ≡ s = cc in (m, refl, sym z ∙ h .0, ap (λ (k : PartialPathStats). k .found) (sym z) ∙ h .1, h .2)
   ends-done (Done y) (refuse r) s h e = absurd h
+  ends-done Filed t s h e = absurd (filed-done s e)
   ends-done (Refused r) t s h e = absurd (done-refused s r (sym e))
 
 -- ---- the found paths filed
@@ -226,6 +243,10 @@ module _ (index : List ℕ) (n : Sizes) (file : ℕ) (c : Config) (ws db : List 
       pub replaced-refused : (r : PartialPathRefusal) → a ≡ Refused r → Leaves (replacedOn (v .graph) q db) (Replacement.Refused r) db₁
       unfolding computed
       replaced-refused r e = let u = ends-refused (filingOf file first 0) db db₁ a (routesOf (v .graph) q) r ends e in rw (partials-are ∙ u .0) (refl, u .1 refl)
+
+      -- it is counted to the end
+      pub counting-ends : a ≡ Filed → ⊥
+      counting-ends e = let h = ends-none (filingOf file first 0) db db₁ a (routesOf (v .graph) q) ends e in omega (arith, h)
 
       module _ (s : PartialPathStats) (e : a ≡ Done s) where
         counted : (u : State Route) × (routesOf (v .graph) q ≡ ok u) × (s ≡ partialStats u) × (s .found ≡ length (u .kept)) × (db₁ ≡ filedIn (filingOf file first 0) (u .kept) db)

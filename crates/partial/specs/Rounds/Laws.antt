@@ -3,9 +3,12 @@
 use Prim.Native.Nat.{ℕ, zero, suc, _+_, _-_, _*_, _<_, _≤_}
 use native.Mathlib.Omega.{arith}
 use mathlib.Core.Path.{_≡_, refl, sym, ap, subst, _∙_}
+use mathlib.Core.Logic.{_⊎_, inr, ⊎-elim}
 use mathlib.Core.Bool.{Bool, true, false}
-use mathlib.Core.List.{List, [], _∷_}
-use lib.ListN.{length, getD, length-map}
+use mathlib.Core.List.{List, [], _∷_, _++_, append-nil}
+use borrow.Rule.Slice.PartMut.{putMid, post-is}
+use lib.ListN.{length, take, drop, getD, length-map, length-drop, length-append, drop-of-length-le}
+use lib.Seq.{take-length, take-at, take-append-le, length-take-le}
 use Rattle.semantics.specs.declared.graph.Edge.{Edge}
 use Rattle.semantics.specs.declared.search.SearchStats.{SearchStats}
 use Rattle.semantics.specs.declared.search.PartialPathStats.{PartialPathStats}
@@ -13,6 +16,10 @@ use Rattle.semantics.specs.declared.refusal.PartialPathRefusal.{PartialPathRefu
 use Rattle.semantics.specs.declared.refusal.PartialPathRefusal.the-variants.{TooManyExpansions}
 use Rattle.semantics.specs.Lists.{consIf, select}
 use Rattle.semantics.specs.Limits.{base}
+use Rattle.semantics.specs.Words.{zeros}
+use Rattle.words.specs.Slots.Wider.{padded-is, part-front}
+use Rattle.graph_search.specs.declared.path_frontier.Frontier.{Frontier}
+use Rattle.graph_search.specs.Frontier.{Framed, widened, Wider}
 use Rattle.semantics.specs.Answer.{Answer, ok, refuse}
 use Rattle.semantics.specs.Graph.{View, viewOf}
 use Rattle.semantics.specs.Enumeration.{State, Setting, Try, Tally, over, expand, each, turn, run, final, follow, merge}
@@ -25,35 +32,40 @@ use Rattle.search_state.specs.Items.{Carries}
 use Rattle.partial_state.specs.declared.route.Ends as R
 use Rattle.partial_state.specs.declared.filing.Filing.{Filing}
 use Rattle.partial_state.specs.declared.extraction.Frame.{Frame}
-use Rattle.partial_state.specs.Routes.{endsIn, endsOf}
-use Rattle.partial_state.specs.Routes.Laws.{held-count, held-carries, held-ends}
+use Rattle.partial_state.specs.Routes.{held, endsIn, endsOf, Waiting}
+use Rattle.partial_state.specs.Routes.Laws.{held-long, held-count, held-carries, held-padded, held-ends}
+use Rattle.database.specs.Filing.{putRoutes}
 use Rattle.partial_state.specs.Filings.{filedIn}
-use Rattle.partial_state.specs.Extractions.{Computation, Course, goes, stops, Opening, closing, opening, exceeding, partialOf, Taking}
+use Rattle.partial_state.specs.Extractions.{Computation, Course, goes, stops, Opening, closing, opening, exceeding, partialOf, withFrontier, slottedBy, Taking, Grows}
 use Rattle.partial_state.specs.Reps.{Counts, frameOf, settingOf, Rep, Tells}
-use Rattle.partial_state.specs.Reps.Laws.{untouched, tells-on, tells-refused}
+use Rattle.partial_state.specs.Reps.Laws.{untouched, tells-on, tells-refused, rep-wider, rep-grows}
 use Rattle.partial_state.specs.Reps.Rounds.{Opened, round-over, round-expand, round-many}
-use Rattle.partial.specs.declared.compute.Computed.the-variants.{Done, Refused}
-use Rattle.partial_trial.specs.Expansions.{Expanding, triesOf, Expanded}
-use Rattle.partial.specs.Rounds.{Rounding, Rounded, Driving, Ends, runFrom, DrivenTo}
+use Rattle.partial.specs.declared.compute.Computed.the-variants.{Done, Filed, Refused}
+use Rattle.partial_trial.specs.Expansions.{Roomy, Expanding, triesOf, Expanded}
+use Rattle.partial.specs.Rounds.Kept.{merged-kept}
+use Rattle.partial.specs.Rounds.{MadeRoom, Rounding, Rounded, Driving, Ends, runFrom, DrivenTo}
 use Rattle.partial_trial.specs.Expansions.Edges.{fits-same}
 
 -- ---- one round
 
 module _ (most : ℕ) (index : List ℕ) (f : Filing) (item : List ℕ) (x : Computation) (ws db : List ℕ) (v : Rounding most index f item x ws db) where
   count : getD item 0 0 ≡ length (v .route .edges)
-  count = ap (λ (l : List ℕ). getD l 0 0) (v .words) ∙ held-count 127 (v .route .start) (v .route .edges)
+  count = ap (λ (l : List ℕ). getD l 0 0) (v .words) ∙ held-count (x .frontier .length) (v .route .start) (v .route .edges) (omega (arith, v .rep .sized .start))
 
   pub round-short : getD item 0 0 ≤ 127
-  round-short = let c = count in omega (arith, c, v .good .short)
+  round-short = let c = count in omega (arith, c, v .good .0 .short)
 
-  carried : Carries 128 item (v .route .edges)
-  carried = subst (λ (l : List ℕ). Carries 128 l (v .route .edges)) (sym (v .words)) (held-carries 127 (v .route .start) (v .route .edges) (omega arith) (v .good .short))
+  carried : Carries (x .frontier .length) item (v .route .edges)
+  carried = subst (λ (l : List ℕ). Carries (x .frontier .length) l (v .route .edges)) (sym (v .words)) (held-carries (x .frontier .length) (v .route .start) (v .route .edges) (v .rep .sized .start) (v .good .1))
 
-  pub round-long : length item ≡ 128
-  round-long = carried .long
+  pub round-long : 2 ≤ length item
+  round-long = omega (arith, carried .long, v .rep .sized .start)
+
+  pub round-inside : getD item 0 0 < length item
+  round-inside = let c = count in omega (arith, carried .long, c, v .good .1)
 
   ends-are : (e : R.Ends) → e ≡ endsIn (edgeRow index) item → e ≡ endsOf (v .route)
-  ends-are e q = q ∙ ap (λ (h : ℕ → Edge). endsIn h item) (edges-are (v .graph) index (v .loaded)) ∙ ap (endsIn (viewOf (v .graph) .edge)) (v .words) ∙ held-ends (viewOf (v .graph)) (f .file) (v .route) (v .good)
+  ends-are e q = q ∙ ap (λ (h : ℕ → Edge). endsIn h item) (edges-are (v .graph) index (v .loaded)) ∙ ap (endsIn (viewOf (v .graph) .edge)) (v .words) ∙ held-ends (viewOf (v .graph)) (f .file) (x .frontier .length) (v .route) (v .good .0) (v .rep .sized .start) (v .good .1)
 
   module _ (e : R.Ends) (q : e ≡ endsIn (edgeRow index) item) where
     pub round-given : Expanding most index f e (getD item 0 0) item x ws db
@@ -67,6 +79,7 @@ module _ (most : ℕ) (index : List ℕ) (f : Filing) (item : List ℕ) (x : Com
         count = sym count;
         carries = carried;
         good = v .good;
+        room = subst (λ (n : ℕ). Roomy n (x .frontier .length)) (sym count) (v .room);
         fits = v .fits;
         model = v .model;
         rep = v .rep;
@@ -78,6 +91,98 @@ module _ (most : ℕ) (index : List ℕ) (f : Filing) (item : List ℕ) (x : Com
     pub rounded : (a : Course) (ws′ db′ : List ℕ) → Expanded most index f e (getD item 0 0) item x ws db round-given a ws′ db′ → Rounded most index f item x ws db v a ws′ db′
     unfolding round-given
     rounded a ws′ db′ h = h
+
+-- ---- room for one more edge
+
+take-whole : (L : ℕ) (l : List ℕ) → length l ≡ L → take L l ≡ l
+take-whole L l e = ap (λ (n : ℕ). take n l) (sym e) ∙ take-length l
+
+-- the words of a route in the front of the item
+front-count : (L : ℕ) (item : List ℕ) → 0 < L → getD (take L item) 0 0 ≡ getD item 0 0
+front-count zero item h = absurd (omega (arith, h))
+front-count (suc m) [] h = refl
+front-count (suc m) (w ∷ item) h = refl
+
+-- the front of the item as it is lent, and when it is back
+pub front-lent : (L : ℕ) (item : List ℕ) → take (L - 0) (drop 0 item) ≡ take L item
+front-lent L item = ap (λ (n : ℕ). take n item) (let z : L - 0 ≡ L = omega arith in z)
+
+pub front-back : (L : ℕ) (s item : List ℕ) → length s ≡ L → s ≡ take L (putMid 0 (L - 0) item s)
+front-back L s item e = sym (ap (take L) (part-front L s item) ∙ take-at s (drop L item) L e)
+
+-- the rest of it, when it is back as zeros
+pub rest-back : (L : ℕ) (s item : List ℕ) → length item ≡ 128 → L ≤ 128 → s ≡ zeros (length (take (128 - L) (drop L item))) → putMid L (128 - L) item s ≡ take L item ++ zeros (128 - L)
+rest-back L s item e h z =
+    let n : length (take (128 - L) (drop L item)) ≡ 128 - L = length-take-le (128 - L) (drop L item) (simp length-drop (omega (arith, e))) in
+    let b : length item ≤ 128 = omega (arith, e) in
+    rw (post-is L 128 item h) (ap (λ (l : List ℕ). take L item ++ (l ++ drop 128 item)) (z ∙ ap zeros n) ∙ ap (λ (l : List ℕ). take L item ++ (zeros (128 - L) ++ l)) (drop-of-length-le item b) ∙ ap (λ (l : List ℕ). take L item ++ l) (append-nil (zeros (128 - L))))
+
+-- a round's route in other words that are the same
+unfoldable pub round-same : (most : ℕ) (index : List ℕ) (f : Filing) (item item′ : List ℕ) (x : Computation) (ws db : List ℕ) → item′ ≡ item → Rounding most index f item x ws db → Rounding most index f item′ x ws db
+round-same most index f item item′ x ws db e v = record {
+  graph = v .graph;
+  loaded = v .loaded;
+  origin = v .origin;
+  route = v .route;
+  words = e ∙ v .words;
+  good = v .good;
+  room = v .room;
+  fits = v .fits;
+  model = v .model;
+  rep = v .rep;
+  small = v .small;
+}
+
+module _ (x : Computation) (item ws : List ℕ) (y : Computation) (item′ ws′ : List ℕ) (made : MadeRoom x item ws y item′ ws′) where
+  wider-is : Grows x ws 128 y ws′ → y ≡ withFrontier (widened (x .frontier) 128) x
+  wider-is h = h .is ∙ ap (λ (n : Frontier). withFrontier n x) (h .widens .is)
+
+  -- only the words of a slot have changed
+  pub room-frame : frameOf y ≡ slottedBy (y .frontier .length) (frameOf x)
+  room-frame = ⊎-elim
+      (λ (m : (y ≡ x) × (item′ ≡ item) × (ws′ ≡ ws) × Roomy (getD item 0 0) (x .frontier .length)). ap (λ (z : Computation). slottedBy (y .frontier .length) (frameOf z)) (m .0))
+      (λ (m : Grows x ws 128 y ws′ × (item′ ≡ take (x .frontier .length) item ++ zeros (128 - x .frontier .length))). subst (λ (z : Computation). frameOf z ≡ slottedBy (z .frontier .length) (frameOf x)) (sym (wider-is (m .0))) refl)
+      made
+
+  pub room-limit : y .budget ≡ x .budget
+  room-limit = ⊎-elim
+      (λ (m : (y ≡ x) × (item′ ≡ item) × (ws′ ≡ ws) × Roomy (getD item 0 0) (x .frontier .length)). ap (λ (z : Computation). z .budget) (m .0))
+      (λ (m : Grows x ws 128 y ws′ × (item′ ≡ take (x .frontier .length) item ++ zeros (128 - x .frontier .length))). ap (λ (z : Computation). z .budget) (wider-is (m .0)))
+      made
+
+  module _ (g : View) (f : Filing) (origin db : List ℕ) (m : State Route) (rep : Rep g f origin x ws db m) where
+    pub room-rep : Rep g f origin y ws′ db m
+    room-rep = ⊎-elim
+        (λ (k : (y ≡ x) × (item′ ≡ item) × (ws′ ≡ ws) × Roomy (getD item 0 0) (x .frontier .length)). subst (λ (z : Computation). Rep g f origin z ws′ db m) (sym (k .0)) (subst (λ (z : List ℕ). Rep g f origin x z db m) (sym (k .2)) rep))
+        (λ (k : Grows x ws 128 y ws′ × (item′ ≡ take (x .frontier .length) item ++ zeros (128 - x .frontier .length))). rep-grows g f origin x ws db m rep y ws′ (k .0))
+        made
+
+    module _ (r : Route) (words : take (x .frontier .length) item ≡ held (x .frontier .length) r) (good : Waiting g (f .file) (x .frontier .length) r) where
+      counted : getD item 0 0 ≡ length (r .edges)
+      counted = sym (front-count (x .frontier .length) item (omega (arith, rep .sized .start))) ∙ ap (λ (l : List ℕ). getD l 0 0) words ∙ held-count (x .frontier .length) (r .start) (r .edges) (omega (arith, rep .sized .start))
+
+      -- the route has the same edges, in as many words as a slot has now
+      pub room-words : take (y .frontier .length) item′ ≡ held (y .frontier .length) r
+      room-words = ⊎-elim
+          (λ (k : (y ≡ x) × (item′ ≡ item) × (ws′ ≡ ws) × Roomy (getD item 0 0) (x .frontier .length)). subst (λ (z : Computation). take (z .frontier .length) item′ ≡ held (z .frontier .length) r) (sym (k .0)) (ap (take (x .frontier .length)) (k .1) ∙ words))
+          (λ (k : Grows x ws 128 y ws′ × (item′ ≡ take (x .frontier .length) item ++ zeros (128 - x .frontier .length))).
+          let L : ℕ = x .frontier .length in
+          let e : item′ ≡ held 128 r = k .1 ∙ ap (λ (l : List ℕ). l ++ zeros (128 - L)) words ∙ padded-is 128 L (held L r) (held-long L r) ∙ held-padded 128 L r (rep .sized .start) (rep .sized .most) (good .1) in
+          subst (λ (z : Computation). take (z .frontier .length) item′ ≡ held (z .frontier .length) r) (sym (wider-is (k .0))) (ap (take 128) e ∙ take-whole 128 (held 128 r) (held-long 128 r)))
+          made
+
+      pub room-good : Waiting g (f .file) (y .frontier .length) r
+      room-good = ⊎-elim
+          (λ (k : (y ≡ x) × (item′ ≡ item) × (ws′ ≡ ws) × Roomy (getD item 0 0) (x .frontier .length)). subst (λ (z : Computation). Waiting g (f .file) (z .frontier .length) r) (sym (k .0)) good)
+          (λ (k : Grows x ws 128 y ws′ × (item′ ≡ take (x .frontier .length) item ++ zeros (128 - x .frontier .length))).
+          subst (λ (z : Computation). Waiting g (f .file) (z .frontier .length) r) (sym (wider-is (k .0))) (good .0, omega (arith, good .0 .short)))
+          made
+
+      pub room-roomy : Roomy (length (r .edges)) (y .frontier .length)
+      room-roomy = ⊎-elim
+          (λ (k : (y ≡ x) × (item′ ≡ item) × (ws′ ≡ ws) × Roomy (getD item 0 0) (x .frontier .length)). subst (λ (z : Computation). Roomy (length (r .edges)) (z .frontier .length)) (sym (k .0)) (subst (λ (n : ℕ). Roomy n (x .frontier .length)) counted (k .3)))
+          (λ (k : Grows x ws 128 y ws′ × (item′ ≡ take (x .frontier .length) item ++ zeros (128 - x .frontier .length))). inr (ap (λ (z : Computation). z .frontier .length) (wider-is (k .0))))
+          made
 
 -- ---- the run
 
@@ -118,6 +223,11 @@ select-fewer b (x ∷ l) = on (b x) (select-fewer b l)
     on true h = omega (arith, h)
     on false h = omega (arith, h)
 
+-- what is filed is what there is room for
+filed-first : (f : Filing) (ls ks : List Route) (ws : List ℕ) → take (f .room) ls ≡ take (f .room) ks → filedIn f ls ws ≡ filedIn f ks ws
+unfolding filedIn
+filed-first f ls ks ws e = ap (λ (l : List Route). putRoutes base (f .file) (f .first) l ws) e
+
 -- ---- the loop
 
 module _ (index : List ℕ) (f : Filing) (item₀ : List ℕ) (x : Computation) (ws₀ db₀ : List ℕ) (v : Driving index f item₀ x ws₀ db₀) where
@@ -137,6 +247,20 @@ module _ (index : List ℕ) (f : Filing) (item₀ : List ℕ) (x : Computation) 
     pub looked : state .tally .looked ≤ 4096 * on .budget .expanded
     pub expanded : on .budget .expanded ≤ 16777216
     pub same : runFrom (frameOf on) (v .graph) (f .file) (16777216 - on .budget .expanded) state ≡ whole
+
+  -- as many are found as there is room for: no other is filed behind them
+  pub turn-filed : (on : Computation) (ws db : List ℕ) → Turning on ws db → 0 < f .room → f .room ≤ on .found → DrivenTo index f item₀ x ws₀ db₀ v Filed db
+  turn-filed on ws db t h k = told whole (t .same)
+    where
+      more : (l : List Route) (r : Route) → (f .room ≤ length l) × (take (f .room) l ≡ take (f .room) (t .state .kept)) → (f .room ≤ length (l ++ (r ∷ []))) × (take (f .room) (l ++ (r ∷ [])) ≡ take (f .room) (t .state .kept))
+      more l r p = (omega (arith, p .0, length-append l (r ∷ [])), take-append-le (f .room) l (r ∷ []) (p .0) ∙ p .1)
+
+      told : (y : Answer PartialPathRefusal (State Route)) → runFrom (frameOf on) (v .graph) (f .file) (16777216 - on .budget .expanded) (t .state) ≡ y → Ends f (v .origin) Filed db y
+      told (refuse r) e = h
+      told (ok u) e =
+          let c : f .room ≤ length (t .state .kept) = omega (arith, k, t .stood .counts .found) in
+          let w = merged-kept (settingOf (frameOf on)) (λ l. (f .room ≤ length l) × (take (f .room) l ≡ take (f .room) (t .state .kept))) more (trying (frameOf on)) u (16777216 - on .budget .expanded) (t .state) (c, refl) e in
+          (h, t .stood .filed ∙ sym (filed-first f (u .kept) (t .state .kept) (v .origin) (w .1)))
 
   pub turn-start : Turning x ws₀ db₀
   turn-start = record { state = v .model; stood = v .rep; looked = v .looked; expanded = v .expanded; same = refl }
@@ -159,65 +283,88 @@ module _ (index : List ℕ) (f : Filing) (item₀ : List ℕ) (x : Computation) 
       opened : Opened g f (v .origin) on ws db (t .state) (t .stood) item′ ws′ next
       opened = round-expand g f (v .origin) on ws db (t .state) (t .stood) a item′ ws′ next k e
 
-      -- what the round is given
-      pub turn-given : Rounding 549755813888 index f item′ next ws′ db
-      turn-given =
+      -- what making room is given
+      pub turn-framed : Framed (next .frontier) ws′ × Wider (next .frontier) ws′ 128
+      turn-framed = let o = opened in (o .rep .stands .framed, rep-wider g f (v .origin) next ws′ db (o .model) (o .rep))
+
+      pub turn-short : (w : List ℕ) → item′ ≡ take (next .frontier .length) w → getD w 0 0 < 128
+      turn-short w front =
           let o = opened in
+          let h : 0 < next .frontier .length = omega (arith, o .rep .sized .start) in
+          let c : getD w 0 0 ≡ length (o .route .edges) = sym (front-count (next .frontier .length) w h) ∙ ap (λ (l : List ℕ). getD l 0 0) (sym front ∙ o .words) ∙ held-count (next .frontier .length) (o .route .start) (o .route .edges) h in
+          omega (arith, c, o .good .0 .short)
+
+    module _ (next : Computation) (e : a ≡ opening next) (long : length db ≡ length db₀) (whole-item : List ℕ) (front : item′ ≡ take (next .frontier .length) whole-item) (y : Computation) (item″ ws₁ : List ℕ) (made : MadeRoom next whole-item ws′ y item″ ws₁) where
+      abbrev opening-is : Opened g f (v .origin) on ws db (t .state) (t .stood) item′ ws′ next
+      opening-is = opened next e long
+
+      words-are : take (next .frontier .length) whole-item ≡ held (next .frontier .length) (opening-is .route)
+      words-are = sym front ∙ opening-is .words
+
+      -- what the round is given
+      pub turn-given : Rounding 549755813888 index f (take (y .frontier .length) item″) y ws₁ db
+      turn-given =
+          let o = opening-is in
           let l : o .model .tally .looked ≡ t .state .tally .looked = ap (λ (y : Tally). y .looked) (o .tally) in
           record {
             graph = v .graph;
             loaded = v .loaded;
             origin = v .origin;
             route = o .route;
-            words = o .words;
-            good = o .good;
+            words = room-words next whole-item ws′ y item″ ws₁ made g f (v .origin) db (o .model) (o .rep) (o .route) words-are (o .good);
+            good = room-good next whole-item ws′ y item″ ws₁ made g f (v .origin) db (o .model) (o .rep) (o .route) words-are (o .good);
+            room = room-roomy next whole-item ws′ y item″ ws₁ made g f (v .origin) db (o .model) (o .rep) (o .route) words-are (o .good);
             fits = fits-same f db₀ db long (v .fits);
             model = o .model;
-            rep = o .rep;
+            rep = room-rep next whole-item ws′ y item″ ws₁ made g f (v .origin) db (o .model) (o .rep);
             small = omega (arith, l, t .looked, t .expanded);
           }
 
-      module _ (b : Course) (ws″ db′ : List ℕ) (r : Rounded 549755813888 index f item′ next ws′ db turn-given b ws″ db′) where
-        told : Tells g f (v .origin) (frameOf next) b ws″ db′ (each (settingOf (frameOf next)) (opened .model) (trying (frameOf next) (opened .route)))
+      -- the frame is that of the loop, but for the words of a slot
+      framed : frameOf y ≡ slottedBy (y .frontier .length) (frameOf on)
+      framed = room-frame next whole-item ws′ y item″ ws₁ made ∙ ap (slottedBy (y .frontier .length)) (opening-is .frame)
+
+      module _ (b : Course) (ws″ db′ : List ℕ) (r : Rounded 549755813888 index f (take (y .frontier .length) item″) y ws₁ db turn-given b ws″ db′) where
+        told : Tells g f (v .origin) (frameOf y) b ws″ db′ (each (settingOf (frameOf y)) (opening-is .model) (trying (frameOf y) (opening-is .route)))
         unfolding turn-given
         told = r
 
-        onto : Tells g f (v .origin) (frameOf on) b ws″ db′ (each (settingOf (frameOf on)) (opened .model) (trying (frameOf on) (opened .route)))
-        onto = subst (λ (y : Frame). Tells g f (v .origin) y b ws″ db′ (each (settingOf y) (opened .model) (trying y (opened .route)))) (opened .frame) told
+        onto : Tells g f (v .origin) (frameOf y) b ws″ db′ (each (settingOf (frameOf on)) (opening-is .model) (trying (frameOf on) (opening-is .route)))
+        onto = subst (λ (z : Frame). Tells g f (v .origin) (frameOf y) b ws″ db′ (each (settingOf z) (opening-is .model) (trying z (opening-is .route)))) framed told
 
-        pub turn-refused : (y : PartialPathRefusal) → b ≡ stops y → DrivenTo index f item₀ x ws₀ db₀ v (Refused y) db′
-        turn-refused y d =
-            let o = opened in
-            let u = tells-refused g f (v .origin) (frameOf on) b ws″ db′ (each (settingOf (frameOf on)) (o .model) (trying (frameOf on) (o .route))) y onto d in
-            let w = run-refused (settingOf (frameOf on)) (trying (frameOf on)) (16777216 - on .budget .expanded) (merge (on .frontier .order) (t .state)) (o .route) (o .model) y (o .round) (omega (arith, o .before)) (u .0) in
-            subst (λ (z : Answer PartialPathRefusal (State Route)). Ends f (v .origin) (Refused y) db′ z) (sym (sym (t .same) ∙ w)) (refl, u .1)
+        pub turn-refused : (z : PartialPathRefusal) → b ≡ stops z → DrivenTo index f item₀ x ws₀ db₀ v (Refused z) db′
+        turn-refused z d =
+            let o = opening-is in
+            let u = tells-refused g f (v .origin) (frameOf y) b ws″ db′ (each (settingOf (frameOf on)) (o .model) (trying (frameOf on) (o .route))) z onto d in
+            let w = run-refused (settingOf (frameOf on)) (trying (frameOf on)) (16777216 - on .budget .expanded) (merge (on .frontier .order) (t .state)) (o .route) (o .model) z (o .round) (omega (arith, o .before)) (u .0) in
+            subst (λ (q : Answer PartialPathRefusal (State Route)). Ends f (v .origin) (Refused z) db′ q) (sym (sym (t .same) ∙ w)) (refl, u .1)
 
         module _ (n : Computation) (d : b ≡ goes n) where
-          going : (m : State Route) × (each (settingOf (frameOf on)) (opened .model) (trying (frameOf on) (opened .route)) ≡ ok m) × (frameOf n ≡ frameOf on) × Rep g f (v .origin) n ws″ db′ m
-          going = tells-on g f (v .origin) (frameOf on) b ws″ db′ (each (settingOf (frameOf on)) (opened .model) (trying (frameOf on) (opened .route))) n onto d
+          going : (m : State Route) × (each (settingOf (frameOf on)) (opening-is .model) (trying (frameOf on) (opening-is .route)) ≡ ok m) × (frameOf n ≡ frameOf y) × Rep g f (v .origin) n ws″ db′ m
+          going = tells-on g f (v .origin) (frameOf y) b ws″ db′ (each (settingOf (frameOf on)) (opening-is .model) (trying (frameOf on) (opening-is .route))) n onto d
 
           -- one more expansion is counted
           pub turn-counts : (n .budget .expanded ≡ on .budget .expanded + 1) × (on .budget .expanded < 16777216)
           turn-counts =
-              let o = opened in
+              let o = opening-is in
               let u = going in
               let m = each-moved (settingOf (frameOf on)) (o .model) (u .0) (trying (frameOf on) (o .route)) (u .1) in
               let p : n .budget .expanded ≡ u .0 .stats .expanded = ap (λ (z : SearchStats). z .expanded) (u .3 .counts .stats) in
               let q : next .budget .expanded ≡ o .model .stats .expanded = ap (λ (z : SearchStats). z .expanded) (o .rep .counts .stats) in
               (p ∙ m .expansions ∙ sym q ∙ o .expanded, o .before)
 
-          few-tries : length (trying (frameOf on) (opened .route)) ≤ 4096
+          few-tries : length (trying (frameOf on) (opening-is .route)) ≤ 4096
           unfolding routeTries
           few-tries =
-              let l = g .out (opened .route .current) in
-              let h = out-bounded (v .graph) index (v .loaded) (opened .route .current) in
+              let l = g .out (opening-is .route .current) in
+              let h = out-bounded (v .graph) index (v .loaded) (opening-is .route .current) in
               let j = select-fewer (belongs g (f .file)) l in
-              let i : length (trying (frameOf on) (opened .route)) ≡ length (select (belongs g (f .file)) l) = length-map (select (belongs g (f .file)) l) (judgeRoute base (frameOf on .length) g (opened .route)) in
+              let i : length (trying (frameOf on) (opening-is .route)) ≡ length (select (belongs g (f .file)) l) = length-map (select (belongs g (f .file)) l) (judgeRoute base (frameOf on .length) g (opening-is .route)) in
               omega (arith, h, j, i)
 
           pub turn-again : Turning n ws″ db′
           turn-again =
-              let o = opened in
+              let o = opening-is in
               let u = going in
               let c = turn-counts in
               let m = each-moved (settingOf (frameOf on)) (o .model) (u .0) (trying (frameOf on) (o .route)) (u .1) in
@@ -231,7 +378,7 @@ module _ (index : List ℕ) (f : Filing) (item₀ : List ℕ) (x : Computation) 
                 looked = omega (arith, m .looks, h, l, t .looked, c .0);
                 expanded = omega (arith, c .0, c .1);
                 same =
-                    ap (λ (y : Frame). runFrom y (v .graph) (f .file) (16777216 - n .budget .expanded) (u .0)) (u .2)
+                    ap (λ (y : Frame). runFrom y (v .graph) (f .file) (16777216 - n .budget .expanded) (u .0)) (u .2 ∙ framed)
                     ∙ ap (λ (y : ℕ). runFrom (frameOf on) (v .graph) (f .file) y (u .0)) (sym z)
                     ∙ sym w
                     ∙ t .same;

@@ -16,16 +16,16 @@ use Rattle.graph_search.specs.declared.path_frontier.Popped.{Popped}
 use Rattle.graph_search.specs.declared.path_frontier.Popped.the-variants as Popped
 use Rattle.budget.specs.Budget.{answerBy, oneExpanded, refusedCount, refusedLength, expansion, lengthening}
 use Rattle.words.specs.Slots.{IsSlot}
-use Rattle.graph_search.specs.Frontier.{Framed, Pushes, Pops}
+use Rattle.graph_search.specs.Frontier.{Framed, Pushes, Pops, Wider, Widens}
 use Rattle.graph_search.specs.Frontier.Laws.{push-frame, pop-frame}
 use Rattle.partial_state.specs.declared.extraction.Config.{Config}
 use Rattle.partial_state.specs.declared.extraction.Frame.{Frame}
 use Rattle.partial_state.specs.declared.extraction.Extraction.{Extraction}
-use Rattle.partial_state.specs.Extractions.{Computation, goes, stops, closing, opening, exceeding, frameWith, nothingYet, at, newComputation, countedBy, placedBy, withBudget, withFrontier, courseOf, openingOf, Extends, Taking}
+use Rattle.partial_state.specs.Extractions.{Computation, goes, stops, closing, opening, exceeding, frameWith, nothingYet, at, newComputation, countedBy, placedBy, withBudget, withFrontier, courseOf, openingOf, Extends, Taking, slottedBy, Grows}
 
 module _ (fr : Frame) (p : Extraction) where
   -- ---- what is left behind by a frontier, and by a budget
-  placed-is : (n : Frontier) → n .order ≡ fr .order → n .length ≡ 128 → n .capacity ≡ fr .waiting → at fr (placedBy n p) ≡ withFrontier n (at fr p)
+  placed-is : (n : Frontier) → n .order ≡ fr .order → n .length ≡ fr .slot → n .capacity ≡ fr .waiting → at fr (placedBy n p) ≡ withFrontier n (at fr p)
   placed-is n o l c = λ i. record { frontier = record { order = sym o i; length = sym l i; first = n .first; count = n .count; pending = n .pending; capacity = sym c i }; budget = at fr p .budget; cycles = p .cycles; found = p .found }
 
   expanded-is : at fr (countedBy (expansion (at fr p .budget) .budget) p) ≡ withBudget (expansion (at fr p .budget) .budget) (at fr p)
@@ -53,7 +53,7 @@ module _ (fr : Frame) (p : Extraction) where
     length-left q made = ap (at fr) made ∙ subst (λ (y : Admitted). at fr (countedBy (y .budget) p) ≡ withBudget (y .budget) (at fr p)) (sym length-asked) (lengthened-is n)
 
   -- ---- what the frontier and the budget are asked with
-  pub frontier-given : (f : Frontier) → f ≡ at fr p .frontier → (ws item : List ℕ) → Framed (at fr p .frontier) ws × IsSlot 128 item → Framed f ws × IsSlot (f .length) item
+  pub frontier-given : (f : Frontier) → f ≡ at fr p .frontier → (ws item : List ℕ) → Framed (at fr p .frontier) ws × IsSlot (fr .slot) item → Framed f ws × IsSlot (f .length) item
   frontier-given f is ws item h = subst (λ (y : Frontier). Framed y ws × IsSlot (y .length) item) (sym is) h
 
   pub expansion-given : (b : Budget) → b ≡ at fr p .budget → p .expanded + 1 < 2 ^ 64 → b .expanded + 1 < 2 ^ 64
@@ -105,6 +105,16 @@ module _ (fr : Frame) (p : Extraction) (f : Frontier) (is : f ≡ at fr p .front
       let w : at fr (placedBy n q) ≡ withFrontier n (at fr q) = placed-is fr q n (g .order) (g .length) (g .capacity) in
       let u : at fr r ≡ withFrontier n (withBudget (expansion (at fr p .budget) .budget) (at fr p)) = ap (at fr) put ∙ w ∙ ap (withFrontier n) (after-is fr p f is ws a item ws′ h n e b same d asked q made) in
       record { popped = a; pops = pops fr p f is ws a item ws′ h; is = rw (e, answers fr p f is ws a item ws′ h n e b same d asked q made true k, lt-leb 16777216 (p .expanded) m) (ap (λ (y : Computation). opening y) u) }
+
+-- ---- longer slots
+module _ (fr : Frame) (p : Extraction) (f : Frontier) (is : f ≡ at fr p .frontier) (ws : List ℕ) where
+  pub widen-given : Wider (at fr p .frontier) ws 128 → Framed (at fr p .frontier) ws → Framed f ws × Wider f ws 128
+  widen-given w ok = subst (λ (y : Frontier). Framed y ws × Wider y ws 128) (sym is) (ok, w)
+
+  pub widened-grows : (n : Frontier) (ws′ : List ℕ) → Widens f ws 128 n ws′ → (r : Frame) → r ≡ slottedBy 128 fr → Grows (at fr p) ws 128 (at r p) ws′
+  widened-grows n ws′ w r e =
+      let v : Widens (at fr p .frontier) ws 128 n ws′ = subst (λ (y : Frontier). Widens y ws 128 n ws′) is w in
+      record { frontier = n; widens = v; is = ap (λ (y : Frame). at y p) e ∙ sym (ap (λ (y : Frontier). withFrontier y (at fr p)) (v .is)) }
 
 -- ---- the beginning
 pub new-is : (c : Config) (waiting : ℕ) (fr : Frame) (p : Extraction) → fr ≡ frameWith c waiting → p ≡ nothingYet → at fr p ≡ newComputation c waiting

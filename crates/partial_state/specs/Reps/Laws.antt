@@ -1,36 +1,36 @@
 -- A computation in code goes on as the enumeration does: what is looked at, counted, filed and pushed.
 -- Serves document 01, "Partial paths" and "Budget and frontier"; 31 of "Turned back".
-use Prim.Native.Nat.{ℕ, _+_, _-_}
+use Prim.Native.Nat.{ℕ, _+_, _-_, _*_, _<_, _≤_}
 use native.Mathlib.Omega.{arith}
-use mathlib.Core.Path.{_≡_, refl, sym, ap, subst, _∙_}
+use mathlib.Core.Path.{_≡_, refl, sym, ap, ap₂, subst, _∙_}
 use mathlib.Core.Logic.{_⊎_, inl, inr, ⊎-elim}
 use mathlib.Core.Bool.{true, false}
-use mathlib.Core.List.{List, [], _∷_, _++_, List·Memᴰ, List·Memᴰ·append-cases, List·Memᴰ·eq-of-singleton}
+use mathlib.Core.List.{List, [], _∷_, _++_, map, List·Memᴰ, List·Memᴰ·head, List·Memᴰ·tail, List·Memᴰ·append-cases, List·Memᴰ·eq-of-singleton}
 use lib.ListN.{length, take, drop, getD, length-append}
 use Rattle.semantics.specs.declared.refusal.PartialPathRefusal.{PartialPathRefusal}
 use Rattle.semantics.specs.declared.refusal.PartialPathRefusal.the-variants.{NoWaitingSlot}
 use Rattle.semantics.specs.Limits.{within}
 use Rattle.semantics.specs.Answer.{Answer, ok, refuse}
 use Rattle.semantics.specs.Graph.{View}
-use Rattle.semantics.specs.Enumeration.{State, keep, keepIf, place, pushItem, withKept, withStats, withTally, addComplete, addCycle, addLooked, addOverlong, flagLength}
+use Rattle.semantics.specs.Enumeration.{State, keep, keepIf, place, pushItem, withKept, withStats, withTally, withPending, addComplete, addCycle, addLooked, addOverlong, flagLength}
 use Rattle.semantics.specs.PartialPaths.{Route}
-use Rattle.words.specs.Slots.{IsSlot}
+use Rattle.words.specs.Slots.{IsSlot, padded}
 use Rattle.graph_search.specs.declared.path_frontier.Frontier.{Frontier}
 use Rattle.graph_search.specs.declared.path_frontier.Pushed.{Pushed}
 use Rattle.graph_search.specs.declared.path_frontier.Pushed.the-variants as Pushed
 use Rattle.budget.specs.Budget.{lengthening}
 use Rattle.budget.specs.Budget.Laws.{lengthening-refused}
-use Rattle.graph_search.specs.Frontier.{Framed}
+use Rattle.graph_search.specs.Frontier.{Framed, pushed, Waits, Wider}
 use Rattle.graph_search.specs.Frontier.Laws.{push-frame}
-use Rattle.graph_search.specs.Frontier.Stands.{stands-done, stands-full}
+use Rattle.graph_search.specs.Frontier.Stands.{Stands, stands-done, stands-full}
 use Rattle.partial_state.specs.declared.route.Ends.{Ends}
 use Rattle.partial_state.specs.declared.filing.Filing.{Filing}
 use Rattle.partial_state.specs.declared.extraction.Frame.{Frame}
-use Rattle.partial_state.specs.Routes.{held, endsOf, Traced}
-use Rattle.partial_state.specs.Routes.Laws.{held-count, held-carries}
+use Rattle.partial_state.specs.Routes.{held, endsOf, Waiting}
+use Rattle.partial_state.specs.Routes.Laws.{held-count, held-carries, held-padded}
 use Rattle.partial_state.specs.Filings.{filedNext}
 use Rattle.partial_state.specs.Filings.Laws.{filed-next, filed-nowhere}
-use Rattle.partial_state.specs.Extractions.{Computation, Course, goes, stops, withBudget, withFrontier, cutOne, foundOne, counting, courseOf, Extends}
+use Rattle.partial_state.specs.Extractions.{Computation, Course, goes, stops, withBudget, withFrontier, cutOne, foundOne, counting, courseOf, Extends, Grows}
 use Rattle.partial_state.specs.Reps.{Few, frameOf, settingOf, Rep, Untouched, Tells, Extendable, ExtendsTo}
 
 module _ (g : View) (f : Filing) (origin : List ℕ) (x : Computation) (ws db : List ℕ) (m : State Route) (rep : Rep g f origin x ws db m) where
@@ -73,7 +73,7 @@ module _ (g : View) (f : Filing) (origin : List ℕ) (x : Computation) (ws db : 
     traced = rep .traced;
   }
 
-  module _ (q : Route) (good : Traced g (f .file) q) where
+  module _ (q : Route) (good : Waiting g (f .file) (x .frontier .length) q) where
     -- ---- a route is found
     abbrev pub keptWith : State Route
     keptWith = withKept q (withStats m (addComplete (m .stats)))
@@ -93,30 +93,57 @@ module _ (g : View) (f : Filing) (origin : List ℕ) (x : Computation) (ws db : 
     }
 
     -- ---- a route is pushed
-    in-snoc : (r : Route) → List·Memᴰ r (m .rest) ⊎ List·Memᴰ r (m .pending ++ (q ∷ [])) → Traced g (f .file) r
+    in-snoc : (r : Route) → List·Memᴰ r (m .rest) ⊎ List·Memᴰ r (m .pending ++ (q ∷ [])) → Waiting g (f .file) (x .frontier .length) r
     in-snoc r (inl a) = rep .traced r (inl a)
-    in-snoc r (inr a) = ⊎-elim (λ (b : List·Memᴰ r (m .pending)). rep .traced r (inr b)) (λ (b : List·Memᴰ r (q ∷ [])). subst (Traced g (f .file)) (sym (List·Memᴰ·eq-of-singleton b)) good) (List·Memᴰ·append-cases (m .pending) a)
+    in-snoc r (inr a) = ⊎-elim (λ (b : List·Memᴰ r (m .pending)). rep .traced r (inr b)) (λ (b : List·Memᴰ r (q ∷ [])). subst (Waiting g (f .file) (x .frontier .length)) (sym (List·Memᴰ·eq-of-singleton b)) good) (List·Memᴰ·append-cases (m .pending) a)
 
-    pub push-tells : (a : Course) (ws′ : List ℕ) → Extends x ws (held 128 q) a ws′ → Tells g f origin (frameOf x) a ws′ db (pushItem (settingOf (frameOf x)) q m)
+    pub push-tells : (a : Course) (ws′ : List ℕ) → Extends x ws (held (x .frontier .length) q) a ws′ → Tells g f origin (frameOf x) a ws′ db (pushItem (settingOf (frameOf x)) q m)
     push-tells a ws′ h = subst (λ (y : Course). Tells g f origin (frameOf x) y ws′ db (pushItem (settingOf (frameOf x)) q m)) (sym (h .is)) (on (h .pushed) refl)
       where
         on : (p : Pushed) → h .pushed ≡ p → Tells g f origin (frameOf x) (courseOf x p) ws′ db (pushItem (settingOf (frameOf x)) q m)
         on (Pushed.Done n) e =
-            let d = stands-done (held 128) (settingOf (frameOf x)) NoWaitingSlot (x .frontier) refl ws m q (h .pushed) ws′ (h .pushes) (rep .stands) n e in
-            let k = push-frame (x .frontier) ws (held 128 q) (h .pushed) ws′ (h .pushes) n e in
-            subst (λ (y : Answer PartialPathRefusal (State Route)). Tells g f origin (frameOf x) (goes (withFrontier n x)) ws′ db y) (sym (d .0)) (
-              ap (λ (z : Frontier). frameOf (withFrontier z x)) (k .1),
+            let d = stands-done (held (x .frontier .length)) (settingOf (frameOf x)) NoWaitingSlot (x .frontier) refl ws m q (h .pushed) ws′ (h .pushes) (rep .stands) n e in
+            let k = push-frame (x .frontier) ws (held (x .frontier .length) q) (h .pushed) ws′ (h .pushes) n e in
+            subst (λ (z : Frontier). Tells g f origin (frameOf x) (goes (withFrontier z x)) ws′ db (pushItem (settingOf (frameOf x)) q m)) (sym (k .1))
+            (subst (λ (y : Answer PartialPathRefusal (State Route)). Tells g f origin (frameOf x) (goes (withFrontier (pushed (x .frontier)) x)) ws′ db y) (sym (d .0)) (
+              refl,
               record {
-                sized = ap (λ (z : Frontier). z .length) (k .1) ∙ rep .sized;
-                stands = d .1;
+                sized = record { start = rep .sized .start; most = rep .sized .most; room = omega (arith, rep .sized .room, h .pushes .same-length) };
+                stands = subst (λ (z : Frontier). Stands (held (x .frontier .length)) z ws′ (withPending q m)) (k .1) (d .1);
                 counts = record { stats = rep .counts .stats; found = rep .counts .found };
                 few = rep .few;
                 filed = rep .filed;
                 traced = in-snoc;
               },
-            )
+            ))
         on Pushed.Full e =
-            subst (λ (y : Answer PartialPathRefusal (State Route)). Tells g f origin (frameOf x) (stops NoWaitingSlot) ws′ db y) (sym (stands-full (held 128) (settingOf (frameOf x)) NoWaitingSlot (x .frontier) refl ws m q (h .pushed) ws′ (h .pushes) (rep .stands) e)) (refl, untouched)
+            subst (λ (y : Answer PartialPathRefusal (State Route)). Tells g f origin (frameOf x) (stops NoWaitingSlot) ws′ db y) (sym (stands-full (held (x .frontier .length)) (settingOf (frameOf x)) NoWaitingSlot (x .frontier) refl ws m q (h .pushed) ws′ (h .pushes) (rep .stands) e)) (refl, untouched)
+
+-- ---- the waiting slots get more words
+
+module _ (g : View) (f : Filing) (origin : List ℕ) (x : Computation) (ws db : List ℕ) (m : State Route) (rep : Rep g f origin x ws db m) where
+  -- the words of waiting routes in longer slots
+  all-padded : (L : ℕ) → x .frontier .length ≤ L → (l : List Route) → ((r : Route) → List·Memᴰ r l → length (r .edges) < x .frontier .length) → map (padded L) (map (held (x .frontier .length)) l) ≡ map (held L) l
+  all-padded L h [] k = refl
+  all-padded L h (r ∷ l) k = ap₂ (λ (s : List ℕ) (t : List (List ℕ)). s ∷ t) (held-padded L (x .frontier .length) r (rep .sized .start) h (k r (List·Memᴰ·head refl))) (all-padded L h l (λ q i. k q (List·Memᴰ·tail i)))
+
+  pub rep-wider : Wider (x .frontier) ws 128
+  rep-wider = record { longer = rep .sized .most; room = rep .sized .room }
+
+  pub rep-grows : (y : Computation) (ws′ : List ℕ) → Grows x ws 128 y ws′ → Rep g f origin y ws′ db m
+  rep-grows y ws′ h = subst (λ (z : Computation). Rep g f origin z ws′ db m) (sym (h .is ∙ ap (λ (n : Frontier). withFrontier n x) (h .widens .is))) (record {
+    sized = record { start = omega arith; most = omega arith; room = omega (arith, rep .sized .room, h .widens .same-length) };
+    stands =
+        let v = h .widens .waits (map (held (x .frontier .length)) (m .rest)) (map (held (x .frontier .length)) (m .pending)) (rep .stands) in
+        let a = all-padded 128 (rep .sized .most) (m .rest) (λ r i. rep .traced r (inl i) .1) in
+        let b = all-padded 128 (rep .sized .most) (m .pending) (λ r i. rep .traced r (inr i) .1) in
+        subst (λ (n : Frontier). Waits n ws′ (map (held 128) (m .rest)) (map (held 128) (m .pending))) (h .widens .is)
+        (subst (λ (l : List (List ℕ)). Waits (h .frontier) ws′ (map (held 128) (m .rest)) l) b (subst (λ (l : List (List ℕ)). Waits (h .frontier) ws′ l (map (padded 128) (map (held (x .frontier .length)) (m .pending)))) a v));
+    counts = record { stats = rep .counts .stats; found = rep .counts .found };
+    few = rep .few;
+    filed = rep .filed;
+    traced = λ r k. let w = rep .traced r k in (w .0, omega (arith, w .1, rep .sized .most));
+  })
 
 -- ---- a route that was extended
 
@@ -126,25 +153,25 @@ unfolding keep
 extend-only x e f item ws db a ws′ h g origin m q n rep few at good ends is = push-tells g f origin x ws db m rep q good a ws′ (subst (λ (i : List ℕ). Extends x ws i a ws′) is h)
 
 -- the edges in its words
-pub held-part : (g : View) (file : ℕ) (q : Route) (item : List ℕ) → Traced g file q → item ≡ held 128 q → take (getD item 0 0 + 1 - 1) (drop 1 item) ≡ q .edges
-held-part g file q item good is =
-    let c : getD item 0 0 ≡ length (q .edges) = ap (λ (l : List ℕ). getD l 0 0) is ∙ held-count 127 (q .start) (q .edges) in
+pub held-part : (g : View) (file L : ℕ) (q : Route) (item : List ℕ) → Waiting g file L q → 2 ≤ L → item ≡ held L q → take (getD item 0 0 + 1 - 1) (drop 1 item) ≡ q .edges
+held-part g file L q item good two is =
+    let c : getD item 0 0 ≡ length (q .edges) = ap (λ (l : List ℕ). getD l 0 0) is ∙ held-count L (q .start) (q .edges) (omega (arith, two)) in
     let n : getD item 0 0 + 1 - 1 ≡ length (q .edges) = omega (arith, c) in
-    ap (λ (k : ℕ). take k (drop 1 item)) n ∙ ap (λ (l : List ℕ). take (length (q .edges)) (drop 1 l)) is ∙ held-carries 127 (q .start) (q .edges) (omega arith) (good .short) .edges
+    ap (λ (k : ℕ). take k (drop 1 item)) n ∙ ap (λ (l : List ℕ). take (length (q .edges)) (drop 1 l)) is ∙ held-carries L (q .start) (q .edges) two (good .1) .edges
 
 -- an endpoint: it is counted and filed, then it waits
 pub extend-found : (x : Computation) (e : Ends) (f : Filing) (item ws db db′ : List ℕ) → db′ ≡ filedNext f (x .found) e (take (getD item 0 0 + 1 - 1) (drop 1 item)) db → (y : Computation) → y ≡ foundOne x → (a : Course) (ws′ : List ℕ) → Extends y ws item a ws′
     → ExtendsTo x true e f item ws db a ws′ db′
 extend-found x e f item ws db db′ w y made a ws′ h g origin m q n rep few at good ends is =
     let z : db′ ≡ filedNext f (x .found) (endsOf q) (q .edges) db =
-    w ∙ ap (λ (l : List ℕ). filedNext f (x .found) e l db) (held-part g (f .file) q item good is) ∙ ap (λ (k : Ends). filedNext f (x .found) k (q .edges) db) ends in
-    let u : Extends (foundOne x) ws (held 128 q) a ws′ = subst (λ (k : Computation). Extends k ws (held 128 q) a ws′) made (subst (λ (i : List ℕ). Extends y ws i a ws′) is h) in
+    w ∙ ap (λ (l : List ℕ). filedNext f (x .found) e l db) (held-part g (f .file) (x .frontier .length) q item good (rep .sized .start) is) ∙ ap (λ (k : Ends). filedNext f (x .found) k (q .edges) db) ends in
+    let u : Extends (foundOne x) ws (held (x .frontier .length) q) a ws′ = subst (λ (k : Computation). Extends k ws (held (x .frontier .length) q) a ws′) made (subst (λ (i : List ℕ). Extends y ws i a ws′) is h) in
     let r = rep-found g f origin x ws db m rep q good n db′ few at z in
     rw (keep-is g f origin x ws db m rep q good (frameOf x)) (push-tells g f origin (foundOne x) ws db′ (keptWith g f origin x ws db m rep q good) r q good a ws′ u)
 
 -- what the push behind it is given
 pub extend-push : (x y : Computation) (f : Filing) (item ws db : List ℕ) → Extendable x f item ws db → y ≡ foundOne x → Framed (y .frontier) ws × IsSlot (y .frontier .length) item
-extend-push x y f item ws db h e = subst (λ (z : Computation). Framed (z .frontier) ws × IsSlot (z .frontier .length) item) (sym e) (h .framed, h .slot ∙ sym (h .sized))
+extend-push x y f item ws db h e = subst (λ (z : Computation). Framed (z .frontier) ws × IsSlot (z .frontier .length) item) (sym e) (h .framed, h .slot)
 
 -- ---- what a caller draws from an answer
 

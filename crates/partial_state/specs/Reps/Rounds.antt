@@ -1,6 +1,7 @@
 -- The top of a round: the computation is over, or the next route in the order of taking is to be expanded, or it would be one expansion too many.
 -- Serves document 01, "Budget and frontier"; 36 of "Turned back".
-use Prim.Native.Nat.{ℕ, _+_, _<_, _≤_}
+use Prim.Native.Nat.{ℕ, _+_, _*_, _<_, _≤_}
+use native.Mathlib.Omega.{arith}
 use mathlib.Core.Path.{_≡_, refl, sym, ap, subst, _∙_}
 use mathlib.Core.Logic.{_⊎_, inl, inr, ⊎-elim}
 use mathlib.Core.Bool.{Bool, true, false, not}
@@ -24,7 +25,7 @@ use Rattle.graph_search.specs.Frontier.{merged, Waits}
 use Rattle.graph_search.specs.Frontier.Laws.{merge-is, pop-frame}
 use Rattle.graph_search.specs.Frontier.Stands.{stands-item, stands-empty}
 use Rattle.partial_state.specs.declared.filing.Filing.{Filing}
-use Rattle.partial_state.specs.Routes.{held, Traced}
+use Rattle.partial_state.specs.Routes.{held, Waiting}
 use Rattle.partial_state.specs.Extractions.{Computation, Opening, closing, opening, exceeding, withBudget, withFrontier, counting, openingOf, Taking}
 use Rattle.partial_state.specs.Reps.{Counts, frameOf, settingOf, Rep}
 
@@ -41,8 +42,8 @@ module _ (g : View) (f : Filing) (origin : List ℕ) (x : Computation) (ws db : 
     pub route : Route
     pub model : State Route
     pub round : roundOf ≡ expand route model
-    pub words : item ≡ held 128 route
-    pub good : Traced g (f .file) route
+    pub words : item ≡ held (n .frontier .length) route
+    pub good : Waiting g (f .file) (n .frontier .length) route
     pub frame : frameOf n ≡ frameOf x
     pub rep : Rep g f origin n ws′ db model
     pub tally : model .tally ≡ m .tally
@@ -88,33 +89,33 @@ module _ (g : View) (f : Filing) (origin : List ℕ) (x : Computation) (ws db : 
     is-below : (b : Bool) → expansion (x .budget) .allowed ≡ b → below (x .budget .expanded) (x .budget .maxPaths) ≡ b
     is-below b e = sym (expansion-allowed (x .budget)) ∙ e
 
-    good-first : Traced g (f .file) w
+    good-first : Waiting g (f .file) (x .frontier .length) w
     good-first = was .traced w (mem-merged (x .frontier .order) (m .rest) (m .pending) w (subst (λ (l : List Route). List·Memᴰ w l) (sym first) (List·Memᴰ·head refl)))
 
-    good-others : (r : Route) → List·Memᴰ r us → Traced g (f .file) r
+    good-others : (r : Route) → List·Memᴰ r us → Waiting g (f .file) (x .frontier .length) r
     good-others r h = was .traced r (mem-merged (x .frontier .order) (m .rest) (m .pending) r (subst (λ (l : List Route). List·Memᴰ r l) (sym first) (List·Memᴰ·tail h)))
 
-    onward : (n : Frontier) (item ws′ : List ℕ) → n .order ≡ x .frontier .order → n .capacity ≡ x .frontier .capacity → n .length ≡ x .frontier .length → held 128 w ≡ item → Waits n ws′ (map (held 128) us) []
+    onward : (n : Frontier) (item ws′ : List ℕ) → n .order ≡ x .frontier .order → n .capacity ≡ x .frontier .capacity → n .length ≡ x .frontier .length → length ws′ ≡ length ws → held (x .frontier .length) w ≡ item → Waits n ws′ (map (held (x .frontier .length)) us) []
         → expansion (x .budget) .allowed ≡ true → x .budget .expanded < 16777216
         → Opened item ws′ (withFrontier n (withBudget (expansion (x .budget) .budget) x))
     unfolding admit expansion
-    onward n item ws′ o c l e v a h = record {
+    onward n item ws′ o c l s e v a h = record {
       route = w;
       model = record { rest = us; pending = []; kept = m .kept; stats = addExpanded (m .stats); tally = m .tally };
       round = asked-is true a;
-      words = sym e;
-      good = good-first;
-      frame = λ i. record { order = o i; length = expansion-limits (x .budget) i .length; paths = expansion-limits (x .budget) i .paths; waiting = c i };
+      words = sym e ∙ ap (λ (y : ℕ). held y w) (sym l);
+      good = subst (λ (y : ℕ). Waiting g (f .file) y w) (sym l) good-first;
+      frame = λ i. record { order = o i; length = expansion-limits (x .budget) i .length; paths = expansion-limits (x .budget) i .paths; waiting = c i; slot = l i };
       rep = record {
-        sized = l ∙ was .sized;
-        stands = v;
+        sized = record { start = omega (arith, l, was .sized .start); most = omega (arith, l, was .sized .most); room = subst (λ (y : ℕ). 128 * y ≤ length ws′) (sym c) (omega (arith, s, was .sized .room)) };
+        stands = subst (λ (y : ℕ). Waits n ws′ (map (held y) us) []) (sym l) v;
         counts = record {
           stats = ap (counting (x .found)) (expansion-granted (x .budget) 0 (x .cycles) (is-below true a)) ∙ ap addExpanded (was .counts .stats);
           found = was .counts .found;
         };
         few = record { complete = was .few .complete; cycles = was .few .cycles };
         filed = was .filed;
-        traced = λ r k. ⊎-elim (λ (y : List·Memᴰ r us). good-others r y) (λ (y : List·Memᴰ r []). absurd (not-nil y)) k;
+        traced = λ r k. subst (λ (z : ℕ). Waiting g (f .file) z r) (sym l) (⊎-elim (λ (y : List·Memᴰ r us). good-others r y) (λ (y : List·Memᴰ r []). absurd (not-nil y)) k);
       };
       tally = refl;
       expanded = ap (λ (t : SearchStats). t .expanded) (expansion-granted (x .budget) 0 0 (is-below true a));
@@ -149,7 +150,7 @@ module _ (g : View) (f : Filing) (origin : List ℕ) (x : Computation) (ws db : 
         model = opened;
         round =
             ap (turn (settingOf (frameOf x))) (merge-is (x .frontier .order) m)
-            ∙ ap (popped (settingOf (frameOf x)) opened) (ap (λ (u : State Route). u .rest) (sym (merge-is (x .frontier .order) m)) ∙ stands-empty (held 128) (x .frontier) ws m (t .popped) item ws′ (t .pops) (was .stands) e);
+            ∙ ap (popped (settingOf (frameOf x)) opened) (ap (λ (u : State Route). u .rest) (sym (merge-is (x .frontier .order) m)) ∙ stands-empty (held (x .frontier .length)) (x .frontier) ws m (t .popped) item ws′ (t .pops) (was .stands) e);
         counts = record { stats = was .counts .stats; found = was .counts .found };
         kept = refl;
       }
@@ -158,16 +159,16 @@ module _ (g : View) (f : Filing) (origin : List ℕ) (x : Computation) (ws db : 
           told : (b d : Bool) → expansion (x .budget) .allowed ≡ b → leb 16777216 (x .budget .expanded) ≡ d
               → Rounds (pick b (pick d exceeding (opening (withFrontier n (withBudget (expansion (x .budget) .budget) x)))) (closing (withBudget (expansion (x .budget) .budget) x))) item ws′
           told b d a h =
-              let v = stands-item (held 128) (x .frontier) ws m (t .popped) item ws′ (t .pops) (was .stands) n e in
+              let v = stands-item (held (x .frontier .length)) (x .frontier) ws m (t .popped) item ws′ (t .pops) (was .stands) n e in
               let k = pop-frame (x .frontier) ws (t .popped) item ws′ (t .pops) n e .0 .kept in
               by b d a h (v .0) (v .1) (v .2) (v .3) (v .4) (k .order) (k .capacity) (k .length)
             where
               by : (b d : Bool) → expansion (x .budget) .allowed ≡ b → leb 16777216 (x .budget .expanded) ≡ d
-                  → (w : Route) (us : List Route) → merge (x .frontier .order) m .rest ≡ w ∷ us → held 128 w ≡ item → Waits n ws′ (map (held 128) us) [] → n .order ≡ x .frontier .order → n .capacity ≡ x .frontier .capacity → n .length ≡ x .frontier .length
+                  → (w : Route) (us : List Route) → merge (x .frontier .order) m .rest ≡ w ∷ us → held (x .frontier .length) w ≡ item → Waits n ws′ (map (held (x .frontier .length)) us) [] → n .order ≡ x .frontier .order → n .capacity ≡ x .frontier .capacity → n .length ≡ x .frontier .length
                   → Rounds (pick b (pick d exceeding (opening (withFrontier n (withBudget (expansion (x .budget) .budget) x)))) (closing (withBudget (expansion (x .budget) .budget) x))) item ws′
               by false d a h w us u i v o c l = ended w us u a
               by true true a h w us u i v o c l = exceeded w us u a (leb→le 16777216 (x .budget .expanded) (subst T (sym h) tt))
-              by true false a h w us u i v o c l = onward w us u n item ws′ o c l i v a (nleb→lt 16777216 (x .budget .expanded) (subst T (sym (ap not h)) tt))
+              by true false a h w us u i v o c l = onward w us u n item ws′ o c l (t .pops .same-length) i v a (nleb→lt 16777216 (x .budget .expanded) (subst T (sym (ap not h)) tt))
 
   -- ---- what a caller draws from the answer
 

@@ -1,14 +1,14 @@
 -- Laws of a route in words: how it is begun, its count and edges, one more edge behind them, and its ends.
 -- Serves document 01, "Answer" and "Partial paths".
-use Prim.Native.Nat.{ℕ, zero, suc, _<_, _≤_}
+use Prim.Native.Nat.{ℕ, zero, suc, _+_, _-_, _<_, _≤_}
 use native.Mathlib.Omega.{arith}
 use mathlib.Core.Path.{_≡_, refl, sym, ap, subst, _∙_}
 use mathlib.Core.Bool.{Bool, true, false}
-use mathlib.Core.List.{List, [], _∷_, _++_}
+use mathlib.Core.List.{List, [], _∷_, _++_, append-assoc}
 use borrow.Author.Tests.{lt-ltb, le-ltb}
 use lib.IntN.{ℤ}
 use lib.ListN.{length, take, getD, set, length-replicate}
-use lib.Seq.{length-take-le}
+use lib.Seq.{length-take-le, set-append-left}
 use Rattle.semantics.specs.declared.graph.NodeId.{NodeId}
 use Rattle.semantics.specs.declared.graph.Edge.{Edge}
 use Rattle.semantics.specs.declared.graph.Edge.the-variants as E
@@ -20,6 +20,9 @@ use Rattle.semantics.specs.Words.Laws.{length-encode}
 use Rattle.semantics.specs.PartialPaths.{Route, belongs, targetOf, longer}
 use Rattle.semantics.specs.PartialPaths.Laws.{walk-snoc, walk-nil, walk-cons}
 use Rattle.semantics.specs.Demand.{Walk}
+use Rattle.words.specs.Area.{encode-room}
+use Rattle.words.specs.Slots.{padded}
+use Rattle.words.specs.Slots.Wider.{padded-is}
 use Rattle.search_state.specs.Items.{Carries}
 use Rattle.search_state.specs.Items.Laws.{carries-slot}
 use Rattle.partial_state.specs.declared.route.Ends.{Ends}
@@ -46,10 +49,11 @@ held-long L r = on (r .edges)
     on [] = unfold heldBy in length-take-le L (0 ∷ r .start ∷ zeros L) (simp length-replicate (omega arith))
     on (e ∷ es) = unfold heldBy in length-encode L (e ∷ es)
 
-pub held-count : (m s : ℕ) (es : List ℕ) → getD (heldBy (suc m) s es) 0 0 ≡ length es
+pub held-count : (L s : ℕ) (es : List ℕ) → 0 < L → getD (heldBy L s es) 0 0 ≡ length es
 unfolding heldBy encode
-held-count m s [] = refl
-held-count m s (e ∷ es) = refl
+held-count zero s es h = absurd (omega (arith, h))
+held-count (suc m) s [] h = refl
+held-count (suc m) s (e ∷ es) h = refl
 
 -- with an edge the start needs no word
 pub held-snoc : (L s e : ℕ) (es : List ℕ) → heldBy L s (es ++ (e ∷ [])) ≡ encode L (es ++ (e ∷ []))
@@ -57,11 +61,37 @@ unfolding heldBy
 held-snoc L s e [] = refl
 held-snoc L s e (x ∷ es) = refl
 
-pub held-carries : (m s : ℕ) (es : List ℕ) → 1 ≤ m → length es ≤ m → Carries (suc m) (heldBy (suc m) s es) es
+pub held-carries : (L s : ℕ) (es : List ℕ) → 2 ≤ L → length es < L → Carries L (heldBy L s es) es
 unfolding heldBy encode
-held-carries m s (e ∷ es) h k = carries-slot m (e ∷ es) k
-held-carries zero s [] h k = absurd (omega (arith, h))
-held-carries (suc m) s [] h k = record { long = held-long (suc (suc m)) (record { start = s; current = s; edges = [] }); edges = refl; grows = λ e l. refl }
+held-carries zero s es h k = absurd (omega (arith, h))
+held-carries (suc m) s (e ∷ es) h k = carries-slot m (e ∷ es) (omega (arith, k))
+held-carries (suc zero) s [] h k = absurd (omega (arith, h))
+held-carries (suc (suc m)) s [] h k = record { long = held-long (suc (suc m)) (record { start = s; current = s; edges = [] }); edges = refl; grows = λ e l. refl }
+
+-- ---- in a longer slot
+
+zeros-append : (m n : ℕ) → zeros m ++ zeros n ≡ zeros (m + n)
+zeros-append zero n = ap zeros (let z : n ≡ 0 + n = omega arith in z)
+zeros-append (suc m) n = ap (λ (l : List ℕ). 0 ∷ l) (zeros-append m n) ∙ ap zeros (let z : suc (m + n) ≡ suc m + n = omega arith in z)
+
+-- a route's words in a longer slot are the same with zeros behind
+pub held-padded : (L S : ℕ) (r : Route) → 2 ≤ S → S ≤ L → length (r .edges) < S → padded L (held S r) ≡ held L r
+held-padded L S r h k room = sym (padded-is L S (held S r) (held-long S r)) ∙ on (r .edges) room
+  where
+    some : (M e : ℕ) (es : List ℕ) → heldBy M (r .start) (e ∷ es) ≡ encode M (e ∷ es)
+    some M e es = unfold heldBy in refl
+
+    on : (es : List ℕ) → length es < S → heldBy S (r .start) es ++ zeros (L - S) ≡ heldBy L (r .start) es
+    on [] l =
+        ap (λ (w : List ℕ). w ++ zeros (L - S)) (sym (begun S (r .start) h))
+        ∙ sym (set-append-left (zeros S) (zeros (L - S)) 1 (r .start) (simp length-replicate (omega (arith, h))))
+        ∙ ap (λ (w : List ℕ). set w 1 (r .start)) (zeros-append S (L - S) ∙ ap zeros (let z : S + (L - S) ≡ L = omega (arith, k) in z))
+        ∙ begun L (r .start) (omega (arith, h, k))
+    on (e ∷ es) l =
+        let room : (M : ℕ) → length (e ∷ es) < M → heldBy M (r .start) (e ∷ es) ≡ length (e ∷ es) ∷ (e ∷ es ++ zeros (M - suc (length (e ∷ es)))) = λ M b. some M e es ∙ encode-room M (e ∷ es) b in
+        ap (λ (w : List ℕ). w ++ zeros (L - S)) (room S l)
+        ∙ ap (λ (w : List ℕ). length (e ∷ es) ∷ w) (append-assoc (e ∷ es) (zeros (S - suc (length (e ∷ es)))) (zeros (L - S)) ∙ ap (λ (w : List ℕ). e ∷ es ++ w) (zeros-append (S - suc (length (e ∷ es))) (L - S) ∙ ap zeros (let z : S - suc (length (e ∷ es)) + (L - S) ≡ L - suc (length (e ∷ es)) = omega (arith, k, l) in z)))
+        ∙ sym (room L (omega (arith, k, l)))
 
 -- ---- ends
 
@@ -76,17 +106,19 @@ getD-taken (x ∷ es) rest zero i h k = absurd (omega (arith, k))
 getD-taken (x ∷ es) rest (suc m) zero h k = refl
 getD-taken (x ∷ es) rest (suc m) (suc i) h k = getD-taken es rest m i (omega (arith, h)) (omega (arith, k))
 
-pub held-ends : (g : View) (file : ℕ) (r : Route) → Traced g file r → endsIn (g .edge) (held 128 r) ≡ endsOf r
+pub held-ends : (g : View) (file L : ℕ) (r : Route) → Traced g file r → 2 ≤ L → length (r .edges) < L → endsIn (g .edge) (held L r) ≡ endsOf r
 unfolding endsIn heldBy encode sourceOf
-held-ends g file r t = on (r .edges) (t .walk) (t .short)
+held-ends g file zero r t b h = absurd (omega (arith, b))
+held-ends g file (suc zero) r t b h = absurd (omega (arith, b))
+held-ends g file (suc (suc m)) r t b h = on (r .edges) (t .walk) (omega (arith, h))
   where
-    on : (es : List ℕ) → Walk g (belongs g file) (r .start) es (r .current) → length es ≤ 127 → endsIn (g .edge) (heldBy 128 (r .start) es) ≡ endsOf r
+    on : (es : List ℕ) → Walk g (belongs g file) (r .start) es (r .current) → length es ≤ suc m → endsIn (g .edge) (heldBy (suc (suc m)) (r .start) es) ≡ endsOf r
     on [] w h = ap (λ (n : ℕ). record { start = r .start; end = n }) (walk-nil g (belongs g file) w)
     on (e ∷ es) w h =
         let k = walk-cons g (belongs g file) w in
         let l = walk-last g (belongs g file) e es (r .start) (r .current) w in
         let s : sourceOf (g .edge e) ≡ r .start = ap sourceOf (k .2) in
-        let d : targetOf (g .edge (getD (take 127 (e ∷ es ++ zeros 128)) (length es) 0)) ≡ r .current = ap (λ (n : ℕ). targetOf (g .edge n)) (getD-taken (e ∷ es) (zeros 128) 127 (length es) (omega arith) h) ∙ l in
+        let d : targetOf (g .edge (getD (take (suc m) (e ∷ es ++ zeros (suc (suc m)))) (length es) 0)) ≡ r .current = ap (λ (n : ℕ). targetOf (g .edge n)) (getD-taken (e ∷ es) (zeros (suc (suc m))) (suc m) (length es) (omega arith) h) ∙ l in
         rw (lt-ltb 0 (suc (length es)) (omega arith)) (λ i. record { start = s i; end = d i })
 
 -- ---- one more edge

@@ -21,9 +21,10 @@ use Rattle.partial_state.specs.declared.route.Ends.{Ends}
 use Rattle.partial_state.specs.declared.filing.Filing.{Filing}
 use Rattle.partial_state.specs.declared.extraction.Frame.{Frame}
 use Rattle.partial_state.specs.Filings.{Fits}
+use Rattle.partial_state.specs.Routes.{Waiting}
 use Rattle.partial_state.specs.Reps.{frameOf, settingOf, Rep, Tells}
 use Rattle.partial_state.specs.Reps.Laws.{tells-on, tells-refused}
-use Rattle.partial_trial.specs.Expansions.{Given, Looking, judgeOf, Looked, Expanding, triesOf, Expanded}
+use Rattle.partial_trial.specs.Expansions.{Roomy, Given, Looking, judgeOf, Looked, Expanding, triesOf, Expanded}
 use Rattle.partial_state.specs.Extractions.{Computation, Course, goes, stops}
 
 -- ---- one edge of a list
@@ -76,7 +77,7 @@ module _ (most : ℕ) (index : List ℕ) (f : Filing) (ends : Ends) (k : ℕ) (i
     pub state : State Route
     pub frame : frameOf on ≡ frameOf x
     pub stood : Rep g f (v .origin) on ws db state
-    pub carried : Carries 128 item (v .route .edges)
+    pub carried : Carries (x .frontier .length) item (v .route .edges)
     pub rest : List ℕ
     pub runs : Runs index link rest
     pub fewer : length rest ≤ 4096
@@ -102,6 +103,10 @@ module _ (most : ℕ) (index : List ℕ) (f : Filing) (ends : Ends) (k : ℕ) (i
       }
 
   module _ (on : Computation) (item ws db : List ℕ) (link : ℕ) (mid : Mid on item ws db link) where
+    -- no edge changes the length of the slots
+    same-slot : on .frontier .length ≡ x .frontier .length
+    same-slot = ap (λ (y : Frame). y .slot) (mid .frame)
+
     pub mid-less : 0 < link → left index (nextRow index (link - 1)) < left index link
     mid-less h = left-less index link (mid .rest) h (mid .runs) (mid .fewer)
 
@@ -118,8 +123,9 @@ module _ (most : ℕ) (index : List ℕ) (f : Filing) (ends : Ends) (k : ℕ) (i
               route = v .route;
               starts = v .starts;
               count = v .count;
-              carries = mid .carried;
-              good = v .good;
+              carries = subst (λ (y : ℕ). Carries y item (v .route .edges)) (sym same-slot) (mid .carried);
+              good = subst (λ (y : ℕ). Waiting g (f .file) y (v .route)) (sym same-slot) (v .good);
+              room = subst (Roomy k) (sym same-slot) (v .room);
               fits = fits-same f db₀ db long (v .fits);
               model = mid .state;
               rep = mid .stood;
@@ -147,7 +153,7 @@ module _ (most : ℕ) (index : List ℕ) (f : Filing) (ends : Ends) (k : ℕ) (i
               state = u .0;
               frame = u .2;
               stood = u .3;
-              carried = t .carries;
+              carried = subst (λ (y : ℕ). Carries y item′ (v .route .edges)) same-slot (t .carries);
               rest = r .0;
               runs = subst (λ (y : ℕ). Runs index y (r .0)) (sym q) (r .2);
               fewer = omega (arith, l, mid .fewer);

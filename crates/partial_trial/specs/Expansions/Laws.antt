@@ -3,6 +3,7 @@
 use Prim.Native.Nat.{ℕ, suc, _+_, _-_, _<_, _≤_, _^_}
 use native.Mathlib.Omega.{arith}
 use mathlib.Core.Path.{_≡_, refl, sym, ap, subst, _∙_}
+use mathlib.Core.Logic.{⊎-elim}
 use mathlib.Core.Bool.{Bool, true, false}
 use mathlib.Core.List.{List}
 use borrow.Author.Tests.{lt-ltb, le-ltb}
@@ -31,7 +32,7 @@ use Rattle.search_state.specs.Items.{withEdge, Carries}
 use Rattle.search_state.specs.Items.Laws.{carries-edge}
 use Rattle.partial_state.specs.declared.route.Ends.{Ends}
 use Rattle.partial_state.specs.declared.filing.Filing.{Filing}
-use Rattle.partial_state.specs.Routes.{held, endsOf, Traced}
+use Rattle.partial_state.specs.Routes.{held, endsOf, Waiting}
 use Rattle.partial_state.specs.Routes.Laws.{held-count, held-snoc, traced-snoc}
 use Rattle.partial_state.specs.Extractions.{Computation, Course, goes, stops, withBudget, cutOne}
 use Rattle.partial_state.specs.Reps.{frameOf, settingOf, Tells, Extendable, ExtendsTo}
@@ -71,10 +72,10 @@ module _ (most : ℕ) (index : List ℕ) (f : Filing) (start k : ℕ) (item : Li
   given-found = let e : x .found ≡ v .model .stats .complete = ap (λ (t : SearchStats). t .complete) (v .rep .counts .stats) in omega (arith, e, v .rep .few .complete, v .small)
 
   pub given-short : k ≤ 127
-  given-short = omega (arith, v .good .short, v .count)
+  given-short = omega (arith, v .good .0 .short, v .count)
 
   pub given-slice : k + 1 ≤ length item
-  given-slice = let h = given-short in omega (arith, h, v .carries .long)
+  given-slice = omega (arith, v .good .1, v .count, v .carries .long)
 
   -- the edges of the route stand in the item
   pub given-edges : take (k + 1 - 1) (drop 1 item) ≡ v .route .edges
@@ -113,7 +114,7 @@ module _ (most : ℕ) (index : List ℕ) (f : Filing) (start k e : ℕ) (item : 
         record {
           tells = subst (λ (u : Computation). Tells g f (v .origin) (frameOf x) (goes u) ws db (one (settingOf (frameOf x)) (v .model) (judgeOf (frameOf x) (v .graph) (v .route) e))) (sym z)
               (rw (judge-overlong (x .budget .maxLength) g (v .route) e (has-is b h ∙ y) (within-is false l))
-              (λ i. record { order = x .frontier .order; length = lengthening-limits (k + 1) (x .budget) i .length; paths = lengthening-limits (k + 1) (x .budget) i .paths; waiting = x .frontier .capacity }, rep-overlong g f (v .origin) x ws db (v .model) (v .rep) (k + 1) l));
+              (λ i. record { order = x .frontier .order; length = lengthening-limits (k + 1) (x .budget) i .length; paths = lengthening-limits (k + 1) (x .budget) i .paths; waiting = x .frontier .capacity; slot = x .frontier .length }, rep-overlong g f (v .origin) x ws db (v .model) (v .rep) (k + 1) l));
           carries = v .carries;
         }
 
@@ -134,26 +135,33 @@ module _ (most : ℕ) (index : List ℕ) (f : Filing) (start k e : ℕ) (item : 
   abbrev longerBy : Route
   longerBy = longer (v .route) e (targetOf (g .edge e))
 
-  module _ (short : k < 127) (item′ : List ℕ) (made : item′ ≡ withEdge item k e) where
-    grown : item′ ≡ held 128 longerBy
-    grown =
-        let l : suc (length (v .route .edges)) < 128 = omega (arith, short, v .count) in
-        made ∙ ap (λ (n : ℕ). withEdge item n e) (sym (v .count)) ∙ v .carries .grows e l ∙ sym (held-snoc 128 (v .route .start) e (v .route .edges))
+  -- the slot has room for it
+  pub longer-room : k < 127 → k + 1 < x .frontier .length
+  longer-room h = ⊎-elim (λ (r : k + 1 < x .frontier .length). r) (λ (r : x .frontier .length ≡ 128). omega (arith, r, h)) (v .room)
 
-    good-grown : Traced g (f .file) longerBy
+  module _ (short : k < 127) (item′ : List ℕ) (made : item′ ≡ withEdge item k e) where
+    grown : item′ ≡ held (x .frontier .length) longerBy
+    grown =
+        let r = longer-room short in
+        let l : suc (length (v .route .edges)) < x .frontier .length = omega (arith, r, v .count) in
+        made ∙ ap (λ (n : ℕ). withEdge item n e) (sym (v .count)) ∙ v .carries .grows e l ∙ sym (held-snoc (x .frontier .length) (v .route .start) e (v .route .edges))
+
+    good-grown : Waiting g (f .file) (x .frontier .length) longerBy
     good-grown =
         let l = viewOf-lawful (v .graph) .live (v .route .current) e (t .looking .leaves) in
-        traced-snoc g (f .file) (v .route) e (l .0) (l .1) (v .good) (omega (arith, short, v .count)) (l .2) (t .owned)
+        let r = longer-room short in
+        (traced-snoc g (f .file) (v .route) e (l .0) (l .1) (v .good .0) (omega (arith, short, v .count)) (l .2) (t .owned), omega (arith, length-snoc (v .route .edges) e, r, v .count))
 
     pub longer-given : most + 1 < 2 ^ 64 → length item′ ≡ length item → Extendable x f item′ ws db
     longer-given h l = record {
       framed = v .rep .stands .framed;
       slot = l ∙ v .carries .long;
-      sized = v .rep .sized;
+      most = v .rep .sized .most;
       short =
-          let c : getD item′ 0 0 ≡ length (longerBy .edges) = ap (λ (i : List ℕ). getD i 0 0) grown ∙ held-count 127 (v .route .start) (longerBy .edges) in
+          let c : getD item′ 0 0 ≡ length (longerBy .edges) = ap (λ (i : List ℕ). getD i 0 0) grown ∙ held-count (x .frontier .length) (v .route .start) (longerBy .edges) (omega (arith, v .rep .sized .start)) in
           let n = length-snoc (v .route .edges) e in
-          omega (arith, c, n, short, v .count);
+          let r = longer-room short in
+          omega (arith, c, n, r, v .count);
       few = let c = given-found most index f start k item x ws db v in omega (arith, c, h);
       fits = v .fits;
     }
@@ -172,7 +180,7 @@ module _ (most : ℕ) (index : List ℕ) (f : Filing) (start k e : ℕ) (item : 
           let u = w g (v .origin) (lookedAt g f (v .origin) x ws db (v .model) (v .rep)) longerBy (v .model .tally .looked) (rep-looked g f (v .origin) x ws db (v .model) (v .rep)) (v .rep .few) refl good-grown ends grown in
           record {
             tells = rw (sym endpoint-is) u;
-            carries = subst (λ (l : List ℕ). Carries 128 l (v .route .edges)) (sym (made ∙ ap (λ (n : ℕ). withEdge item n e) (sym (v .count)))) (carries-edge 128 item (v .route .edges) e (v .carries));
+            carries = subst (λ (l : List ℕ). Carries (x .frontier .length) l (v .route .edges)) (sym (made ∙ ap (λ (n : ℕ). withEdge item n e) (sym (v .count)))) (carries-edge (x .frontier .length) item (v .route .edges) e (v .carries));
           }
 
 -- ---- an edge that leaves the route's end

@@ -36,10 +36,13 @@ traced-start g file n = record { walk = stay; short = omega arith }
 
 module _ (item : List ℕ) (x : Computation) (ws : List ℕ) (v : Seeding item x ws) where
   pub start-pushes : (item′ : List ℕ) → length item′ ≡ length item → Framed (x .frontier) ws × IsSlot (x .frontier .length) item′
-  start-pushes item′ e = (v .rep .stands .framed, e ∙ v .slot ∙ sym (v .rep .sized))
+  start-pushes item′ e = (v .rep .stands .framed, e ∙ v .slot)
 
-  pub started : (n : ℕ) (item′ : List ℕ) → item′ ≡ held 128 (routeAt n) → (a : Course) (ws′ : List ℕ) → Extends x ws item′ a ws′ → Started item x ws v n a ws′
-  started n item′ e a ws′ h = push-tells (v .view) (v .filing) (v .origin) x ws (v .database) (v .model) (v .rep) (routeAt n) (traced-start (v .view) (v .filing .file) n) a ws′ (subst (λ (i : List ℕ). Extends x ws i a ws′) e h)
+  pub start-begins : 2 ≤ length item
+  start-begins = omega (arith, v .slot, v .rep .sized .start)
+
+  pub started : (n : ℕ) (item′ : List ℕ) → item′ ≡ held (length item) (routeAt n) → (a : Course) (ws′ : List ℕ) → Extends x ws item′ a ws′ → Started item x ws v n a ws′
+  started n item′ e a ws′ h = push-tells (v .view) (v .filing) (v .origin) x ws (v .database) (v .model) (v .rep) (routeAt n) (traced-start (v .view) (v .filing .file) n, omega (arith, v .rep .sized .start)) a ws′ (subst (λ (i : List ℕ). Extends x ws i a ws′) (e ∙ ap (λ (y : ℕ). held y (routeAt n)) (v .slot)) h)
 
   -- ---- one node
   module _ (g : Graph) (index : List ℕ) (loaded : Loaded g index) (file n : ℕ) (o : Node) (reads : o ≡ nodeRow index n) (b d : Bool) (mine : b ≡ isFile file (fileOf o)) (begins : d ≡ isStart o) where
@@ -100,7 +103,7 @@ module _ (item₀ : List ℕ) (x : Computation) (ws₀ : List ℕ) (v : Seeding 
 
   module _ (on : Computation) (item ws : List ℕ) (n : ℕ) (m : Begun on ws n) (long : length item ≡ length item₀) where
     pub begun-given : Seeding item on ws
-    begun-given = record { view = v .view; filing = v .filing; origin = v .origin; database = v .database; slot = long ∙ v .slot; model = m .state; rep = m .stood }
+    begun-given = record { view = v .view; filing = v .filing; origin = v .origin; database = v .database; slot = long ∙ v .slot ∙ sym (ap (λ (y : Frame). y .slot) (m .frame)); model = m .state; rep = m .stood }
 
     module _ (h : n < length (g .nodes)) (a : Course) (ws′ : List ℕ) (t : NodeSeeded item on ws begun-given g file n a ws′) where
       here : drop n (g .nodes) ≡ viewOf g .node n ∷ drop (suc n) (g .nodes)
@@ -152,7 +155,7 @@ module _ (item : List ℕ) (x : Computation) (ws : List ℕ) (v : Seeding item x
 
   -- what the file's own starts are given
   pub root-given : (next : Computation) → a ≡ goes next → (item′ : List ℕ) → length item′ ≡ length item → Seeding item′ next ws′
-  root-given next e item′ l = let u = rooted next e in record { view = v .view; filing = v .filing; origin = v .origin; database = v .database; slot = l ∙ v .slot; model = u .0; rep = u .3 }
+  root-given next e item′ l = let u = rooted next e in record { view = v .view; filing = v .filing; origin = v .origin; database = v .database; slot = l ∙ v .slot ∙ sym (ap (λ (y : Frame). y .slot) (u .2)); model = u .0; rep = u .3 }
 
   pub root-refused : (g : Graph) (file : ℕ) (y : PartialPathRefusal) → a ≡ stops y → Seeded item x ws v g file a ws′
   unfolding Enumeration.seed

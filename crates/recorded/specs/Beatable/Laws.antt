@@ -1,16 +1,17 @@
--- A path without a beatable edge is shadowed by none; how a walk over the links of a node finds a greater precedence.
+-- A path without a beatable edge is shadowed by none; how a walk over the links of a node finds an edge of the greatest precedence, once for each node.
 -- Document 01, "Path": `shadows`.
-use Prim.Native.Nat.{ℕ, suc, _+_, _-_, _≤_, _<_}
+use Prim.Native.Nat.{ℕ, zero, suc, _+_, _-_, _≤_, _<_}
 use native.Mathlib.Numerals.{add-one}
 use native.Mathlib.Omega.{arith}
 use mathlib.Core.Path.{_≡_, refl, sym, ap, ap₂, _∙_, subst}
 use mathlib.Core.Bool.{Bool, true, false, not, true≢false}
-use mathlib.Core.List.{List, [], _∷_, List·Memᴰ, List·Memᴰ·head, List·Memᴰ·tail}
+use mathlib.Core.List.{List, [], _∷_, List·Memᴰ, List·Memᴰ·head, List·Memᴰ·tail, List·Memᴰ·not-nil}
+use borrow.Author.Tests.{ltb-true, ltb-false, le-ltb, eq-eqb, eqb-true, eqb-false}
 use lib.Dec.{eqb}
-use lib.IntN.{ℤ}
+use lib.IntN.{ℤ, pos, negsuc}
 use lib.Signed.{ltZ}
-use lib.ListN.{length, getD, drop, drop-of-length-le}
-use lib.Seq.{drop-cons}
+use lib.ListN.{length, getD, set, drop, replicate, drop-of-length-le}
+use lib.Seq.{drop-cons, getD-set-same, getD-set-other}
 use Rattle.semantics.specs.declared.graph.NodeId.{NodeId}
 use Rattle.semantics.specs.declared.graph.Edge.{Edge}
 use Rattle.semantics.specs.declared.graph.Edge.the-variants as E
@@ -24,7 +25,7 @@ use Rattle.path.specs.Shadows.{alike, meet, after, shadowsEdges}
 use Rattle.path.specs.declared.shadows.Met.{Met}
 use Rattle.path.specs.declared.shadows.Met.the-variants.{Decided, Onward}
 use Rattle.recorded.specs.EdgeLists.{beatenList}
-use Rattle.recorded.specs.Beatable.{HoldsGraph, Run, exceeds, surpassed, beatableEdge, beatable}
+use Rattle.recorded.specs.Beatable.{HoldsGraph, Run, exceeds, surpassed, AsGreat, Greatest, Known, beatableEdge, beatable}
 
 -- ---- a pair of edges
 
@@ -83,6 +84,44 @@ never-beaten index k r ms h =
     let q : edgeRow index ≡ (viewOf (k .graph)) .edge = λ i e. k .loaded .edge e i in
     ap (λ (f : ℕ → Edge). beatenList (shadowsEdges f) r ms) q ∙ unbeaten (viewOf (k .graph)) (viewOf-lawful (k .graph)) r ms h
 
+-- ---- the greater one of two edges
+
+-- not less than one that is not less than the third
+not-less : (p q r : ℤ) → ltZ p q ≡ false → ltZ q r ≡ false → ltZ p r ≡ false
+not-less (pos a) (pos b) (pos c) h k = le-ltb a c (omega (arith, ltb-false a b h, ltb-false b c k))
+not-less (pos a) (pos b) (negsuc c) h k = refl
+not-less (pos a) (negsuc b) (pos c) h k = absurd (true≢false k)
+not-less (pos a) (negsuc b) (negsuc c) h k = refl
+not-less (negsuc a) (pos b) r h k = absurd (true≢false h)
+not-less (negsuc a) (negsuc b) (pos c) h k = absurd (true≢false k)
+not-less (negsuc a) (negsuc b) (negsuc c) h k = le-ltb c a (omega (arith, ltb-false b a h, ltb-false c b k))
+
+less-one-way : (q r : ℤ) → ltZ q r ≡ true → ltZ r q ≡ false
+less-one-way (pos a) (pos b) h = le-ltb b a (omega (arith, ltb-true a b h))
+less-one-way (pos a) (negsuc b) h = absurd (true≢false (sym h))
+less-one-way (negsuc a) (pos b) h = refl
+less-one-way (negsuc a) (negsuc b) h = le-ltb a b (omega (arith, ltb-true b a h))
+
+module _ (index : List ℕ) (a b : ℕ) where
+  pub removed-below : edgeRow index b ≡ E.Removed → AsGreat index a b
+  removed-below h p k = ap (exceeds p) h
+
+  module _ (s t : NodeId) (q : ℤ) (h : edgeRow index a ≡ E.Live s t q) where
+    -- edge b exceeds the precedence of edge a
+    pub exceeding-above : exceeds q (edgeRow index b) ≡ true → AsGreat index b a
+    exceeding-above k p f = ap (exceeds p) h ∙ on (edgeRow index b) k f
+      where
+        on : (e : Edge) → exceeds q e ≡ true → exceeds p e ≡ false → ltZ p q ≡ false
+        on E.Removed k f = absurd (true≢false (sym k))
+        on (E.Live x y r) k f = not-less p r q f (less-one-way q r k)
+
+    pub unexceeded-above : exceeds q (edgeRow index b) ≡ false → AsGreat index a b
+    unexceeded-above k p f = on (edgeRow index b) k
+      where
+        on : (e : Edge) → exceeds q e ≡ false → exceeds p e ≡ false
+        on E.Removed k = refl
+        on (E.Live x y r) k = not-less p q r (sym (ap (exceeds p) h) ∙ f) k
+
 -- ---- the walk over a node's links
 
 module _ (index : List ℕ) (link : ℕ) (r : Run index link) where
@@ -119,11 +158,8 @@ module _ (index : List ℕ) (link : ℕ) (r : Run index link) where
     unfolding surpassed
     surpassed-first p = ap (surpassed (edgeRow index) p) run-first
 
-    pub surpassed-here : (p : ℤ) → exceeds p here ≡ true → surpassed (edgeRow index) p (follow index EDGES link) ≡ true
-    surpassed-here p e = surpassed-first p ∙ ap (λ (b : Bool). or b (surpassed (edgeRow index) p (follow index EDGES onward))) e
-
-    pub surpassed-on : (p : ℤ) → exceeds p here ≡ false → surpassed (edgeRow index) p (follow index EDGES onward) ≡ surpassed (edgeRow index) p (follow index EDGES link)
-    surpassed-on p e = sym (surpassed-first p ∙ ap (λ (b : Bool). or b (surpassed (edgeRow index) p (follow index EDGES onward))) e)
+    pub surpassed-on : (p : ℤ) → exceeds p here ≡ false → surpassed (edgeRow index) p (follow index EDGES onward) ≡ false → surpassed (edgeRow index) p (follow index EDGES link) ≡ false
+    surpassed-on p e f = surpassed-first p ∙ ap₂ or e f
 
   pub surpassed-end : (p : ℤ) → link ≤ 0 → surpassed (edgeRow index) p (follow index EDGES link) ≡ false
   unfolding surpassed
@@ -139,13 +175,43 @@ module _ (g : Graph) (index : List ℕ) (loaded : Loaded g index) where
   unfolding beatableEdge
   edge-removed e h = sym (ap (beatableEdge (viewOf g)) (sym (loaded .edge e) ∙ h))
 
-  pub edge-live : (e : ℕ) (s t : NodeId) (p : ℤ) → edgeRow index e ≡ E.Live s t p
+  edge-live : (e : ℕ) (s t : NodeId) (p : ℤ) → edgeRow index e ≡ E.Live s t p
       → surpassed (edgeRow index) p (follow index EDGES (firstRow index (s .0))) ≡ beatableEdge (viewOf g) ((viewOf g) .edge e)
   unfolding beatableEdge
   edge-live e s t p h =
       let q : edgeRow index ≡ (viewOf g) .edge = λ i x. loaded .edge x i in
       ap₂ (λ (f : ℕ → Edge) (l : List ℕ). surpassed f p l) q (runs-follow index EDGES (firstRow index (s .0)) ((viewOf g) .out (s .0)) (loaded .runs (s .0)) (out-bounded g index loaded (s .0)))
       ∙ sym (ap (beatableEdge (viewOf g)) (sym (loaded .edge e) ∙ h))
+
+  -- the greatest edge of its source does not exceed it
+  pub edge-unbeaten : (e b : ℕ) (s t : NodeId) (p : ℤ) → edgeRow index e ≡ E.Live s t p → Greatest index (firstRow index (s .0)) b → exceeds p (edgeRow index b) ≡ false → beatableEdge (viewOf g) ((viewOf g) .edge e) ≡ false
+  edge-unbeaten e b s t p h m k = sym (edge-live e s t p h) ∙ m p k
+
+  -- something leaves the source of an edge
+  pub leaves-source : (e : ℕ) (s t : NodeId) (p : ℤ) → edgeRow index e ≡ E.Live s t p → 0 < firstRow index (s .0)
+  leaves-source e s t p h =
+      on ((viewOf g) .out (s .0)) (loaded .runs (s .0)) (viewOf-lawful g .lists (s .0) e s t p (sym (loaded .edge e) ∙ h) (eq-eqb (s .0) (s .0) refl))
+    where
+      on : (es : List ℕ) → Runs index (firstRow index (s .0)) es → List·Memᴰ e es → 0 < firstRow index (s .0)
+      on [] r m = absurd (List·Memᴰ·not-nil m)
+      on (x ∷ es) r m = omega (arith, r .0)
+
+-- ---- the words of the nodes
+
+pub known-none : (index : List ℕ) (n : ℕ) → Known index (replicate n 0)
+known-none index n = record { word = λ (k : ℕ) (h : 0 < getD (replicate n 0) k 0). absurd (omega (arith, h, blank n k)) }
+  where
+    blank : (n k : ℕ) → getD (replicate {A = ℕ} n 0) k 0 ≡ 0
+    blank zero k = refl
+    blank (suc n) zero = refl
+    blank (suc n) (suc k) = blank n k
+
+pub known-more : (index best : List ℕ) (n w : ℕ) → n < length best → Known index best → Greatest index (firstRow index n) (w - 1) → Known index (set best n w)
+known-more index best n w h k m = record { word = λ (j : ℕ). on j (eqb j n) refl }
+  where
+    on : (j : ℕ) (b : Bool) → eqb j n ≡ b → 0 < getD (set best n w) j 0 → Greatest index (firstRow index j) (getD (set best n w) j 0 - 1)
+    on j true e = let q : j ≡ n = eqb-true j n e in rw (q, getD-set-same best n w 0 h) (λ (z : 0 < w). m)
+    on j false e = rw (getD-set-other best n j w 0 (eqb-false j n e)) (k .word j)
 
 -- the first i edges of a path were looked at
 module _ (g : View) (es : List ℕ) (i : ℕ) where
@@ -157,9 +223,6 @@ module _ (g : View) (es : List ℕ) (i : ℕ) where
     beatable-first : beatable g (drop i es) ≡ or (beatableEdge g (g .edge (getD es i 0))) (beatable g (drop (i + 1) es))
     unfolding beatable
     beatable-first = rw (add-one, drop-cons es i 0 h)
-
-    pub beatable-here : beatableEdge g (g .edge (getD es i 0)) ≡ true → beatable g (drop i es) ≡ true
-    beatable-here e = beatable-first ∙ ap (λ (b : Bool). or b (beatable g (drop (i + 1) es))) e
 
     pub beatable-on : beatableEdge g (g .edge (getD es i 0)) ≡ false → beatable g (drop (i + 1) es) ≡ beatable g (drop i es)
     beatable-on e = sym (beatable-first ∙ ap (λ (b : Bool). or b (beatable g (drop (i + 1) es))) e)

@@ -33,6 +33,9 @@ and-false-right false = refl
 pub same-lengths : (l r : List ℕ) → (length l ≡ length r → ⊥) → same l r ≡ false
 same-lengths l r h = bool-false (same l r) (λ (e : same l r ≡ true). h (ap length (same-eq l r e)))
 
+pub same-starts : (l r : List ℕ) → (getD l 0 0 ≡ getD r 0 0 → ⊥) → same l r ≡ false
+same-starts l r h = bool-false (same l r) (λ (e : same l r ≡ true). h (ap (λ (m : List ℕ). getD m 0 0) (same-eq l r e)))
+
 same-more : (l r : List ℕ) (k : ℕ) → k < length l → k < length r → same (take (suc k) l) (take (suc k) r) ≡ and (same (take k l) (take k r)) (eqb (getD l k 0) (getD r k 0))
 unfolding same
 same-more [] r k h i = absurd (not-suc-le-zero h)

@@ -8,7 +8,7 @@ use native.Mathlib.Decide.{decLt, ℕ-discrete}
 use mathlib.Core.Path.{_≡_, refl, sym, ap, subst, _∙_}
 use mathlib.Core.Bool.{Bool, true, false}
 use mathlib.Core.List.{List, [], _∷_, map}
-use borrow.Author.Tests.{eq-eqb, ne-eqb}
+use borrow.Author.Tests.{lt-ltb, le-ltb, eq-eqb, ne-eqb}
 use lib.Dec.{eqb}
 use lib.ListN.{length, getD, set, drop, length-set, length-replicate, getD-replicate, drop-of-length-le}
 use lib.Seq.{drop-cons, getD-set-same, getD-set-other}
@@ -23,12 +23,32 @@ use Rattle.semantics.specs.PartialPaths.{Slot, dead, slot}
 use Rattle.semantics.specs.Words.{zeros}
 use Rattle.semantics.specs.Database.{usedIn, filesOnly, slotsIn}
 use Rattle.semantics.specs.Stitching.{judgeSlot, slotTries}
-use Rattle.storage.specs.Rows.{NODES, cell}
-use Rattle.storage.specs.Rows.Laws.{cell-in, cell-out, cell-other, cell-same}
+use Rattle.storage.specs.Rows.{NODES}
 use Rattle.database.specs.Records.{InWords, ownerWord, startWord, endWord, countWord, edgeWords}
 use Rattle.database.specs.Records.Laws.{within, slot-dead, count-slots}
 use Rattle.database.specs.Checks.Laws.{capacity-most, formed-used, formed-whole, formed-live, formed-slot}
-use Rattle.stitching_trial.specs.Links.{RECORDS, NEXT, LINKS, firstLink, nextLink, Passes, putLink, startingAt, Readable, LinkedFrom, Linked, Tryable, Each}
+use Rattle.stitching_trial.specs.Links.{RECORDS, NEXT, LINKS, cell, firstLink, nextLink, Passes, putLink, startingAt, Readable, LinkedFrom, Linked, Tryable, Each}
+
+-- ---- one word of a row
+
+cell-in : (l : List ℕ) (from width n : ℕ) → n < width → cell l from width n ≡ getD l (from + n) 0
+unfolding cell
+cell-in l from width n h = rw (lt-ltb n width h)
+
+cell-out : (l : List ℕ) (from width n : ℕ) → width ≤ n → cell l from width n ≡ 0
+unfolding cell
+cell-out l from width n h = rw (le-ltb n width h)
+
+cell-same : (l : List ℕ) (from width n v : ℕ) → n < width → from + n < length l → cell (set l (from + n) v) from width n ≡ v
+cell-same l from width n v h b = cell-in (set l (from + n) v) from width n h ∙ getD-set-same l (from + n) v 0 b
+
+-- a store elsewhere leaves it
+cell-other : (l : List ℕ) (from width n i v : ℕ) → (n < width → from + n ≡ i → ⊥) → cell (set l i v) from width n ≡ cell l from width n
+cell-other l from width n i v h = go (decLt n width)
+  where
+    go : Dec (n < width) → cell (set l i v) from width n ≡ cell l from width n
+    go (yes p) = cell-in (set l i v) from width n p ∙ getD-set-other l i (from + n) v 0 (h p) ∙ sym (cell-in l from width n p)
+    go (no p) = cell-out (set l i v) from width n (omega arith) ∙ sym (cell-out l from width n (omega arith))
 
 -- ---- words that were checked
 

@@ -1,6 +1,6 @@
 -- One edge more linked.
 -- Serves document 01, "Graph image": `outgoing`.
-use Prim.Native.Nat.{ℕ, suc, _+_, _<_, _≤_}
+use Prim.Native.Nat.{ℕ, suc, _+_, _*_, _<_, _≤_}
 use native.Mathlib.Omega.{arith}
 use native.Mathlib.Numerals.{add-one}
 use native.Mathlib.Decide.{ℕ-discrete}
@@ -10,7 +10,7 @@ use mathlib.Core.List.{List, [], _∷_}
 use borrow.Author.Tests.{eq-eqb, ne-eqb}
 use lib.Dec.{eqb}
 use lib.IntN.{ℤ}
-use lib.ListN.{length, getD, set, drop, length-set, drop-of-length-le}
+use lib.ListN.{length, drop, length-set, drop-of-length-le}
 use lib.Seq.{drop-cons}
 use Rattle.semantics.specs.declared.graph.NodeId.{NodeId}
 use Rattle.semantics.specs.declared.graph.Edge.{Edge}
@@ -18,50 +18,53 @@ use Rattle.semantics.specs.declared.graph.Edge.the-variants as E
 use Rattle.semantics.specs.Lists.{consIf}
 use Rattle.semantics.specs.Graph.{Graph, viewOf, outgoing}
 use Rattle.image.specs.Filling.{Held}
-use Rattle.storage.specs.Rows.{NODES, EDGES, KIND, FIRST, SOURCE, FLAG, FILE, SYMBOL, SCOPE, TARGET, NEXT, PRECEDENCE, INDEX, cell, nodeRow, edgeRow, firstRow, nextRow, Runs, Loaded, putLink}
-use Rattle.storage.specs.Rows.Laws.{cell-in, cell-same, cell-other}
+use Rattle.storage.specs.Rows.{NODES, EDGES, BLOCK, KIND, FLAG, FILE, SYMBOL, SCOPE, FIRST, SOURCE, TARGET, NEXT, PRECEDENCE, Blocks, cell, nodeRow, edgeRow, firstRow, nextRow, put, Runs, Loaded, putLink}
+use Rattle.storage.specs.Rows.Laws.{cell-same, cell-other}
 use Rattle.storage.specs.Links.{Linked}
 
 -- ONE EDGE MORE LINKED
-module _ (l : List ℕ) (long : length l ≡ INDEX) (e s : ℕ) (h : e < EDGES) (b : s < NODES) where
+module _ (l : List ℕ) (long : Blocks l) (e s : ℕ) (h : BLOCK * e < length l) (b : BLOCK * s < length l) where
   c1 : List ℕ
-  c1 = set l (NEXT + e) (getD l (FIRST + s) 0)
+  c1 = put NEXT e (cell l FIRST s) l
 
-  link-long : length (putLink e s l) ≡ INDEX
+  link-long : Blocks (putLink e s l)
   unfolding putLink
   link-long = simp length-set long
 
-  pub link-other : (base width m : ℕ) → (m < width → base + m ≡ NEXT + e → ⊥) → (m < width → base + m ≡ FIRST + s → ⊥) → cell (putLink e s l) base width m ≡ cell l base width m
+  pub link-length : length (putLink e s l) ≡ length l
+  unfolding putLink
+  link-length = simp length-set
+
+  pub link-other : (row m : ℕ) → (BLOCK * m + row ≡ BLOCK * e + NEXT → ⊥) → (BLOCK * m + row ≡ BLOCK * s + FIRST → ⊥) → cell (putLink e s l) row m ≡ cell l row m
   unfolding c1 putLink
-  link-other base width m p q = cell-other c1 base width m (FIRST + s) (e + 1) q ∙ cell-other l base width m (NEXT + e) (getD l (FIRST + s) 0) p
+  link-other row m p q = cell-other c1 row m FIRST s (e + 1) q ∙ cell-other l row m NEXT e (cell l FIRST s) p
 
   link-first : firstRow (putLink e s l) s ≡ e + 1
   unfolding c1 putLink
-  link-first = cell-same c1 FIRST NODES s (e + 1) b (simp length-set (omega arith))
+  link-first = cell-same c1 FIRST s (e + 1) (simp length-set (omega arith))
 
   link-next : nextRow (putLink e s l) e ≡ firstRow l s
   unfolding c1 putLink
-  link-next =
-      cell-other c1 NEXT EDGES e (FIRST + s) (e + 1) (λ x y. omega arith) ∙ cell-same l NEXT EDGES e (getD l (FIRST + s) 0) h (omega arith) ∙ sym (cell-in l FIRST NODES s b)
+  link-next = cell-other c1 NEXT e FIRST s (e + 1) (λ x. omega arith) ∙ cell-same l NEXT e (cell l FIRST s) (omega arith)
 
   link-nodes : (m : ℕ) → nodeRow (putLink e s l) m ≡ nodeRow l m
   unfolding nodeRow
   link-nodes m =
       rw (
-        link-other KIND NODES m (λ x y. omega arith) (λ x y. omega arith),
-        link-other FLAG NODES m (λ x y. omega arith) (λ x y. omega arith),
-        link-other FILE NODES m (λ x y. omega arith) (λ x y. omega arith),
-        link-other SYMBOL NODES m (λ x y. omega arith) (λ x y. omega arith),
-        link-other SCOPE NODES m (λ x y. omega arith) (λ x y. omega arith),
+        link-other KIND m (λ x. omega arith) (λ x. omega arith),
+        link-other FLAG m (λ x. omega arith) (λ x. omega arith),
+        link-other FILE m (λ x. omega arith) (λ x. omega arith),
+        link-other SYMBOL m (λ x. omega arith) (λ x. omega arith),
+        link-other SCOPE m (λ x. omega arith) (λ x. omega arith),
       )
 
   link-edges : (m : ℕ) → edgeRow (putLink e s l) m ≡ edgeRow l m
   unfolding edgeRow
   link-edges m =
       rw (
-        link-other SOURCE EDGES m (λ x y. omega arith) (λ x y. omega arith),
-        link-other TARGET EDGES m (λ x y. omega arith) (λ x y. omega arith),
-        link-other PRECEDENCE EDGES m (λ x y. omega arith) (λ x y. omega arith),
+        link-other SOURCE m (λ x. omega arith) (λ x. omega arith),
+        link-other TARGET m (λ x. omega arith) (λ x. omega arith),
+        link-other PRECEDENCE m (λ x. omega arith) (λ x. omega arith),
       )
 
 -- links of later edges stay
@@ -95,8 +98,8 @@ module _ (g : Graph) (l : List ℕ) (e : ℕ) (k : Linked g l (e + 1)) (h : e < 
   pub linked-removed : (viewOf g) .edge e ≡ E.Removed → Linked g l e
   linked-removed q = record { long = k .long; node = k .node; edge = k .edge; runs = λ n. subst (Runs l (firstRow l n)) (sym (out-removed g e h n q)) (later n); nodes = k .nodes; edges = k .edges }
 
-  pub linked-live : (s t : NodeId) (p : ℤ) → (viewOf g) .edge e ≡ E.Live s t p → s .0 < NODES → Linked g (putLink e (s .0) l) e
-  linked-live s t p q b = record {
+  pub linked-live : (s t : NodeId) (p : ℤ) → (viewOf g) .edge e ≡ E.Live s t p → BLOCK * e < length l → BLOCK * s .0 < length l → Linked g (putLink e (s .0) l) e
+  linked-live s t p q w b = record {
     long = link-long l (k .long) e (s .0) w b;
     node = λ n. link-nodes l (k .long) e (s .0) w b n ∙ k .node n;
     edge = λ n. link-edges l (k .long) e (s .0) w b n ∙ k .edge n;
@@ -108,11 +111,8 @@ module _ (g : Graph) (l : List ℕ) (e : ℕ) (k : Linked g l (e + 1)) (h : e < 
       k′ : List ℕ
       k′ = putLink e (s .0) l
 
-      w : e < EDGES
-      w = omega (arith, k .edges)
-
       kept : (n x : ℕ) → Runs l x (outgoing n (suc e) (drop (suc e) (g .edges))) → Runs (putLink e (s .0) l) x (outgoing n (suc e) (drop (suc e) (g .edges)))
-      kept n x r = runs-kept l (putLink e (s .0) l) n (suc e) x (drop (suc e) (g .edges)) (λ j m. link-other l (k .long) e (s .0) w b NEXT EDGES j (λ y z. omega arith) (λ y z. omega arith)) r
+      kept n x r = runs-kept l (putLink e (s .0) l) n (suc e) x (drop (suc e) (g .edges)) (λ j m. link-other l (k .long) e (s .0) w b NEXT j (λ y. omega arith) (λ y. omega arith)) r
 
       go : (n : ℕ) → Dec (s .0 ≡ n) → Runs (putLink e (s .0) l) (firstRow (putLink e (s .0) l) n) (consIf (eqb (s .0) n) e (outgoing n (suc e) (drop (suc e) (g .edges))))
       go n (yes z) =
@@ -122,7 +122,7 @@ module _ (g : Graph) (l : List ℕ) (e : ℕ) (k : Linked g l (e + 1)) (h : e < 
           )
       go n (no z) =
           rw (ne-eqb (s .0) n z)
-          (rw (link-other l (k .long) e (s .0) w b FIRST NODES n (λ x y. omega arith) (λ x y. z (omega arith))) (kept n (firstRow l n) (later n)))
+          (rw (link-other l (k .long) e (s .0) w b FIRST n (λ x. omega arith) (λ x. z (omega arith))) (kept n (firstRow l n) (later n)))
 
 pub nothing-linked : (g : Graph) (l : List ℕ) (e : ℕ) → length (g .edges) ≤ e → length (g .nodes) ≤ NODES → length (g .edges) ≤ EDGES → Held g l → Linked g l e
 unfolding outgoing

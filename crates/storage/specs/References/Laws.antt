@@ -1,6 +1,6 @@
 -- What the words of a record say of its references, and the place of the first one that misses.
 -- Serves document 01, "Turned back", row 5.
-use Prim.Native.Nat.{ℕ, zero, suc, _+_, _-_, _<_, _≤_}
+use Prim.Native.Nat.{ℕ, zero, suc, _+_, _*_, _-_, _<_, _≤_}
 use native.Mathlib.Omega.{arith}
 use native.Mathlib.Decide.{decLt}
 use mathlib.Core.Path.{_≡_, refl, sym, ap, _∙_}
@@ -25,11 +25,11 @@ use Rattle.semantics.specs.Bytes.{signed}
 use Rattle.semantics.specs.Graph.{nodeId, Graph, View, viewOf, fileOf, isFile}
 use Rattle.semantics.specs.Acceptance.{exportedIn, nodeFits, edgeFits, oneFile, isLive}
 use Rattle.semantics.specs.Image.{nextPlace, placeOf, nodeMisfit, edgeMisfit}
-use Rattle.storage.specs.Rows.{INDEX, NODES, EDGES, KIND, SOURCE, FLAG, FILE, SYMBOL, SCOPE, TARGET, PRECEDENCE, cell, nodeOf, nodeRow, edgeRow, putLink}
-use Rattle.storage.specs.Rows.Laws.{cell-in, cell-out, words-removed, words-live}
+use Rattle.storage.specs.Rows.{BLOCK, KIND, FLAG, FILE, SYMBOL, SCOPE, SOURCE, TARGET, PRECEDENCE, Blocks, cell, nodeOf, nodeRow, edgeRow, putLink}
+use Rattle.storage.specs.Rows.Laws.{cell-out, words-removed, words-live}
 use Rattle.image.specs.Filling.{Held}
 use Rattle.storage.specs.Links.{Linked}
-use Rattle.storage.specs.Links.Laws.{link-other, linked-removed, linked-live}
+use Rattle.storage.specs.Links.Laws.{link-other, link-length, linked-removed, linked-live}
 use Rattle.storage.specs.References.{nodeTest, edgeTest, Sources}
 
 -- A NODE FROM ITS WORDS: is it an exported scope of the file, is it live, which is its file
@@ -91,21 +91,21 @@ file-words (suc (suc (suc (suc (suc (suc (suc (suc (suc k))))))))) flag file sym
 
 -- THE SAME IN AN INDEX THAT HOLDS THE GRAPH
 module _ (g : Graph) (l : List ℕ) (k : Held g l) where
-  pub exported-at : (f n : ℕ) → exportedIn f ((viewOf g) .node n) ≡ pick (eqb (cell l KIND NODES n) 3) (and (eqb (cell l FLAG NODES n) 1) (eqb (cell l FILE NODES n) f)) false
+  pub exported-at : (f n : ℕ) → exportedIn f ((viewOf g) .node n) ≡ pick (eqb (cell l KIND n) 3) (and (eqb (cell l FLAG n) 1) (eqb (cell l FILE n) f)) false
   unfolding nodeRow
-  exported-at f n = ap (exportedIn f) (sym (k .node n)) ∙ exported-words (cell l KIND NODES n) (cell l FLAG NODES n) (cell l FILE NODES n) (cell l SYMBOL NODES n) (cell l SCOPE NODES n) f (k .kinds n)
+  exported-at f n = ap (exportedIn f) (sym (k .node n)) ∙ exported-words (cell l KIND n) (cell l FLAG n) (cell l FILE n) (cell l SYMBOL n) (cell l SCOPE n) f (k .kinds n)
 
-  pub fits-at : (n : ℕ) → nodeTest g n ≡ pick (eqb (cell l KIND NODES n) 6) (exportedIn (cell l FILE NODES n) ((viewOf g) .node (cell l SCOPE NODES n))) true
+  pub fits-at : (n : ℕ) → nodeTest g n ≡ pick (eqb (cell l KIND n) 6) (exportedIn (cell l FILE n) ((viewOf g) .node (cell l SCOPE n))) true
   unfolding nodeRow
-  fits-at n = ap (nodeFits (viewOf g)) (sym (k .node n)) ∙ fits-words (viewOf g) (cell l KIND NODES n) (cell l FLAG NODES n) (cell l FILE NODES n) (cell l SYMBOL NODES n) (cell l SCOPE NODES n) (k .kinds n)
+  fits-at n = ap (nodeFits (viewOf g)) (sym (k .node n)) ∙ fits-words (viewOf g) (cell l KIND n) (cell l FLAG n) (cell l FILE n) (cell l SYMBOL n) (cell l SCOPE n) (k .kinds n)
 
-  live-at : (n : ℕ) → isLive ((viewOf g) .node n) ≡ not (eqb (cell l KIND NODES n) 0)
+  live-at : (n : ℕ) → isLive ((viewOf g) .node n) ≡ not (eqb (cell l KIND n) 0)
   unfolding nodeRow
-  live-at n = ap (λ (x : Node). isLive x) (sym (k .node n)) ∙ live-words (cell l KIND NODES n) (cell l FLAG NODES n) (cell l FILE NODES n) (cell l SYMBOL NODES n) (cell l SCOPE NODES n) (k .kinds n)
+  live-at n = ap (λ (x : Node). isLive x) (sym (k .node n)) ∙ live-words (cell l KIND n) (cell l FLAG n) (cell l FILE n) (cell l SYMBOL n) (cell l SCOPE n) (k .kinds n)
 
-  file-at : (n : ℕ) → fileOf ((viewOf g) .node n) ≡ fileWord (cell l KIND NODES n) (cell l FILE NODES n)
+  file-at : (n : ℕ) → fileOf ((viewOf g) .node n) ≡ fileWord (cell l KIND n) (cell l FILE n)
   unfolding nodeRow
-  file-at n = ap (λ (x : Node). fileOf x) (sym (k .node n)) ∙ file-words (cell l KIND NODES n) (cell l FLAG NODES n) (cell l FILE NODES n) (cell l SYMBOL NODES n) (cell l SCOPE NODES n) (k .kinds n)
+  file-at n = ap (λ (x : Node). fileOf x) (sym (k .node n)) ∙ file-words (cell l KIND n) (cell l FLAG n) (cell l FILE n) (cell l SYMBOL n) (cell l SCOPE n) (k .kinds n)
 
 -- BOTH ENDS OF AN EDGE, by their words
 unfoldable pub endsFit : ℕ → ℕ → ℕ → ℕ → ℕ → Bool
@@ -147,13 +147,13 @@ module _ (s a fa b fb : ℕ) where
         same false = refl
 
 -- an edge by its words: removed, or live
-row-removed : (l : List ℕ) (e : ℕ) → cell l SOURCE EDGES e < 1 → E.Removed ≡ edgeRow l e
+row-removed : (l : List ℕ) (e : ℕ) → cell l SOURCE e < 1 → E.Removed ≡ edgeRow l e
 unfolding edgeRow
-row-removed l e z = words-removed (cell l SOURCE EDGES e) (cell l TARGET EDGES e) (cell l PRECEDENCE EDGES e) z
+row-removed l e z = words-removed (cell l SOURCE e) (cell l TARGET e) (cell l PRECEDENCE e) z
 
-row-live : (l : List ℕ) (e : ℕ) → 0 < cell l SOURCE EDGES e → E.Live (nodeId (cell l SOURCE EDGES e - 1)) (nodeId (cell l TARGET EDGES e)) (signed (cell l PRECEDENCE EDGES e)) ≡ edgeRow l e
+row-live : (l : List ℕ) (e : ℕ) → 0 < cell l SOURCE e → E.Live (nodeId (cell l SOURCE e - 1)) (nodeId (cell l TARGET e)) (signed (cell l PRECEDENCE e)) ≡ edgeRow l e
 unfolding edgeRow
-row-live l e z = words-live (cell l SOURCE EDGES e) (cell l TARGET EDGES e) (cell l PRECEDENCE EDGES e) z
+row-live l e z = words-live (cell l SOURCE e) (cell l TARGET e) (cell l PRECEDENCE e) z
 
 source-live : (v : View) (s t : NodeId) (p : ℤ) → edgeFits v (E.Live s t p) ≡ true → isLive (v .node (s .0)) ≡ true
 unfolding edgeFits
@@ -169,36 +169,36 @@ removed-live : {s t : NodeId} {p : ℤ} → E.Removed ≡ E.Live s t p → ⊥
 removed-live {s} {t} {p} e = let z : _≡_ {A = ℕ} 0 1 = cc in omega arith
 
 module _ (g : Graph) (l : List ℕ) (k : Held g l) where
-  pub ends-at : (s t : ℕ) (p : ℤ) → endsFit s (cell l KIND NODES s) (cell l FILE NODES s) (cell l KIND NODES t) (cell l FILE NODES t) ≡ edgeFits (viewOf g) (E.Live (nodeId s) (nodeId t) p)
+  pub ends-at : (s t : ℕ) (p : ℤ) → endsFit s (cell l KIND s) (cell l FILE s) (cell l KIND t) (cell l FILE t) ≡ edgeFits (viewOf g) (E.Live (nodeId s) (nodeId t) p)
   unfolding endsFit edgeFits
   ends-at s t p = rw (live-at g l k s, live-at g l k t, file-at g l k s, file-at g l k t)
 
-  pub edge-removed : (e : ℕ) → cell l SOURCE EDGES e < 1 → (viewOf g) .edge e ≡ E.Removed
+  pub edge-removed : (e : ℕ) → cell l SOURCE e < 1 → (viewOf g) .edge e ≡ E.Removed
   edge-removed e z = sym (k .edge e) ∙ sym (row-removed l e z)
 
-  pub edge-live : (e : ℕ) → 0 < cell l SOURCE EDGES e → (viewOf g) .edge e ≡ E.Live (nodeId (cell l SOURCE EDGES e - 1)) (nodeId (cell l TARGET EDGES e)) (signed (cell l PRECEDENCE EDGES e))
+  pub edge-live : (e : ℕ) → 0 < cell l SOURCE e → (viewOf g) .edge e ≡ E.Live (nodeId (cell l SOURCE e - 1)) (nodeId (cell l TARGET e)) (signed (cell l PRECEDENCE e))
   edge-live e z = sym (k .edge e) ∙ sym (row-live l e z)
 
-  node-out : (n : ℕ) → isLive ((viewOf g) .node n) ≡ true → n < NODES
+  node-out : (n : ℕ) → isLive ((viewOf g) .node n) ≡ true → BLOCK * n < length l
   unfolding nodeRow nodeOf
-  node-out n e = go (decLt n NODES)
+  node-out n e = go (decLt (BLOCK * n) (length l))
     where
-      go : Dec (n < NODES) → n < NODES
+      go : Dec (BLOCK * n < length l) → BLOCK * n < length l
       go (yes h) = h
-      go (no h) = absurd (false≢true (sym (live-at g l k n ∙ ap (λ (x : ℕ). not (eqb x 0)) (cell-out l KIND NODES n (omega arith))) ∙ e))
+      go (no h) = absurd (false≢true (sym (live-at g l k n ∙ ap (λ (x : ℕ). not (eqb x 0)) (cell-out l KIND n (omega arith))) ∙ e))
 
-  -- where every edge fits, every source is a node that has its words
+  -- where every edge fits, every source is a node that has a block
   pub sources-fit : (m : ℕ) → length (g .edges) ≤ m → ((e : ℕ) → e < m → edgeTest g e ≡ true) → Sources l
-  sources-fit m b h e = go (decLt 0 (cell l SOURCE EDGES e)) (decLt e m)
+  sources-fit m b h e = go (decLt 0 (cell l SOURCE e)) (decLt e m)
     where
-      inside : 0 < cell l SOURCE EDGES e → e < m → cell l SOURCE EDGES e - 1 < NODES
+      inside : 0 < cell l SOURCE e → e < m → BLOCK * (cell l SOURCE e - 1) < length l
       inside p q =
-          node-out (cell l SOURCE EDGES e - 1)
-          (source-live (viewOf g) (nodeId (cell l SOURCE EDGES e - 1)) (nodeId (cell l TARGET EDGES e)) (signed (cell l PRECEDENCE EDGES e)) (sym (ap (edgeFits (viewOf g)) (edge-live e p)) ∙ h e q))
+          node-out (cell l SOURCE e - 1)
+          (source-live (viewOf g) (nodeId (cell l SOURCE e - 1)) (nodeId (cell l TARGET e)) (signed (cell l PRECEDENCE e)) (sym (ap (edgeFits (viewOf g)) (edge-live e p)) ∙ h e q))
 
-      go : Dec (0 < cell l SOURCE EDGES e) → Dec (e < m) → cell l SOURCE EDGES e ≤ NODES
+      go : Dec (0 < cell l SOURCE e) → Dec (e < m) → BLOCK * cell l SOURCE e ≤ length l
       go (no p) q = omega arith
-      go (yes p) (yes q) = let z = inside p q in omega (arith, z)
+      go (yes p) (yes q) = let z = inside p q in omega (arith, z, k .long)
       go (yes p) (no q) = absurd (removed-live (sym (edge-beyond g e (omega arith)) ∙ edge-live e p))
 
 -- THE PLACE OF THE FIRST MISFIT
@@ -236,19 +236,16 @@ passed-more test n h e j b = go (decLt j n)
     go (no p) = let z : j ≡ n = omega arith in ap test z ∙ e
 
 -- ONE EDGE LINKED, by the words that are read
-module _ (l : List ℕ) (long : length l ≡ INDEX) (e source : ℕ) (h : e < EDGES) (reads : source ≡ getD l (SOURCE + e) 0) where
-  in-cell : cell l SOURCE EDGES e ≡ source
-  in-cell = cell-in l SOURCE EDGES e h ∙ sym reads
+module _ (l : List ℕ) (long : Blocks l) (e : ℕ) (h : BLOCK * e < length l) where
+  pub unlinked : cell l SOURCE e < 1 → (g : Graph) → e < length (g .edges) → Linked g l (e + 1) → Linked g l e
+  unlinked z g b k = linked-removed g l e k b (sym (k .edge e) ∙ sym (row-removed l e z))
 
-  pub unlinked : source < 1 → (g : Graph) → e < length (g .edges) → Linked g l (e + 1) → Linked g l e
-  unlinked z g b k = linked-removed g l e k b (sym (k .edge e) ∙ sym (row-removed l e (rw in-cell z)))
+  module _ (live : 0 < cell l SOURCE e) (known : BLOCK * cell l SOURCE e ≤ length l) where
+    pub linked : (g : Graph) → e < length (g .edges) → Linked g l (e + 1) → Linked g (putLink e (cell l SOURCE e - 1) l) e
+    linked g b k =
+        linked-live g l e k b (nodeId (cell l SOURCE e - 1)) (nodeId (cell l TARGET e)) (signed (cell l PRECEDENCE e)) (sym (k .edge e) ∙ sym (row-live l e live)) h (omega arith)
 
-  pub linked : 0 < source → source ≤ NODES → (g : Graph) → e < length (g .edges) → Linked g l (e + 1) → Linked g (putLink e (source - 1) l) e
-  linked z f g b k =
-      let q : 0 < cell l SOURCE EDGES e = rw in-cell z in
-      let x : (viewOf g) .edge e ≡ E.Live (nodeId (source - 1)) (nodeId (cell l TARGET EDGES e)) (signed (cell l PRECEDENCE EDGES e)) =
-      sym (k .edge e) ∙ sym (row-live l e q) ∙ ap (λ (y : ℕ). E.Live (nodeId (y - 1)) (nodeId (cell l TARGET EDGES e)) (signed (cell l PRECEDENCE EDGES e))) in-cell in
-      linked-live g l e k b (nodeId (source - 1)) (nodeId (cell l TARGET EDGES e)) (signed (cell l PRECEDENCE EDGES e)) x (omega arith)
-
-  pub sources-kept : 0 < source → source ≤ NODES → Sources l → Sources (putLink e (source - 1) l)
-  sources-kept z f s m = rw (link-other l long e (source - 1) h (omega arith) SOURCE EDGES m (λ x y. omega arith) (λ x y. omega arith)) (s m)
+    pub sources-kept : Sources l → Sources (putLink e (cell l SOURCE e - 1) l)
+    sources-kept s m =
+        rw (link-other l long e (cell l SOURCE e - 1) h (omega arith) SOURCE m (λ x. omega arith) (λ x. omega arith), link-length l long e (cell l SOURCE e - 1) h (omega arith))
+        (s m)

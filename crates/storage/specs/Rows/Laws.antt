@@ -1,36 +1,40 @@
--- A record from the words of its number, and an index of zeros.
+-- A record from the words of its number, and the indexes that take an image.
 -- Serves document 01, "Graph image": each word is a field of its record.
-use Prim.Native.Nat.{ℕ, _+_, _-_, _<_, _≤_}
+use Prim.Native.Nat.{ℕ, zero, suc, _+_, _*_, _-_, _%_, _<_, _≤_}
 use native.Mathlib.Omega.{arith}
-use mathlib.Core.Path.{_≡_}
+use native.Mathlib.Decide.{decLt}
+use mathlib.Core.Path.{_≡_, refl, sym, ap, _∙_}
+use mathlib.Core.Bool.{Bool, false}
 use mathlib.Core.List.{List}
 use borrow.Author.Tests.{eq-eqb, ne-eqb}
-use lib.ListN.{getD, replicate, length-replicate, getD-replicate}
+use lib.Dec.{eqb}
+use lib.ListN.{length, getD, replicate, length-replicate, getD-replicate, List·getD-eq-default}
 use Rattle.semantics.specs.declared.graph.Node.the-variants as N
 use Rattle.semantics.specs.declared.graph.Edge.the-variants as E
 use Rattle.semantics.specs.Bytes.{signed}
-use Rattle.semantics.specs.Graph.{nodeId}
-pub use Rattle.image.specs.Rows.Laws.{cell-in, cell-out, cell-same, cell-other}
-use Rattle.storage.specs.Rows.{NODES, EDGES, KIND, SOURCE, FLAG, FILE, SYMBOL, SCOPE, TARGET, PRECEDENCE, INDEX, nodeOf, edgeOf, nodeRow, edgeRow, Fresh}
+use Rattle.semantics.specs.Lists.{pick}
+use Rattle.semantics.specs.Graph.{nodeId, isExported}
+use Rattle.semantics.specs.Image.{nodesOf, edgesOf}
+pub use Rattle.image.specs.Rows.Laws.{cell-out, cell-same, cell-other}
+use Rattle.storage.specs.Rows.{BLOCK, KIND, FLAG, FILE, SYMBOL, SCOPE, SOURCE, TARGET, PRECEDENCE, INDEX, FEW, SMALL, cell, nodeOf, edgeOf, nodeRow, edgeRow, Fresh, Takes}
 
--- A RECORD'S WORDS, in the row and behind it
-pub node-in : (l : List ℕ) (n kind : ℕ) → n < NODES → getD l (KIND + n) 0 ≡ kind
-    → nodeOf kind (getD l (FLAG + n) 0) (getD l (FILE + n) 0) (getD l (SYMBOL + n) 0) (getD l (SCOPE + n) 0) ≡ nodeRow l n
+-- A RECORD'S WORDS, in its block and behind the last one
+pub node-in : (l : List ℕ) (n kind : ℕ) → getD l (BLOCK * n + KIND) 0 ≡ kind
+    → nodeOf kind (getD l (BLOCK * n + FLAG) 0) (getD l (BLOCK * n + FILE) 0) (getD l (BLOCK * n + SYMBOL) 0) (getD l (BLOCK * n + SCOPE) 0) ≡ nodeRow l n
 unfolding nodeRow
-node-in l n kind h e =
-    rw (cell-in l KIND NODES n h, cell-in l FLAG NODES n h, cell-in l FILE NODES n h, cell-in l SYMBOL NODES n h, cell-in l SCOPE NODES n h, e)
+node-in l n kind e = rw e
 
-pub node-out : (l : List ℕ) (n : ℕ) → NODES ≤ n → N.Removed ≡ nodeRow l n
+pub node-out : (l : List ℕ) (n : ℕ) → length l ≤ BLOCK * n → N.Removed ≡ nodeRow l n
 unfolding nodeRow nodeOf
-node-out l n h = rw (cell-out l KIND NODES n h)
+node-out l n h = rw (cell-out l KIND n h)
 
-pub edge-in : (l : List ℕ) (e : ℕ) → e < EDGES → edgeOf (getD l (SOURCE + e) 0) (getD l (TARGET + e) 0) (getD l (PRECEDENCE + e) 0) ≡ edgeRow l e
+pub edge-in : (l : List ℕ) (e : ℕ) → edgeOf (getD l (BLOCK * e + SOURCE) 0) (getD l (BLOCK * e + TARGET) 0) (getD l (BLOCK * e + PRECEDENCE) 0) ≡ edgeRow l e
 unfolding edgeRow
-edge-in l e h = rw (cell-in l SOURCE EDGES e h, cell-in l TARGET EDGES e h, cell-in l PRECEDENCE EDGES e h)
+edge-in l e = refl
 
-pub edge-out : (l : List ℕ) (e : ℕ) → EDGES ≤ e → E.Removed ≡ edgeRow l e
+pub edge-out : (l : List ℕ) (e : ℕ) → length l ≤ BLOCK * e → E.Removed ≡ edgeRow l e
 unfolding edgeRow edgeOf
-edge-out l e h = rw (cell-out l SOURCE EDGES e h)
+edge-out l e h = rw (cell-out l SOURCE e h)
 
 -- an unknown kind is a removed node
 pub no-kind : (kind flag file symbol scope : ℕ) → (kind ≡ 1 → ⊥) → (kind ≡ 2 → ⊥) → (kind ≡ 3 → ⊥) → (kind ≡ 4 → ⊥) → (kind ≡ 5 → ⊥) → (kind ≡ 6 → ⊥) → (kind ≡ 7 → ⊥) → (kind ≡ 8 → ⊥)
@@ -48,6 +52,47 @@ pub words-live : (source target precedence : ℕ) → 0 < source → E.Live (nod
 unfolding edgeOf
 words-live source target precedence h = simp (ne-eqb source 0 (λ q. omega arith))
 
--- an array of zeros is fresh
-pub zeros-fresh : Fresh (replicate INDEX 0)
-zeros-fresh = record { long = length-replicate {A = ℕ} INDEX 0; clear = λ j h. getD-replicate INDEX (KIND + j) 0 0 (omega arith) }
+-- AN INDEX THAT TAKES AN IMAGE: zeros, a large one for any image and a small one for few nodes and few edges
+zeros-fresh : (k : ℕ) → k % BLOCK ≡ 0 → Fresh (replicate k 0)
+zeros-fresh k h = record { long = omega (arith, length-replicate {A = ℕ} k 0); clear = λ i. go i (decLt i k) }
+  where
+    go : (i : ℕ) → Dec (i < k) → getD (replicate {A = ℕ} k 0) i 0 ≡ 0
+    go i (yes p) = getD-replicate k i 0 0 p
+    go i (no p) = List·getD-eq-default (replicate k 0) 0 {n = i} (omega (arith, length-replicate {A = ℕ} k 0))
+
+pub large-takes : (im : List ℕ) → Takes im (replicate INDEX 0)
+large-takes im = record {
+  fresh = zeros-fresh INDEX (omega arith);
+  room = λ h. record { nodes = omega (arith, h .nodes, length-replicate {A = ℕ} INDEX 0); edges = omega (arith, h .edges, length-replicate {A = ℕ} INDEX 0) };
+}
+
+pub small-takes : (im : List ℕ) → (nodesOf im ≤ FEW) × (edgesOf im ≤ FEW) → Takes im (replicate SMALL 0)
+small-takes im few = record {
+  fresh = zeros-fresh SMALL (omega arith);
+  room = λ h. record { nodes = omega (arith, few .0, length-replicate {A = ℕ} SMALL 0); edges = omega (arith, few .1, length-replicate {A = ℕ} SMALL 0) };
+}
+
+-- AN EXPORTED SCOPE by its kind and its flag
+exported-words : (kind flag file symbol scope : ℕ) → kind < 9 → isExported (nodeOf kind flag file symbol scope) ≡ pick (eqb kind 3) (eqb flag 1) false
+unfolding nodeOf
+exported-words zero flag file symbol scope h = refl
+exported-words (suc zero) flag file symbol scope h = refl
+exported-words (suc (suc zero)) flag file symbol scope h = refl
+exported-words (suc (suc (suc zero))) flag file symbol scope h = refl
+exported-words (suc (suc (suc (suc zero)))) flag file symbol scope h = refl
+exported-words (suc (suc (suc (suc (suc zero))))) flag file symbol scope h = refl
+exported-words (suc (suc (suc (suc (suc (suc zero)))))) flag file symbol scope h = refl
+exported-words (suc (suc (suc (suc (suc (suc (suc zero))))))) flag file symbol scope h = refl
+exported-words (suc (suc (suc (suc (suc (suc (suc (suc zero)))))))) flag file symbol scope h = refl
+exported-words (suc (suc (suc (suc (suc (suc (suc (suc (suc k))))))))) flag file symbol scope h = absurd (omega (arith, h))
+
+pub exported-row : (l : List ℕ) (n : ℕ) → isExported (nodeRow l n) ≡ pick (eqb (cell l KIND n) 3) (eqb (cell l FLAG n) 1) false
+unfolding nodeRow
+exported-row l n = go (decLt (cell l KIND n) 9)
+  where
+    go : Dec (cell l KIND n < 9) → isExported (nodeOf (cell l KIND n) (cell l FLAG n) (cell l FILE n) (cell l SYMBOL n) (cell l SCOPE n)) ≡ pick (eqb (cell l KIND n) 3) (eqb (cell l FLAG n) 1) false
+    go (yes h) = exported-words (cell l KIND n) (cell l FLAG n) (cell l FILE n) (cell l SYMBOL n) (cell l SCOPE n) h
+    go (no h) =
+        let k : 9 ≤ cell l KIND n = omega arith in
+        sym (ap isExported (no-kind (cell l KIND n) (cell l FLAG n) (cell l FILE n) (cell l SYMBOL n) (cell l SCOPE n) (λ e. omega (arith, k, e)) (λ e. omega (arith, k, e)) (λ e. omega (arith, k, e)) (λ e. omega (arith, k, e)) (λ e. omega (arith, k, e)) (λ e. omega (arith, k, e)) (λ e. omega (arith, k, e)) (λ e. omega (arith, k, e))))
+        ∙ sym (ap (λ (b : Bool). pick b (eqb (cell l FLAG n) 1) false) (ne-eqb (cell l KIND n) 3 (λ e. omega (arith, k, e))))

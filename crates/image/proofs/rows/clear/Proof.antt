@@ -4,19 +4,18 @@ use Prim.Native.Nat.{_-_, _≤_}
 use native.Mathlib.Omega.{arith}
 use mathlib.Core.Path.{_≡_, refl, _∙_}
 use lib.ListN.{length, length-set}
-use Rattle.image.specs.Rows.Laws.{Row, row-more}
-use Rattle.image.specs.Rows.{INDEX, CLEARED}
+use Rattle.image.specs.Rows.Laws.{Cleared, cleared-more, all-cleared}
 use Rattle.image.proofs.rows.clear.Statement.{statement}
 use Rattle.image.proofs.rows.clear.Tie as tie
 
 abbrev Inv-loop : tie.InvT-loop
-Inv-loop index₀ i₀ index i = (i ≤ CLEARED) × (length index ≡ INDEX) × Row index 0 (λ j. 0) i
+Inv-loop index₀ i₀ index i = (i ≤ length index) × (length index ≡ length index₀) × Cleared index i
 
 abbrev μ-loop : tie.MeasureT-loop
-μ-loop index₀ i₀ index i = CLEARED - i
+μ-loop index₀ i₀ index i = length index₀ - i
 
 loop-holds : tie.Need-loop-holds Inv-loop μ-loop
-loop-holds c = (omega arith, c .pre, λ j h. absurd (omega arith))
+loop-holds c = (omega arith, refl, λ i h. absurd (omega arith))
 
 mul-index : tie.Need-mul-index Inv-loop μ-loop
 mul-index c = search needs
@@ -33,13 +32,13 @@ loop-less c = search needs
 loop-again : tie.Need-loop-again Inv-loop μ-loop
 loop-again c =
     let l = c .before .loop in
-    (omega arith, length-set (l .index) (l .i) 0 ∙ l .inv .1, row-more (l .index) 0 (λ j. 0) (l .i) (l .i) 0 (omega arith) (omega arith) refl (l .inv .2))
+    (simp length-set (omega arith), length-set (l .index) (l .i) 0 ∙ l .inv .1, cleared-more (l .index) (l .i) (omega arith) (l .inv .2))
 
 same-length : tie.Need-same-length Inv-loop μ-loop
 same-length c = omega arith
 
 returns : tie.Need-returns Inv-loop μ-loop
-returns c = record { long = c .before .loop .inv .1; clear = λ j h. c .before .loop .inv .2 j (omega arith) }
+returns c = let l = c .before .loop in record { long = omega arith; clear = all-cleared (l .index) (l .i) (omega arith) (l .inv .2) }
 
 pub clear-spec : {M : Type 1} → statement M
 clear-spec =

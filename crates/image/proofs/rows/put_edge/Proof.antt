@@ -7,6 +7,9 @@ use Rattle.image.specs.Rows.{putEdge}
 use Rattle.image.proofs.rows.put_edge.Statement.{statement}
 use Rattle.image.proofs.rows.put_edge.Tie as tie
 
+mul-at : tie.Need-mul-at
+mul-at c = search needs
+
 add-index : tie.Need-add-index
 add-index c = search needs
 
@@ -45,6 +48,7 @@ pub put-edge-spec : {M : Type 1} → statement M
 put-edge-spec =
     tie.close
     (tie.spec
+    mul-at
     add-index
     mul-index
     slice-write-index

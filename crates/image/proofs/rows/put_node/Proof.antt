@@ -7,6 +7,9 @@ use Rattle.image.specs.Rows.{putNode}
 use Rattle.image.proofs.rows.put_node.Statement.{statement}
 use Rattle.image.proofs.rows.put_node.Tie as tie
 
+mul-at : tie.Need-mul-at
+mul-at c = search needs
+
 add-index : tie.Need-add-index
 add-index c = search needs
 
@@ -63,6 +66,7 @@ pub put-node-spec : {M : Type 1} → statement M
 put-node-spec =
     tie.close
     (tie.spec
+    mul-at
     add-index
     mul-index
     slice-write-index

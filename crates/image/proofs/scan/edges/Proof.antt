@@ -2,7 +2,7 @@
 use borrow.Author.Needs.{needs}
 use Prim.Native.Nat.{_-_, _≤_}
 use native.Mathlib.Omega.{arith}
-use mathlib.Core.Path.{_≡_, sym, ap, _∙_}
+use mathlib.Core.Path.{_≡_, refl, sym, ap, _∙_}
 use lib.ListN.{length}
 use Rattle.semantics.specs.Answer.{ok}
 use Rattle.semantics.specs.Image.{edgeRecord}
@@ -10,12 +10,11 @@ use Rattle.image.specs.Records.{Run, EdgesPut}
 use Rattle.image.specs.Records.Laws.{run-start, run-next, run-refused, run-end, edge-place, no-edges-put, edges-put-more}
 use Rattle.image.specs.Steps.{answerOf}
 use Rattle.image.specs.Steps.Laws.{never}
-use Rattle.image.specs.Rows.{INDEX}
 use Rattle.image.proofs.scan.edges.Statement.{statement}
 use Rattle.image.proofs.scan.edges.Tie as tie
 
 abbrev Inv-loop : tie.InvT-loop
-Inv-loop image from count index₀ at₀ e₀ index at e = (e ≤ count) × (length index ≡ INDEX) × Run image (λ k. edgeRecord image) from count e at × EdgesPut image from e index₀ index
+Inv-loop image from count index₀ at₀ e₀ index at e = (e ≤ count) × (length index ≡ length index₀) × Run image (λ k. edgeRecord image) from count e at × EdgesPut image from e index₀ index
 
 abbrev μ-loop : tie.MeasureT-loop
 μ-loop image from count index₀ at₀ e₀ index at e = count - e
@@ -23,7 +22,7 @@ abbrev μ-loop : tie.MeasureT-loop
 loop-holds : tie.Need-loop-holds Inv-loop μ-loop
 loop-holds c =
     let a = c .before .before .args in let im = a .image .now in
-    (omega arith, c .before .before .pre .1 .0, run-start im (λ k. edgeRecord im) (a .from) (a .count), no-edges-put im (a .from) (a .index .now))
+    (omega arith, refl, run-start im (λ k. edgeRecord im) (a .from) (a .count), no-edges-put im (a .from) (a .index .now))
 
 edge-requires : tie.Need-edge-requires Inv-loop μ-loop
 edge-requires c κs = omega arith

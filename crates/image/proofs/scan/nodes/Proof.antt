@@ -2,7 +2,7 @@
 use borrow.Author.Needs.{needs}
 use Prim.Native.Nat.{_-_, _≤_}
 use native.Mathlib.Omega.{arith}
-use mathlib.Core.Path.{_≡_, sym, ap, _∙_}
+use mathlib.Core.Path.{_≡_, refl, sym, ap, _∙_}
 use lib.ListN.{length}
 use Rattle.semantics.specs.Answer.{ok}
 use Rattle.semantics.specs.Image.{symbolBytes, firstRecord, nodeRecord, placeOf}
@@ -10,12 +10,11 @@ use Rattle.image.specs.Records.{Run, NodesPut}
 use Rattle.image.specs.Records.Laws.{run-start, run-next, run-refused, run-end, node-place, no-nodes-put, nodes-put-more}
 use Rattle.image.specs.Steps.{answerOf}
 use Rattle.image.specs.Steps.Laws.{never, next-inj}
-use Rattle.image.specs.Rows.{INDEX}
 use Rattle.image.proofs.scan.nodes.Statement.{statement}
 use Rattle.image.proofs.scan.nodes.Tie as tie
 
 abbrev Inv-loop : tie.InvT-loop
-Inv-loop image files count index₀ at₀ n₀ index at n = (n ≤ count) × (length index ≡ INDEX) × Run image (nodeRecord symbolBytes image files) firstRecord count n at × NodesPut image n index₀ index
+Inv-loop image files count index₀ at₀ n₀ index at n = (n ≤ count) × (length index ≡ length index₀) × Run image (nodeRecord symbolBytes image files) firstRecord count n at × NodesPut image n index₀ index
 
 abbrev μ-loop : tie.MeasureT-loop
 μ-loop image files count index₀ at₀ n₀ index at n = count - n
@@ -23,7 +22,7 @@ abbrev μ-loop : tie.MeasureT-loop
 loop-holds : tie.Need-loop-holds Inv-loop μ-loop
 loop-holds c =
     let a = c .before .before .args in let im = a .image .now in
-    (omega arith, c .before .before .pre .1 .0, run-start im (nodeRecord symbolBytes im (a .files)) firstRecord (a .count), no-nodes-put im (a .index .now))
+    (omega arith, refl, run-start im (nodeRecord symbolBytes im (a .files)) firstRecord (a .count), no-nodes-put im (a .index .now))
 
 node-requires : tie.Need-node-requires Inv-loop μ-loop
 node-requires c κs = omega arith

@@ -17,7 +17,7 @@ nodes-requires : tie.Need-nodes-requires
 nodes-requires c κs = search needs
 
 nodes-requires-2 : tie.Need-nodes-requires-2
-nodes-requires-2 c κs = let h = c .before .before .before .before .before .pre .0 in (h .small, (c .before .before .before .before .before .pre .1 .long, omega (arith, c .before .nodes .ensures, h .nodes)))
+nodes-requires-2 c κs = let h = c .before .before .before .before .before .pre .0 in let r = c .before .before .before .before .before .pre .1 in (h .small, (r .0 .long, omega (arith, c .before .nodes .ensures, r .1 .nodes)))
 
 enum-known-step : tie.Need-enum-known-step
 enum-known-step c = search needs
@@ -38,7 +38,7 @@ edges-requires : tie.Need-edges-requires
 edges-requires c κs = search needs
 
 edges-requires-2 : tie.Need-edges-requires-2
-edges-requires-2 c κs = let h = c .before .before .before .before .before .before .before .before .before .before .before .before .before .pre .0 in (h .small, (search needs, omega (arith, c .before .edges .ensures, h .edges)))
+edges-requires-2 c κs = let h = c .before .before .before .before .before .before .before .before .before .before .before .before .before .pre .0 in let r = c .before .before .before .before .before .before .before .before .before .before .before .before .before .pre .1 in (h .small, (omega (arith, r .0 .long), omega (arith, c .before .edges .ensures, r .1 .edges)))
 
 same-length-2 : tie.Need-same-length-2
 same-length-2 c = search needs
@@ -48,7 +48,7 @@ returns-2 c =
     let im = c .before .before .before .before .before .before .before .before .before .before .before .before .before .before .before .before .args .image .now in let t = c .before .before .before .before .before .before .step .given .1 in
     let e = ap₂ (λ (f k : ℕ). scan (nodeRecord symbolBytes im f) 0 firstRecord k) (sym (c .before .before .before .before .before .before .before .before .before .before .before .before .before .files .ensures)) (sym (c .before .before .before .before .before .before .before .before .before .before .before .before .nodes .ensures)) ∙ sym (c .before .before .before .before .before .before .before .before .before .before .nodes2 .ensures .0) ∙ ap answerOf t in (
       then-ok _ (λ middle. scan (λ k. edgeRecord im) 0 middle (edgesOf im)) _ _ e (c .before .before .edges2 .ensures .0 ∙ ap (scan (λ k. edgeRecord im) 0 _) (c .before .before .before .before .edges .ensures)),
-      λ x q. records-put im (c .before .before .before .before .before .before .before .before .before .before .before .before .nodes .result) _ (c .before .before .before .before .edges .result) (c .before .before .before .before .before .before .before .before .before .before .before .before .before .before .before .before .args .index .now) (c .before .before .before .before .before .before .before .before .before .before .nodes2 .last .1 .1 .1 .0) _ (c .before .before .before .before .before .before .before .before .before .before .before .before .nodes .ensures) (c .before .before .before .before .before .before .before .before .before .before .nodes2 .ensures .1 _ t .0) (c .before .before .before .before .edges .ensures) (c .before .before .before .before .before .before .before .before .before .before .before .before .before .before .before .before .pre .1)
+      λ x q. records-put im (c .before .before .before .before .before .before .before .before .before .before .before .before .nodes .result) _ (c .before .before .before .before .edges .result) (c .before .before .before .before .before .before .before .before .before .before .before .before .before .before .before .before .args .index .now) (c .before .before .before .before .before .before .before .before .before .before .nodes2 .last .1 .1 .1 .0) _ (c .before .before .before .before .before .before .before .before .before .before .before .before .nodes .ensures) (c .before .before .before .before .before .before .before .before .before .before .nodes2 .ensures .1 _ t .0) (c .before .before .before .before .edges .ensures) (c .before .before .before .before .before .before .before .before .before .before .before .before .before .before .before .before .pre .1 .0)
           (c .before .before .before .before .before .before .before .before .before .before .nodes2 .ensures .1 _ t .1) (c .before .before .edges2 .ensures .1 x q),
     )
 

@@ -1,13 +1,13 @@
 use Rattle.partial_state.specs.Extractions.{at, goingAt}
 use native.Mathlib.Omega.{arith}
-use Rattle.partial.specs.Rounds.Laws.{round-short, round-long, round-given, rounded}
+use Rattle.partial.specs.Rounds.Laws.{round-short, round-long, round-inside, round-given, rounded}
 use borrow.Author.Needs.{needs}
 use Rattle.partial.proofs.compute.round.Statement.{statement}
 use Rattle.partial.proofs.compute.round.Tie as tie
 
 -- src/compute.rt:35:9
 ends-of-requires : tie.Need-ends-of-requires
-ends-of-requires c κs = let a = c .before .before .before .before .before .args in let p = c .before .before .before .before .before .pre in (p .loaded .long, round-long 549755813888 (a .index .now) (a .filing) (a .item .now) (at (a .frame) (a .extraction)) (a .work .now) (a .words .now) p, round-short 549755813888 (a .index .now) (a .filing) (a .item .now) (at (a .frame) (a .extraction)) (a .work .now) (a .words .now) p)
+ends-of-requires c κs = let a = c .before .before .before .before .before .args in let p = c .before .before .before .before .before .pre in (p .loaded .long, round-long 549755813888 (a .index .now) (a .filing) (a .item .now) (at (a .frame) (a .extraction)) (a .work .now) (a .words .now) p, round-inside 549755813888 (a .index .now) (a .filing) (a .item .now) (at (a .frame) (a .extraction)) (a .work .now) (a .words .now) p)
 
 -- src/compute.rt:36:13
 slice-read-k : tie.Need-slice-read-k

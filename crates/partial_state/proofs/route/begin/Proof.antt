@@ -1,9 +1,7 @@
 use Prim.Native.Nat.{ℕ}
-use native.Mathlib.Omega.{arith}
 use mathlib.Core.Path.{ap, _∙_}
 use mathlib.Core.List.{List}
-use lib.ListN.{set}
-use Rattle.semantics.specs.Words.{zeros}
+use lib.ListN.{length, set}
 use Rattle.partial_state.specs.Routes.Laws.{begun}
 use borrow.Author.Needs.{needs}
 use Rattle.partial_state.proofs.route.begin.Statement.{statement}
@@ -23,7 +21,7 @@ same-length c = search needs
 
 -- src/route.rt:22:1
 returns : tie.Need-returns
-returns c = let a = c .before .before .before .before .before .args in let p = c .before .before .before .before .before .pre in ap (λ (l : List ℕ). set l 1 (a .start)) (c .before .before .zero .ensures) ∙ ap (λ (n : ℕ). set (zeros n) 1 (a .start)) p ∙ begun 128 (a .start) (omega arith)
+returns c = let a = c .before .before .before .before .before .args in let p = c .before .before .before .before .before .pre in ap (λ (l : List ℕ). set l 1 (a .start)) (c .before .before .zero .ensures) ∙ begun (length (a .item .now)) (a .start) p
 
 pub begin-spec : {M : Type 1} → statement M
 begin-spec = tie.close (tie.spec zero-requires slice-write-item same-length returns)

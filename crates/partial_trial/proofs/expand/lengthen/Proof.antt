@@ -3,14 +3,14 @@ use native.Mathlib.Omega.{arith}
 use mathlib.Core.Path.{ap, _∙_}
 use Rattle.semantics.specs.Graph.{isEndpoint}
 use Rattle.semantics.specs.PartialPaths.{targetOf}
-use Rattle.partial_trial.specs.Expansions.Laws.{longer-given, lengthened}
+use Rattle.partial_trial.specs.Expansions.Laws.{longer-room, longer-given, lengthened}
 use borrow.Author.Needs.{needs}
 use Rattle.partial_trial.proofs.expand.lengthen.Statement.{statement}
 use Rattle.partial_trial.proofs.expand.lengthen.Tie as tie
 
 -- src/expand.rt:61:5
 with-edge-requires : tie.Need-with-edge-requires
-with-edge-requires c κs = let a = c .before .before .before .before .before .args in let p = c .before .before .before .before .before .pre in (omega (arith, p .0 .looking .given .carries .long, p .1), omega (arith, p .0 .looking .given .carries .long))
+with-edge-requires c κs = let a = c .before .before .before .before .before .args in let p = c .before .before .before .before .before .pre in let r = longer-room 1099511627776 (a .index .now) (a .filing) (a .start) (a .k) (a .edge) (a .item .now) (at (a .frame) (a .extraction)) (a .work .now) (a .words .now) (p .0) (p .1) in (omega (arith, p .0 .looking .given .carries .long, r), omega (arith, p .1))
 
 -- src/expand.rt:62:25
 edge-requires : tie.Need-edge-requires

@@ -1,12 +1,12 @@
 use Rattle.partial_state.specs.Extractions.{at, goingAt}
-use Rattle.partial_trial.specs.Seeds.Laws.{start-pushes, started}
+use Rattle.partial_trial.specs.Seeds.Laws.{start-begins, start-pushes, started}
 use borrow.Author.Needs.{needs}
 use Rattle.partial_trial.proofs.seed.push_start.Statement.{statement}
 use Rattle.partial_trial.proofs.seed.push_start.Tie as tie
 
 -- src/seed.rt:23:5
 begin-requires : tie.Need-begin-requires
-begin-requires c κs = let a = c .before .before .before .args in let p = c .before .before .before .pre in p .slot
+begin-requires c κs = let a = c .before .before .before .args in let p = c .before .before .before .pre in start-begins (a .item .now) (at (a .frame) (a .extraction)) (a .work .now) p
 
 -- src/seed.rt:24:5
 push-requires : tie.Need-push-requires

@@ -1,55 +1,38 @@
-use mathlib.Core.Path.{ap, _∙_}
-use denote.Enum.Declared
-use Rattle.semantics.specs.Image.{symbolBytes, checkImage}
-use Rattle.semantics.specs.Told.{toldJudgement}
-use Rattle.storage.specs.Rows.Laws.{zeros-fresh}
-use Rattle.storage.specs.Rows.Use.{answer-refused, answer-accepted}
-use Rattle.path.specs.Replays.Calls.{accepted-jump, shadows-image, shadows-answers}
+-- `path::judgement::shadows`: the index that the image asks for.
 use borrow.Author.Needs.{needs}
+use Rattle.storage.specs.Rows.Laws.{small-takes, large-takes}
 use Rattle.path.proofs.judgement.shadows.Statement.{statement}
 use Rattle.path.proofs.judgement.shadows.Tie as tie
 
--- src/judgement.rt:71:36
-slice-aggregate-load-fresh : tie.Need-slice-aggregate-load-fresh
-slice-aggregate-load-fresh c = search needs
+is-small-requires : tie.Need-is-small-requires
+is-small-requires c κs = search needs
 
--- src/judgement.rt:71:11
-load-fresh-requires : tie.Need-load-fresh-requires
-load-fresh-requires c κs = zeros-fresh
+slice-aggregate-shadows-in : tie.Need-slice-aggregate-shadows-in
+slice-aggregate-shadows-in c = search needs
 
--- src/judgement.rt:72:26
-enum-known-r : tie.Need-enum-known-r
-enum-known-r c = search needs
+shadows-in-requires : tie.Need-shadows-in-requires
+shadows-in-requires c κs = small-takes (c .before .before .before .before .before .before .args .image .now) (c .before .before .is-small .ensures (c .before .if1 .taken))
 
--- src/judgement.rt:73:78
-enum-told : tie.Need-enum-told
-enum-told c = search needs
-
--- src/judgement.rt:73:78
-slice-aggregate-shadows-loaded : tie.Need-slice-aggregate-shadows-loaded
-slice-aggregate-shadows-loaded c = search needs
-
--- src/judgement.rt:73:63
-shadows-loaded-requires : tie.Need-shadows-loaded-requires
-shadows-loaded-requires c κs = search needs
-
--- src/judgement.rt:67:1
 returns : tie.Need-returns
-returns c = let a = c .before .before .before .before .before .before .before .before .before .args in let e = answer-refused (checkImage symbolBytes (a .image .now)) (c .before .before .before .before .load-fresh .result) (c .before .r .given .0 .0) (c .before .before .before .before .load-fresh .ensures .0) (c .before .r .given .1) in ap toldJudgement (shadows-image (checkImage symbolBytes (a .image .now)) (c .before .r .given .0 .0) e (a .left .0) (a .left-edges .now) (a .right .0) (a .right-edges .now))
+returns c = search needs
 
--- src/judgement.rt:67:1
+slice-aggregate-shadows-in-2 : tie.Need-slice-aggregate-shadows-in-2
+slice-aggregate-shadows-in-2 c = search needs
+
+shadows-in-requires-2 : tie.Need-shadows-in-requires-2
+shadows-in-requires-2 c κs = large-takes (c .before .before .before .before .before .before .args .image .now)
+
 returns-2 : tie.Need-returns-2
-returns-2 c = let a = c .before .before .before .before .before .before .before .before .before .before .args in let z = answer-accepted (checkImage symbolBytes (a .image .now)) (c .before .before .before .before .before .load-fresh .result) (c .before .before .enum-told .given .0 .0) (c .before .before .enum-told .given .0 .1 .0) (c .before .before .enum-told .given .0 .1 .1 .0) (c .before .before .before .before .before .load-fresh .ensures .0) (c .before .before .enum-told .given .1) in let g = z .graph in let l = c .before .before .before .before .before .load-fresh .ensures .1 g (z .is) in let j = accepted-jump symbolBytes (a .image .now) g (z .is) in ap toldJudgement (c .shadows-loaded .ensures g l j ∙ shadows-answers (checkImage symbolBytes (a .image .now)) g (z .is) (a .left .0) (a .left-edges .now) (a .right .0) (a .right-edges .now))
+returns-2 c = search needs
 
 pub shadows-spec : {M : Type 1} → statement M
 shadows-spec =
     tie.close
     (tie.spec
-    slice-aggregate-load-fresh
-    load-fresh-requires
-    enum-known-r
-    enum-told
-    slice-aggregate-shadows-loaded
-    shadows-loaded-requires
+    is-small-requires
+    slice-aggregate-shadows-in
+    shadows-in-requires
     returns
+    slice-aggregate-shadows-in-2
+    shadows-in-requires-2
     returns-2)

@@ -17,46 +17,53 @@ abbrev μ-loop : tie.MeasureT-loop
 
 returns : tie.Need-returns Inv-loop μ-loop
 returns c =
-    sym (same-lengths (c .before .args .left .now) (c .before .args .right .now) (c .if1 .taken))
+    sym (same-lengths (c .before .before .before .args .left .now) (c .before .before .before .args .right .now) (c .if1 .taken))
+
+starts-apart-requires : tie.Need-starts-apart-requires Inv-loop μ-loop
+starts-apart-requires c κs = search needs
+
+returns-2 : tie.Need-returns-2 Inv-loop μ-loop
+returns-2 c =
+    sym (c .before .starts-apart .ensures (c .if2 .taken))
 
 loop-holds : tie.Need-loop-holds Inv-loop μ-loop
 loop-holds c =
-    let a = c .before .args in
-    (search needs, c .if1 .left, same-whole (a .left .now) (a .right .now) (c .if1 .left))
+    let a = c .before .before .before .before .before .args in
+    (search needs, c .before .before .if1 .left, same-whole (a .left .now) (a .right .now) (c .before .before .if1 .left))
 
 sub-k : tie.Need-sub-k Inv-loop μ-loop
 sub-k c = search needs
 
-mul-if2 : tie.Need-mul-if2 Inv-loop μ-loop
-mul-if2 c = search needs
+mul-if3 : tie.Need-mul-if3 Inv-loop μ-loop
+mul-if3 c = search needs
 
-shared-slice-read-if2 : tie.Need-shared-slice-read-if2 Inv-loop μ-loop
-shared-slice-read-if2 c = search needs
+shared-slice-read-if3 : tie.Need-shared-slice-read-if3 Inv-loop μ-loop
+shared-slice-read-if3 c = search needs
 
-mul-if2-2 : tie.Need-mul-if2-2 Inv-loop μ-loop
-mul-if2-2 c = search needs
+mul-if3-2 : tie.Need-mul-if3-2 Inv-loop μ-loop
+mul-if3-2 c = search needs
 
-shared-slice-read-if2-2 : tie.Need-shared-slice-read-if2-2 Inv-loop μ-loop
-shared-slice-read-if2-2 c = search needs
+shared-slice-read-if3-2 : tie.Need-shared-slice-read-if3-2 Inv-loop μ-loop
+shared-slice-read-if3-2 c = search needs
 
-returns-2 : tie.Need-returns-2 Inv-loop μ-loop
-returns-2 c =
-    let a = c .before .before .before .before .before .before .args in
+returns-3 : tie.Need-returns-3 Inv-loop μ-loop
+returns-3 c =
+    let a = c .before .before .before .before .before .before .before .before .before .before .args in
     let l = c .before .before .before .before .loop in
-    same-not (a .left .now) (a .right .now) (l .k) (omega (arith, c .before .before .before .loop-test .taken)) (l .inv .0) (l .inv .1) (c .if2 .taken) ∙ l .inv .2
+    same-not (a .left .now) (a .right .now) (l .k) (omega (arith, c .before .before .before .loop-test .taken)) (l .inv .0) (l .inv .1) (c .if3 .taken) ∙ l .inv .2
 
 loop-less : tie.Need-loop-less Inv-loop μ-loop
 loop-less c = search needs
 
 loop-again : tie.Need-loop-again Inv-loop μ-loop
 loop-again c =
-    let a = c .before .before .before .before .before .before .args in
+    let a = c .before .before .before .before .before .before .before .before .before .before .args in
     let l = c .before .before .before .before .loop in
-    (search needs, l .inv .1, same-on (a .left .now) (a .right .now) (l .k) (omega (arith, c .before .before .before .loop-test .taken)) (l .inv .0) (l .inv .1) (c .if2 .left) ∙ l .inv .2)
+    (search needs, l .inv .1, same-on (a .left .now) (a .right .now) (l .k) (omega (arith, c .before .before .before .loop-test .taken)) (l .inv .0) (l .inv .1) (c .if3 .left) ∙ l .inv .2)
 
-returns-3 : tie.Need-returns-3 Inv-loop μ-loop
-returns-3 c =
-    let a = c .before .before .before .args in
+returns-4 : tie.Need-returns-4 Inv-loop μ-loop
+returns-4 c =
+    let a = c .before .before .before .before .before .before .before .args in
     let l = c .before .loop in
     same-none (a .left .now) (a .right .now) (l .k) (omega (arith, c .loop-test .left)) ∙ l .inv .2
 
@@ -67,13 +74,15 @@ is-same-spec =
     Inv-loop
     μ-loop
     returns
+    starts-apart-requires
+    returns-2
     loop-holds
     sub-k
-    mul-if2
-    shared-slice-read-if2
-    mul-if2-2
-    shared-slice-read-if2-2
-    returns-2
+    mul-if3
+    shared-slice-read-if3
+    mul-if3-2
+    shared-slice-read-if3-2
+    returns-3
     loop-less
     loop-again
-    returns-3)
+    returns-4)

@@ -1,13 +1,12 @@
 -- `drop_shadowed` meets its contract: the lists without a mark are those that none shadows.
 use mathlib.Core.Path.{ap, _∙_}
-use mathlib.Core.List.{List, []}
+use mathlib.Core.List.{List}
 use Prim.Native.Nat.{ℕ}
 use native.Mathlib.Omega.{arith}
-use lib.ListN.{getD}
 use Rattle.semantics.specs.Words.{area}
 use Rattle.storage.specs.Rows.{edgeRow}
 use Rattle.path.specs.Shadows.{shadowsEdges}
-use Rattle.recorded.specs.EdgeLists.{beatenList, unbeatenLists}
+use Rattle.recorded.specs.EdgeLists.{beatenList, beatenAt, unbeatenLists}
 use Rattle.recorded.specs.EdgeLists.Laws.{unbeaten-shorter}
 use borrow.Author.Needs.{needs}
 use Rattle.recorded.proofs.shadowed.drop_shadowed.Statement.{statement}
@@ -20,7 +19,7 @@ close-up-requires : tie.Need-close-up-requires
 close-up-requires c κs =
     let a = c .before .before .before .before .before .before .before .args in
     let k = c .before .before .before .before .before .before .before .pre .1 in
-    record { mark = λ (j : ℕ). beatenList (shadowsEdges (edgeRow (a .index .now))) (getD (k .lists) j []) (k .lists); lists = k .lists; count = k .count; marked = c .before .before .before .mark-shadowed .ensures .1 k }
+    record { mark = beatenAt (shadowsEdges (edgeRow (a .index .now))) (k .lists); lists = k .lists; count = k .count; marked = c .before .before .before .mark-shadowed .ensures .1 k }
 
 same-length : tie.Need-same-length
 same-length c = search needs

@@ -12,12 +12,6 @@ use borrow.Author.Needs.{needs}
 use Rattle.recorded.proofs.shadowed.judge.Statement.{statement}
 use Rattle.recorded.proofs.shadowed.judge.Tie as tie
 
-is-shadowed-requires : tie.Need-is-shadowed-requires
-is-shadowed-requires c κs = search needs
-
-returns : tie.Need-returns
-returns c = search needs
-
 mul-start : tie.Need-mul-start
 mul-start c = search needs
 
@@ -45,27 +39,32 @@ part-has-beatable-end c = search needs
 has-beatable-requires : tie.Need-has-beatable-requires
 has-beatable-requires c κs = search needs
 
-is-shadowed-requires-2 : tie.Need-is-shadowed-requires-2
-is-shadowed-requires-2 c κs = search needs
+is-shadowed-requires : tie.Need-is-shadowed-requires
+is-shadowed-requires c κs = search needs
+
+same-length : tie.Need-same-length
+same-length c = search needs
+
+returns : tie.Need-returns
+returns c = search needs
+
+same-length-2 : tie.Need-same-length-2
+same-length-2 c = search needs
 
 returns-2 : tie.Need-returns-2
-returns-2 c = search needs
-
-returns-3 : tie.Need-returns-3
-returns-3 c =
-    let a = c .before .before .before .before .before .before .before .args in
-    let k = c .before .before .before .before .before .before .before .pre .0 in
+returns-2 c =
+    let a = c .before .before .before .before .before .before .before .before .before .before .args in
+    let p = c .before .before .before .before .before .before .before .before .before .before .pre in
+    let k = p .0 in
     let ws = a .result .now in
-    let lent = ap (λ (m : ℕ). take (128 * a .i + 1 + m - (128 * a .i + 1)) (drop (128 * a .i + 1) ws)) (c .before .before .before .edge-count .ensures) ∙ edges-part 128 (a .i) ws (c .before .before .before .before .before .before .before .pre .1 .1) in
-    let none = ap (λ (l : List ℕ). beatable (viewOf (k .graph)) l) (sym lent) ∙ sym (c .before .has-beatable .ensures (k .graph) (k .loaded)) ∙ c .if2 .left in
-    sym (never-beaten (a .index .now) k (edgesAt 128 (a .i) ws) (listsAt 128 (a .n) ws) none)
+    let lent = ap (λ (m : ℕ). take (128 * a .i + 1 + m - (128 * a .i + 1)) (drop (128 * a .i + 1) ws)) (c .before .before .before .before .before .before .edge-count .ensures) ∙ edges-part 128 (a .i) ws (p .1 .0 .1) in
+    let none = ap (λ (l : List ℕ). beatable (viewOf (k .graph)) l) (sym lent) ∙ c .before .before .before .has-beatable .ensures .1 (k .graph) (k .loaded) (c .if1 .left) in
+    (c .before .before .before .has-beatable .ensures .0, sym (never-beaten (a .index .now) k (edgesAt 128 (a .i) ws) (listsAt 128 (a .n) ws) none))
 
 pub judge-spec : {M : Type 1} → statement M
 judge-spec =
     tie.close
     (tie.spec
-    is-shadowed-requires
-    returns
     mul-start
     add-start
     edge-count-requires
@@ -75,6 +74,8 @@ judge-spec =
     part-has-beatable-start
     part-has-beatable-end
     has-beatable-requires
-    is-shadowed-requires-2
-    returns-2
-    returns-3)
+    is-shadowed-requires
+    same-length
+    returns
+    same-length-2
+    returns-2)

@@ -25,10 +25,6 @@ plain-requires c κs = search needs
 enum-told-3 : tie.Need-enum-told-3
 enum-told-3 c = search needs
 
--- src/step.rt:116:40
-node-requires : tie.Need-node-requires
-node-requires c κs = search needs
-
 -- src/step.rt:116:17
 is-exported-requires : tie.Need-is-exported-requires
 is-exported-requires c κs = search needs
@@ -64,10 +60,6 @@ pop-requires c κs = search needs
 -- src/step.rt:131:37
 enum-known-node-3 : tie.Need-enum-known-node-3
 enum-known-node-3 c = search needs
-
--- src/step.rt:132:40
-node-requires-2 : tie.Need-node-requires-2
-node-requires-2 c κs = search needs
 
 -- src/step.rt:132:17
 is-exported-requires-2 : tie.Need-is-exported-requires-2
@@ -106,7 +98,7 @@ returns-2 c = let a = c .before .before .before .before .args in ap Done (c .pla
 -- src/step.rt:108:1
 returns-3 : tie.Need-returns-3
 unfolding appliedOf
-returns-3 c = let a = c .before .before .before .before .before .before .args in c .jump .ensures ∙ ap (λ (b : Bool). jumpOf b (a .target) (a .edge) (a .last) (a .over)) (c .before .is-exported .ensures ∙ ap isExported (c .before .before .node .ensures)) ∙ sym (ap (λ (x : Node). appliedOf (isExported (nodeRow (a .index .now) (askedScope x (a .over)))) x (a .target) (a .edge) (a .k) (a .last) (a .top) (a .over)) (c .before .before .before .enum-told3 .given .1))
+returns-3 c = let a = c .before .before .before .before .before .args in c .jump .ensures ∙ ap (λ (b : Bool). jumpOf b (a .target) (a .edge) (a .last) (a .over)) (c .before .is-exported .ensures) ∙ sym (ap (λ (x : Node). appliedOf (isExported (nodeRow (a .index .now) (askedScope x (a .over)))) x (a .target) (a .edge) (a .k) (a .last) (a .top) (a .over)) (c .before .before .enum-told3 .given .1))
 
 -- src/step.rt:108:1
 returns-4 : tie.Need-returns-4
@@ -116,22 +108,22 @@ returns-4 c = let a = c .before .before .before .before .args in ap Done (c .pla
 -- src/step.rt:108:1
 returns-5 : tie.Need-returns-5
 unfolding appliedOf
-returns-5 c = let a = c .before .before .before .before .before .args in ap Done (c .push .ensures) ∙ sym (ap (λ (x : Node). appliedOf (isExported (nodeRow (a .index .now) (askedScope x (a .over)))) x (a .target) (a .edge) (a .k) (a .last) (a .top) (a .over)) (c .before .before .node2 .given .1))
+returns-5 c = let a = c .before .before .before .before .before .args in ap Done (c .push .ensures) ∙ sym (ap (λ (x : Node). appliedOf (isExported (nodeRow (a .index .now) (askedScope x (a .over)))) x (a .target) (a .edge) (a .k) (a .last) (a .top) (a .over)) (c .before .before .node .given .1))
 
 -- src/step.rt:108:1
 returns-6 : tie.Need-returns-6
 unfolding appliedOf
-returns-6 c = let a = c .before .before .before .before .before .args in c .pop .ensures ∙ sym (ap (λ (x : Node). appliedOf (isExported (nodeRow (a .index .now) (askedScope x (a .over)))) x (a .target) (a .edge) (a .k) (a .last) (a .top) (a .over)) (c .before .before .node3 .given .1))
+returns-6 c = let a = c .before .before .before .before .before .args in c .pop .ensures ∙ sym (ap (λ (x : Node). appliedOf (isExported (nodeRow (a .index .now) (askedScope x (a .over)))) x (a .target) (a .edge) (a .k) (a .last) (a .top) (a .over)) (c .before .before .node2 .given .1))
 
 -- src/step.rt:108:1
 returns-7 : tie.Need-returns-7
 unfolding appliedOf
-returns-7 c = let a = c .before .before .before .before .before .before .before .args in c .push-scoped .ensures ∙ ap (λ (b : Bool). pushScopedOf b (c .before .before .before .before .node4 .given .0 .1 .0) (c .before .before .before .before .node4 .given .0 .1 .1 .0 .0) (a .target) (a .edge) (a .k) (a .last)) (c .before .is-exported2 .ensures ∙ ap isExported (c .before .before .node5 .ensures)) ∙ sym (ap (λ (x : Node). appliedOf (isExported (nodeRow (a .index .now) (askedScope x (a .over)))) x (a .target) (a .edge) (a .k) (a .last) (a .top) (a .over)) (c .before .before .before .before .node4 .given .1))
+returns-7 c = let a = c .before .before .before .before .before .before .args in c .push-scoped .ensures ∙ ap (λ (b : Bool). pushScopedOf b (c .before .before .before .node3 .given .0 .1 .0) (c .before .before .before .node3 .given .0 .1 .1 .0 .0) (a .target) (a .edge) (a .k) (a .last)) (c .before .is-exported2 .ensures) ∙ sym (ap (λ (x : Node). appliedOf (isExported (nodeRow (a .index .now) (askedScope x (a .over)))) x (a .target) (a .edge) (a .k) (a .last) (a .top) (a .over)) (c .before .before .before .node3 .given .1))
 
 -- src/step.rt:108:1
 returns-8 : tie.Need-returns-8
 unfolding appliedOf
-returns-8 c = let a = c .before .before .before .before .before .args in c .pop-scoped .ensures ∙ sym (ap (λ (x : Node). appliedOf (isExported (nodeRow (a .index .now) (askedScope x (a .over)))) x (a .target) (a .edge) (a .k) (a .last) (a .top) (a .over)) (c .before .before .node6 .given .1))
+returns-8 c = let a = c .before .before .before .before .before .args in c .pop-scoped .ensures ∙ sym (ap (λ (x : Node). appliedOf (isExported (nodeRow (a .index .now) (askedScope x (a .over)))) x (a .target) (a .edge) (a .k) (a .last) (a .top) (a .over)) (c .before .before .node4 .given .1))
 
 -- src/step.rt:108:1
 returns-9 : tie.Need-returns-9
@@ -146,7 +138,6 @@ applied-spec =
     enum-told-2
     plain-requires
     enum-told-3
-    node-requires
     is-exported-requires
     jump-requires
     enum-told-4
@@ -156,7 +147,6 @@ applied-spec =
     enum-known-node-2
     pop-requires
     enum-known-node-3
-    node-requires-2
     is-exported-requires-2
     push-scoped-requires
     enum-known-node-4

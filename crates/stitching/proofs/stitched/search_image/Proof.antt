@@ -1,84 +1,54 @@
-use Rattle.semantics.specs.Image.{symbolBytes, checkImage}
-use Rattle.storage.specs.Rows.Laws.{zeros-fresh}
-use Rattle.storage.specs.Rows.Use.{answer-refused, answer-accepted}
-use Rattle.path.specs.Replays.Calls.{accepted-jump}
-use Rattle.rounds.specs.Requests.{requestOf}
-use Rattle.stitching.specs.Requests.Laws.{image-refused, image-does}
+-- `stitching::stitched::search_image`: the index that the image asks for.
 use borrow.Author.Needs.{needs}
+use Rattle.storage.specs.Rows.Laws.{small-takes, large-takes}
 use Rattle.stitching.proofs.stitched.search_image.Statement.{statement}
 use Rattle.stitching.proofs.stitched.search_image.Tie as tie
 
--- src/stitched.rt:286:45
-slice-aggregate-load-fresh : tie.Need-slice-aggregate-load-fresh
-slice-aggregate-load-fresh c = search needs
+is-small-requires : tie.Need-is-small-requires
+is-small-requires c κs = search needs
 
--- src/stitched.rt:286:11
-load-fresh-requires : tie.Need-load-fresh-requires
-load-fresh-requires c κs = zeros-fresh
+slice-aggregate-search-in : tie.Need-slice-aggregate-search-in
+slice-aggregate-search-in c = search needs
 
--- src/stitched.rt:287:26
-enum-known-r : tie.Need-enum-known-r
-enum-known-r c = search needs
+search-in-requires : tie.Need-search-in-requires
+search-in-requires c κs = small-takes (c .before .before .before .before .before .before .before .before .before .args .image .now) (c .before .before .before .before .is-small .ensures (c .before .before .before .if1 .taken))
 
--- src/stitched.rt:288:13
-zero-requires : tie.Need-zero-requires
-zero-requires c κs = search needs
-
--- src/stitched.rt:289:13
-zero-requires-2 : tie.Need-zero-requires-2
-zero-requires-2 c κs = search needs
-
--- src/stitched.rt:293:13
-enum-known-files : tie.Need-enum-known-files
-enum-known-files c = search needs
-
--- src/stitched.rt:296:30
-slice-aggregate-search-database : tie.Need-slice-aggregate-search-database
-slice-aggregate-search-database c = search needs
-
--- src/stitched.rt:296:14
-search-database-requires : tie.Need-search-database-requires
-search-database-requires c κs = let a = c .before .before .before .before .before .before .before .before .before .before .before .before .before .args in let z = answer-accepted (checkImage symbolBytes (a .image .now)) (c .before .before .before .before .before .before .before .load-fresh .result) (c .before .before .before .before .files .given .0 .0) (c .before .before .before .before .files .given .0 .1 .0) (c .before .before .before .before .files .given .0 .1 .1 .0) (c .before .before .before .before .before .before .before .load-fresh .ensures .0) (c .before .before .before .before .files .given .1) in record { graph = z .graph; loaded = c .before .before .before .before .before .before .before .load-fresh .ensures .1 (z .graph) (z .is); node-count = z .node-count; file-count = z .file-count }
-
--- src/stitched.rt:273:1
 same-length : tie.Need-same-length
 same-length c = search needs
 
--- src/stitched.rt:273:1
 same-length-2 : tie.Need-same-length-2
 same-length-2 c = search needs
 
--- src/stitched.rt:273:1
 returns : tie.Need-returns
-returns c = let a = c .before .before .before .before .before .before .before .before .before .before .before .before .before .before .before .before .before .before .args in image-refused (a .reply) (a .words .now) (requestOf (a .order) (a .limits) (a .work .now) (a .result .now) (a .reference)) (checkImage symbolBytes (a .image .now)) (c .before .before .before .before .before .before .before .before .before .r .given .0 .0) (answer-refused (checkImage symbolBytes (a .image .now)) (c .before .before .before .before .before .before .before .before .before .before .before .before .load-fresh .result) (c .before .before .before .before .before .before .before .before .before .r .given .0 .0) (c .before .before .before .before .before .before .before .before .before .before .before .before .load-fresh .ensures .0) (c .before .before .before .before .before .before .before .before .before .r .given .1)) (c .before .before .before .before .before .before .zero .last .0) (c .before .before .zero2 .last .0) (c .before .before .before .before .before .before .zero .ensures) (c .before .before .zero2 .ensures)
+returns c = search needs
 
--- src/stitched.rt:273:1
+slice-aggregate-search-in-2 : tie.Need-slice-aggregate-search-in-2
+slice-aggregate-search-in-2 c = search needs
+
+search-in-requires-2 : tie.Need-search-in-requires-2
+search-in-requires-2 c κs = large-takes (c .before .before .before .before .before .before .before .before .before .args .image .now)
+
 same-length-3 : tie.Need-same-length-3
 same-length-3 c = search needs
 
--- src/stitched.rt:273:1
 same-length-4 : tie.Need-same-length-4
 same-length-4 c = search needs
 
--- src/stitched.rt:273:1
 returns-2 : tie.Need-returns-2
-returns-2 c = let a = c .before .before .before .before .before .before .before .before .before .before .before .before .before .before .before .before .before .before .args in let z = answer-accepted (checkImage symbolBytes (a .image .now)) (c .before .before .before .before .before .before .before .before .before .before .before .before .load-fresh .result) (c .before .before .before .before .before .before .before .before .before .files .given .0 .0) (c .before .before .before .before .before .before .before .before .before .files .given .0 .1 .0) (c .before .before .before .before .before .before .before .before .before .files .given .0 .1 .1 .0) (c .before .before .before .before .before .before .before .before .before .before .before .before .load-fresh .ensures .0) (c .before .before .before .before .before .before .before .before .before .files .given .1) in image-does (a .reply) (a .words .now) (requestOf (a .order) (a .limits) (a .work .now) (a .result .now) (a .reference)) (checkImage symbolBytes (a .image .now)) (z .graph) (z .is) (c .before .before .before .before .search-database .result) (c .before .before .before .before .search-database .last .1 .1 .1 .1 .1 .1 .1 .1 .0) (c .before .before .before .before .search-database .last .1 .1 .1 .1 .1 .1 .1 .1 .1 .0) ((c .before .before .before .before .search-database .ensures) (z .graph) (c .before .before .before .before .before .before .before .before .before .before .before .before .load-fresh .ensures .1 (z .graph) (z .is)) (accepted-jump symbolBytes (a .image .now) (z .graph) (z .is)) (z .node-count) (z .file-count))
+returns-2 c = search needs
 
 pub search-image-spec : {M : Type 1} → statement M
 search-image-spec =
     tie.close
     (tie.spec
-    slice-aggregate-load-fresh
-    load-fresh-requires
-    enum-known-r
-    zero-requires
-    zero-requires-2
-    enum-known-files
-    slice-aggregate-search-database
-    search-database-requires
+    is-small-requires
+    slice-aggregate-search-in
+    search-in-requires
     same-length
     same-length-2
     returns
+    slice-aggregate-search-in-2
+    search-in-requires-2
     same-length-3
     same-length-4
     returns-2)

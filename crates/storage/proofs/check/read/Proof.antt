@@ -1,5 +1,6 @@
 -- `storage::check::read`: the first refusal of a part, or what the last part answers.
 use borrow.Author.Needs.{needs}
+use native.Mathlib.Omega.{arith}
 use mathlib.Core.Path.{sym, ap, _∙_}
 use Rattle.semantics.specs.Calls.{checkCall}
 use Rattle.semantics.specs.Image.{symbolBytes, firstRecord, checkImage}
@@ -10,7 +11,9 @@ use Rattle.storage.proofs.check.read.Statement.{statement}
 use Rattle.storage.proofs.check.read.Tie as tie
 
 records-requires : tie.Need-records-requires
-records-requires c κs = (headed (c .before .before .before .args .image .now) firstRecord (c .before .before .before .pre .0) .0, c .before .before .before .pre .1)
+records-requires c κs =
+    let p = c .before .before .before .pre in let h = headed (c .before .before .before .args .image .now) firstRecord (p .0) .0 in
+    (h, (p .1 .fresh, p .1 .room h))
 
 enum-known-last : tie.Need-enum-known-last
 enum-known-last c = search needs
@@ -25,7 +28,9 @@ returns c =
     (told-refused (checkImage symbolBytes im) _ e, none-loaded (checkImage symbolBytes im) _ e)
 
 refer-requires : tie.Need-refer-requires
-refer-requires c κs = (headed (c .before .before .before .before .before .before .before .before .before .before .before .args .image .now) firstRecord (c .before .before .before .before .before .before .before .before .before .before .before .pre .0) .0, c .before .before .before .before .before .before .before .records .ensures .1 _ (c .before .before .before .last .given .1))
+refer-requires c κs =
+    let p = c .before .before .before .before .before .before .before .before .before .before .before .pre in let h = headed (c .before .before .before .before .before .before .before .before .before .before .before .args .image .now) firstRecord (p .0) .0 in let r = p .1 .room h in
+    (h, (c .before .before .before .before .before .before .before .records .ensures .1 _ (c .before .before .before .last .given .1), record { nodes = omega (arith, r .nodes); edges = omega (arith, r .edges) }))
 
 enum-known-r : tie.Need-enum-known-r
 enum-known-r c = search needs

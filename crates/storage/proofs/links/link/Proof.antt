@@ -2,30 +2,29 @@
 use borrow.Author.Needs.{needs}
 use Prim.Native.Nat.{_+_, _-_, _≤_}
 use native.Mathlib.Omega.{arith}
-use mathlib.Core.Path.{_≡_, subst}
+use mathlib.Core.Path.{_≡_, refl, subst}
 use lib.ListN.{length}
 use Rattle.semantics.specs.Graph.{Graph}
 use Rattle.storage.specs.Links.{Linked}
 use Rattle.storage.specs.Links.Laws.{all-linked}
 use Rattle.storage.specs.References.{Sources}
-use Rattle.storage.specs.Rows.{INDEX}
 use Rattle.storage.proofs.links.link.Statement.{statement}
 use Rattle.storage.proofs.links.link.Tie as tie
 
 abbrev Inv-loop : tie.InvT-loop
-Inv-loop index₀ count e₀ index e = (e ≤ count) × (length index ≡ INDEX) × Sources index × ((g : Graph) → length (g .edges) ≡ count → Linked g index₀ count → Linked g index e)
+Inv-loop index₀ count e₀ index e = (e ≤ count) × (length index ≡ length index₀) × Sources index × ((g : Graph) → length (g .edges) ≡ count → Linked g index₀ count → Linked g index e)
 
 abbrev μ-loop : tie.MeasureT-loop
 μ-loop index₀ count e₀ index e = e
 
 loop-holds : tie.Need-loop-holds Inv-loop μ-loop
-loop-holds c = (omega arith, c .before .pre .0, c .before .pre .1 .1, λ g q k. k)
+loop-holds c = (omega arith, refl, c .before .pre .1 .1, λ g q k. k)
 
 sub-e : tie.Need-sub-e Inv-loop μ-loop
 sub-e c = search needs
 
 link-one-requires : tie.Need-link-one-requires Inv-loop μ-loop
-link-one-requires c κs = let l = c .before .before .loop in (l .inv .1, (omega arith, l .inv .2))
+link-one-requires c κs = let l = c .before .before .loop in (omega arith, (omega arith, l .inv .2))
 
 loop-less : tie.Need-loop-less Inv-loop μ-loop
 loop-less c = search needs

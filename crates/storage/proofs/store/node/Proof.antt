@@ -1,20 +1,23 @@
 -- `storage::store::node`: each kind reads its words.
 use borrow.Author.Needs.{needs}
-use Prim.Native.Nat.{_+_}
+use Prim.Native.Nat.{_+_, _*_}
 use mathlib.Core.Path.{refl, ap, _∙_}
 use lib.ListN.{getD}
 use Rattle.semantics.specs.declared.graph.Node.the-variants as N
 use Rattle.semantics.specs.Graph.{nodeId, fileId}
-use Rattle.storage.specs.Rows.{KIND, FLAG, FILE, SYMBOL, SCOPE, nodeOf}
+use Rattle.storage.specs.Rows.{BLOCK, KIND, FLAG, FILE, SYMBOL, SCOPE, nodeOf}
 use Rattle.storage.specs.Rows.Laws.{node-in, node-out, no-kind}
 use Rattle.storage.proofs.store.node.Statement.{statement}
 use Rattle.storage.proofs.store.node.Tie as tie
 
-returns : tie.Need-returns
-returns c = node-out (c .before .before .args .index .now) (c .before .before .args .n .0) (c .if1 .taken)
+cast-at : tie.Need-cast-at
+cast-at c = search needs
 
-cast-k : tie.Need-cast-k
-cast-k c = search needs
+mul-at : tie.Need-mul-at
+mul-at c = search needs
+
+returns : tie.Need-returns
+returns c = node-out (c .before .before .before .args .index .now) (c .before .before .before .args .n .0) (c .if1 .taken)
 
 add-kind : tie.Need-add-kind
 add-kind c = search needs
@@ -25,216 +28,217 @@ mul-kind c = search needs
 shared-slice-read-kind : tie.Need-shared-slice-read-kind
 shared-slice-read-kind c = search needs
 
-add-t12 : tie.Need-add-t12
-add-t12 c = search needs
+add-t11 : tie.Need-add-t11
+add-t11 c = search needs
 
-mul-t13 : tie.Need-mul-t13
-mul-t13 c = search needs
+mul-t12 : tie.Need-mul-t12
+mul-t12 c = search needs
 
-shared-slice-read-t15 : tie.Need-shared-slice-read-t15
-shared-slice-read-t15 c = search needs
+shared-slice-read-t14 : tie.Need-shared-slice-read-t14
+shared-slice-read-t14 c = search needs
 
 flag-requires : tie.Need-flag-requires
 flag-requires c κs = search needs
 
-add-t18 : tie.Need-add-t18
-add-t18 c = search needs
+add-t17 : tie.Need-add-t17
+add-t17 c = search needs
 
-mul-t19 : tie.Need-mul-t19
-mul-t19 c = search needs
+mul-t18 : tie.Need-mul-t18
+mul-t18 c = search needs
 
-shared-slice-read-t21 : tie.Need-shared-slice-read-t21
-shared-slice-read-t21 c = search needs
+shared-slice-read-t20 : tie.Need-shared-slice-read-t20
+shared-slice-read-t20 c = search needs
 
-add-t23 : tie.Need-add-t23
-add-t23 c = search needs
+add-t22 : tie.Need-add-t22
+add-t22 c = search needs
 
-mul-t24 : tie.Need-mul-t24
-mul-t24 c = search needs
+mul-t23 : tie.Need-mul-t23
+mul-t23 c = search needs
 
-shared-slice-read-t26 : tie.Need-shared-slice-read-t26
-shared-slice-read-t26 c = search needs
+shared-slice-read-t25 : tie.Need-shared-slice-read-t25
+shared-slice-read-t25 c = search needs
 
 flag-requires-2 : tie.Need-flag-requires-2
 flag-requires-2 c κs = search needs
 
-add-t28 : tie.Need-add-t28
-add-t28 c = search needs
+add-t27 : tie.Need-add-t27
+add-t27 c = search needs
 
-mul-t29 : tie.Need-mul-t29
-mul-t29 c = search needs
+mul-t28 : tie.Need-mul-t28
+mul-t28 c = search needs
 
-shared-slice-read-t31 : tie.Need-shared-slice-read-t31
-shared-slice-read-t31 c = search needs
+shared-slice-read-t30 : tie.Need-shared-slice-read-t30
+shared-slice-read-t30 c = search needs
 
-add-t33 : tie.Need-add-t33
-add-t33 c = search needs
+add-t32 : tie.Need-add-t32
+add-t32 c = search needs
 
-mul-t34 : tie.Need-mul-t34
-mul-t34 c = search needs
+mul-t33 : tie.Need-mul-t33
+mul-t33 c = search needs
 
-shared-slice-read-t36 : tie.Need-shared-slice-read-t36
-shared-slice-read-t36 c = search needs
+shared-slice-read-t35 : tie.Need-shared-slice-read-t35
+shared-slice-read-t35 c = search needs
 
 flag-requires-3 : tie.Need-flag-requires-3
 flag-requires-3 c κs = search needs
 
-add-t38 : tie.Need-add-t38
-add-t38 c = search needs
+add-t37 : tie.Need-add-t37
+add-t37 c = search needs
 
-mul-t39 : tie.Need-mul-t39
-mul-t39 c = search needs
+mul-t38 : tie.Need-mul-t38
+mul-t38 c = search needs
 
-shared-slice-read-t41 : tie.Need-shared-slice-read-t41
-shared-slice-read-t41 c = search needs
+shared-slice-read-t40 : tie.Need-shared-slice-read-t40
+shared-slice-read-t40 c = search needs
 
-add-t43 : tie.Need-add-t43
-add-t43 c = search needs
+add-t42 : tie.Need-add-t42
+add-t42 c = search needs
 
-mul-t44 : tie.Need-mul-t44
-mul-t44 c = search needs
+mul-t43 : tie.Need-mul-t43
+mul-t43 c = search needs
 
-shared-slice-read-t46 : tie.Need-shared-slice-read-t46
-shared-slice-read-t46 c = search needs
+shared-slice-read-t45 : tie.Need-shared-slice-read-t45
+shared-slice-read-t45 c = search needs
 
-add-t47 : tie.Need-add-t47
-add-t47 c = search needs
+add-t46 : tie.Need-add-t46
+add-t46 c = search needs
 
-mul-t48 : tie.Need-mul-t48
-mul-t48 c = search needs
+mul-t47 : tie.Need-mul-t47
+mul-t47 c = search needs
 
-shared-slice-read-t50 : tie.Need-shared-slice-read-t50
-shared-slice-read-t50 c = search needs
+shared-slice-read-t49 : tie.Need-shared-slice-read-t49
+shared-slice-read-t49 c = search needs
 
 flag-requires-4 : tie.Need-flag-requires-4
 flag-requires-4 c κs = search needs
 
-add-t53 : tie.Need-add-t53
-add-t53 c = search needs
+add-t52 : tie.Need-add-t52
+add-t52 c = search needs
 
-mul-t54 : tie.Need-mul-t54
-mul-t54 c = search needs
+mul-t53 : tie.Need-mul-t53
+mul-t53 c = search needs
 
-shared-slice-read-t56 : tie.Need-shared-slice-read-t56
-shared-slice-read-t56 c = search needs
+shared-slice-read-t55 : tie.Need-shared-slice-read-t55
+shared-slice-read-t55 c = search needs
 
-add-t58 : tie.Need-add-t58
-add-t58 c = search needs
+add-t57 : tie.Need-add-t57
+add-t57 c = search needs
 
-mul-t59 : tie.Need-mul-t59
-mul-t59 c = search needs
+mul-t58 : tie.Need-mul-t58
+mul-t58 c = search needs
 
-shared-slice-read-t61 : tie.Need-shared-slice-read-t61
-shared-slice-read-t61 c = search needs
+shared-slice-read-t60 : tie.Need-shared-slice-read-t60
+shared-slice-read-t60 c = search needs
 
 flag-requires-5 : tie.Need-flag-requires-5
 flag-requires-5 c κs = search needs
 
-add-t63 : tie.Need-add-t63
-add-t63 c = search needs
+add-t62 : tie.Need-add-t62
+add-t62 c = search needs
 
-mul-t64 : tie.Need-mul-t64
-mul-t64 c = search needs
+mul-t63 : tie.Need-mul-t63
+mul-t63 c = search needs
 
-shared-slice-read-t66 : tie.Need-shared-slice-read-t66
-shared-slice-read-t66 c = search needs
+shared-slice-read-t65 : tie.Need-shared-slice-read-t65
+shared-slice-read-t65 c = search needs
 
 returns-2 : tie.Need-returns-2
 unfolding nodeOf
-returns-2 c = node-in (c .before .before .before .before .args .index .now) (c .before .before .before .before .args .n .0) 1 (c .before .before .if1 .left) (c .match .keys1)
+returns-2 c = node-in (c .before .before .before .before .before .args .index .now) (c .before .before .before .before .before .args .n .0) 1 (c .match .keys1)
 
 returns-3 : tie.Need-returns-3
 unfolding nodeOf
-returns-3 c = node-in (c .before .before .before .before .args .index .now) (c .before .before .before .before .args .n .0) 2 (c .before .before .if1 .left) (c .match .keys2)
+returns-3 c = node-in (c .before .before .before .before .before .args .index .now) (c .before .before .before .before .before .args .n .0) 2 (c .match .keys2)
 
 returns-4 : tie.Need-returns-4
 unfolding nodeOf
 returns-4 c =
-    let l = c .before .before .before .before .before .before .args .index .now in let k = c .before .before .before .before .before .before .args .n .0 in
-    ap (N.Scope (fileId (getD l (FILE + k) 0))) (c .flag .ensures) ∙ node-in l k 3 (c .before .before .before .before .if1 .left) (c .before .before .match .keys3)
+    let l = c .before .before .before .before .before .before .before .args .index .now in let k = c .before .before .before .before .before .before .before .args .n .0 in
+    ap (N.Scope (fileId (getD l (BLOCK * k + FILE) 0))) (c .flag .ensures) ∙ node-in l k 3 (c .before .before .match .keys3)
 
 returns-5 : tie.Need-returns-5
 unfolding nodeOf
 returns-5 c =
-    let l = c .before .before .before .before .before .before .before .args .index .now in let k = c .before .before .before .before .before .before .before .args .n .0 in
-    ap (N.Push (fileId (getD l (FILE + k) 0)) (getD l (SYMBOL + k) 0)) (c .flag2 .ensures) ∙ node-in l k 4 (c .before .before .before .before .before .if1 .left) (c .before .before .before .match .keys4)
+    let l = c .before .before .before .before .before .before .before .before .args .index .now in let k = c .before .before .before .before .before .before .before .before .args .n .0 in
+    ap (N.Push (fileId (getD l (BLOCK * k + FILE) 0)) (getD l (BLOCK * k + SYMBOL) 0)) (c .flag2 .ensures) ∙ node-in l k 4 (c .before .before .before .match .keys4)
 
 returns-6 : tie.Need-returns-6
 unfolding nodeOf
 returns-6 c =
-    let l = c .before .before .before .before .before .before .before .args .index .now in let k = c .before .before .before .before .before .before .before .args .n .0 in
-    ap (N.Pop (fileId (getD l (FILE + k) 0)) (getD l (SYMBOL + k) 0)) (c .flag3 .ensures) ∙ node-in l k 5 (c .before .before .before .before .before .if1 .left) (c .before .before .before .match .keys5)
+    let l = c .before .before .before .before .before .before .before .before .args .index .now in let k = c .before .before .before .before .before .before .before .before .args .n .0 in
+    ap (N.Pop (fileId (getD l (BLOCK * k + FILE) 0)) (getD l (BLOCK * k + SYMBOL) 0)) (c .flag3 .ensures) ∙ node-in l k 5 (c .before .before .before .match .keys5)
 
 returns-7 : tie.Need-returns-7
 unfolding nodeOf
 returns-7 c =
-    let l = c .before .before .before .before .before .before .before .before .args .index .now in let k = c .before .before .before .before .before .before .before .before .args .n .0 in
-    ap (N.PushScoped (fileId (getD l (FILE + k) 0)) (getD l (SYMBOL + k) 0) (nodeId (getD l (SCOPE + k) 0))) (c .flag4 .ensures) ∙ node-in l k 6 (c .before .before .before .before .before .before .if1 .left) (c .before .before .before .before .match .keys6)
+    let l = c .before .before .before .before .before .before .before .before .before .args .index .now in let k = c .before .before .before .before .before .before .before .before .before .args .n .0 in
+    ap (N.PushScoped (fileId (getD l (BLOCK * k + FILE) 0)) (getD l (BLOCK * k + SYMBOL) 0) (nodeId (getD l (BLOCK * k + SCOPE) 0))) (c .flag4 .ensures) ∙ node-in l k 6 (c .before .before .before .before .match .keys6)
 
 returns-8 : tie.Need-returns-8
 unfolding nodeOf
 returns-8 c =
-    let l = c .before .before .before .before .before .before .before .args .index .now in let k = c .before .before .before .before .before .before .before .args .n .0 in
-    ap (N.PopScoped (fileId (getD l (FILE + k) 0)) (getD l (SYMBOL + k) 0)) (c .flag5 .ensures) ∙ node-in l k 7 (c .before .before .before .before .before .if1 .left) (c .before .before .before .match .keys7)
+    let l = c .before .before .before .before .before .before .before .before .args .index .now in let k = c .before .before .before .before .before .before .before .before .args .n .0 in
+    ap (N.PopScoped (fileId (getD l (BLOCK * k + FILE) 0)) (getD l (BLOCK * k + SYMBOL) 0)) (c .flag5 .ensures) ∙ node-in l k 7 (c .before .before .before .match .keys7)
 
 returns-9 : tie.Need-returns-9
 unfolding nodeOf
-returns-9 c = node-in (c .before .before .before .before .before .args .index .now) (c .before .before .before .before .before .args .n .0) 8 (c .before .before .before .if1 .left) (c .before .match .keys8)
+returns-9 c = node-in (c .before .before .before .before .before .before .args .index .now) (c .before .before .before .before .before .before .args .n .0) 8 (c .before .match .keys8)
 
 returns-10 : tie.Need-returns-10
 returns-10 c =
-    let l = c .before .before .before .before .args .index .now in let k = c .before .before .before .before .args .n .0 in let r = c .match .rest in
-    no-kind (getD l (KIND + k) 0) (getD l (FLAG + k) 0) (getD l (FILE + k) 0) (getD l (SYMBOL + k) 0) (getD l (SCOPE + k) 0)
+    let l = c .before .before .before .before .before .args .index .now in let k = c .before .before .before .before .before .args .n .0 in let r = c .match .rest in
+    no-kind (getD l (BLOCK * k + KIND) 0) (getD l (BLOCK * k + FLAG) 0) (getD l (BLOCK * k + FILE) 0) (getD l (BLOCK * k + SYMBOL) 0) (getD l (BLOCK * k + SCOPE) 0)
     (r .0 .0 .0 .0 .0 .0 .0 .1) (r .0 .0 .0 .0 .0 .0 .1) (r .0 .0 .0 .0 .0 .1) (r .0 .0 .0 .0 .1) (r .0 .0 .0 .1) (r .0 .0 .1) (r .0 .1) (r .1)
-    ∙ node-in l k (getD l (KIND + k) 0) (c .before .before .if1 .left) refl
+    ∙ node-in l k (getD l (BLOCK * k + KIND) 0) refl
 
 pub node-spec : {M : Type 1} → statement M
 node-spec =
     tie.close
     (tie.spec
+    cast-at
+    mul-at
     returns
-    cast-k
     add-kind
     mul-kind
     shared-slice-read-kind
-    add-t12
-    mul-t13
-    shared-slice-read-t15
+    add-t11
+    mul-t12
+    shared-slice-read-t14
     flag-requires
-    add-t18
-    mul-t19
-    shared-slice-read-t21
-    add-t23
-    mul-t24
-    shared-slice-read-t26
+    add-t17
+    mul-t18
+    shared-slice-read-t20
+    add-t22
+    mul-t23
+    shared-slice-read-t25
     flag-requires-2
-    add-t28
-    mul-t29
-    shared-slice-read-t31
-    add-t33
-    mul-t34
-    shared-slice-read-t36
+    add-t27
+    mul-t28
+    shared-slice-read-t30
+    add-t32
+    mul-t33
+    shared-slice-read-t35
     flag-requires-3
-    add-t38
-    mul-t39
-    shared-slice-read-t41
-    add-t43
-    mul-t44
-    shared-slice-read-t46
-    add-t47
-    mul-t48
-    shared-slice-read-t50
+    add-t37
+    mul-t38
+    shared-slice-read-t40
+    add-t42
+    mul-t43
+    shared-slice-read-t45
+    add-t46
+    mul-t47
+    shared-slice-read-t49
     flag-requires-4
-    add-t53
-    mul-t54
-    shared-slice-read-t56
-    add-t58
-    mul-t59
-    shared-slice-read-t61
+    add-t52
+    mul-t53
+    shared-slice-read-t55
+    add-t57
+    mul-t58
+    shared-slice-read-t60
     flag-requires-5
-    add-t63
-    mul-t64
-    shared-slice-read-t66
+    add-t62
+    mul-t63
+    shared-slice-read-t65
     returns-2
     returns-3
     returns-4

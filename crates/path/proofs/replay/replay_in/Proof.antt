@@ -1,0 +1,48 @@
+-- `path::replay::replay_in`: the refusal of the image, or the answer of the replay on the graph that it holds.
+use borrow.Author.Needs.{needs}
+use Rattle.semantics.specs.Image.{symbolBytes, checkImage}
+use Rattle.storage.specs.Rows.Use.{answer-refused, answer-accepted}
+use Rattle.path.specs.Replays.Calls.{accepted-jump, replay-image, replay-answers}
+use Rattle.path.proofs.replay.replay_in.Statement.{statement}
+use Rattle.path.proofs.replay.replay_in.Tie as tie
+
+load-fresh-requires : tie.Need-load-fresh-requires
+load-fresh-requires c κs = search needs
+
+enum-known-r : tie.Need-enum-known-r
+enum-known-r c = search needs
+
+empty-requires : tie.Need-empty-requires
+empty-requires c κs = search needs
+
+enum-told : tie.Need-enum-told
+enum-told c = search needs
+
+replay-loaded-requires : tie.Need-replay-loaded-requires
+replay-loaded-requires c κs = search needs
+
+same-length : tie.Need-same-length
+same-length c = search needs
+
+returns : tie.Need-returns
+returns c = let a = c .before .before .before .before .before .before .before .before .before .before .before .args in let e = answer-refused (checkImage symbolBytes (a .image .now)) (c .before .before .before .before .before .before .load-fresh .result) (c .before .before .r .given .0 .0) (c .before .before .before .before .before .before .load-fresh .ensures .0) (c .before .before .r .given .1) in replay-image (checkImage symbolBytes (a .image .now)) (c .before .before .r .given .0 .0) e (a .reference) (a .edges .now) (c .empty .result) (c .empty .ensures)
+
+same-length-2 : tie.Need-same-length-2
+same-length-2 c = search needs
+
+returns-2 : tie.Need-returns-2
+returns-2 c = let a = c .before .before .before .before .before .before .before .before .before .before .before .args in let z = answer-accepted (checkImage symbolBytes (a .image .now)) (c .before .before .before .before .before .before .load-fresh .result) (c .before .before .enum-told .given .0 .0) (c .before .before .enum-told .given .0 .1 .0) (c .before .before .enum-told .given .0 .1 .1 .0) (c .before .before .before .before .before .before .load-fresh .ensures .0) (c .before .before .enum-told .given .1) in let g = z .graph in let l = c .before .before .before .before .before .before .load-fresh .ensures .1 g (z .is) in let j = accepted-jump symbolBytes (a .image .now) g (z .is) in replay-answers (checkImage symbolBytes (a .image .now)) g (z .is) (a .reference) (a .edges .now) (c .replay-loaded .result) (c .replay-loaded .ensures g l j)
+
+pub replay-in-spec : {M : Type 1} → statement M
+replay-in-spec =
+    tie.close
+    (tie.spec
+    load-fresh-requires
+    enum-known-r
+    empty-requires
+    enum-told
+    replay-loaded-requires
+    same-length
+    returns
+    same-length-2
+    returns-2)

@@ -1,0 +1,96 @@
+-- `widen_slots` meets its contract: the slots from i on are long, those below are as they were.
+use mathlib.Core.Path.{_≡_, refl, ap, _∙_, subst}
+use mathlib.Core.List.{List, _++_}
+use Prim.Native.Nat.{ℕ, _+_, _-_, _≤_}
+use native.Mathlib.Omega.{arith}
+use lib.ListN.{length, drop}
+use lib.Seq.{drop-at}
+use Rattle.semantics.specs.Words.{zeros}
+use Rattle.words.specs.Slots.{SlotsIn, slotAt}
+use Rattle.words.specs.Slots.Laws.{length-slotAt}
+use Rattle.words.specs.Slots.Wider.{zeros-drop, Widening, widening-start, widening-short, widening-long, widening-more, widening-end}
+use borrow.Author.Needs.{needs}
+use Rattle.words.proofs.slots.widen_slots.Statement.{statement}
+use Rattle.words.proofs.slots.widen_slots.Tie as tie
+
+abbrev Inv-loop : tie.InvT-loop
+Inv-loop area₀ short L n slot₀ i₀ area slot i =
+    (length area ≡ length area₀) × (length slot ≡ length slot₀) × (drop short slot ≡ zeros (L - short)) × ((h : short ≤ L) (f : SlotsIn L n area₀) → Widening L short n h area₀ f area i)
+
+abbrev μ-loop : tie.MeasureT-loop
+μ-loop area₀ short L n slot₀ i₀ area slot i = i
+
+-- src/slots.rt:135:5
+zero-requires : tie.Need-zero-requires Inv-loop μ-loop
+zero-requires c κs = search needs
+
+-- src/slots.rt:137:5
+loop-holds : tie.Need-loop-holds Inv-loop μ-loop
+loop-holds c =
+    let a = c .before .before .before .before .before .before .args in
+    let e : length (a .slot .now) ≡ a .length = c .before .before .before .before .before .before .pre .1 in
+    (refl, search needs, ap (drop (a .short)) (c .before .before .zero .ensures ∙ ap zeros e) ∙ zeros-drop (a .short) (a .length), λ h f. widening-start (a .length) (a .short) (a .n) h (a .area .now) f)
+
+-- src/slots.rt:138:9
+sub-i : tie.Need-sub-i Inv-loop μ-loop
+sub-i c = search needs
+
+-- src/slots.rt:139:9
+widen-slot-requires : tie.Need-widen-slot-requires Inv-loop μ-loop
+widen-slot-requires c κs =
+    let a = c .before .before .before .before .before .before .before .before .before .before .args in
+    let l = c .before .before .before .loop in
+    let q : l .i ≡ l .i - 1 + 1 = omega (arith, c .before .before .loop-test .taken) in
+    let w = subst (Widening (a .length) (a .short) (a .n) (c .before .before .before .before .before .before .before .before .before .before .pre .2) (a .area .now) (c .before .before .before .before .before .before .before .before .before .before .pre .0) (l .area)) q (l .inv .3 (c .before .before .before .before .before .before .before .before .before .before .pre .2) (c .before .before .before .before .before .before .before .before .before .before .pre .0)) in
+    (widening-short (a .length) (a .short) (a .n) (c .before .before .before .before .before .before .before .before .before .before .pre .2) (a .area .now) (c .before .before .before .before .before .before .before .before .before .before .pre .0) (l .area) (l .i - 1) w, widening-long (a .length) (a .short) (a .n) (c .before .before .before .before .before .before .before .before .before .before .pre .2) (a .area .now) (c .before .before .before .before .before .before .before .before .before .before .pre .0) (l .area) (l .i - 1) w, search needs, c .before .before .before .before .before .before .before .before .before .before .pre .2)
+
+-- src/slots.rt:137:5
+loop-less : tie.Need-loop-less Inv-loop μ-loop
+loop-less c = search needs
+
+-- src/slots.rt:137:5
+loop-again : tie.Need-loop-again Inv-loop μ-loop
+loop-again c =
+    let a = c .before .before .before .before .before .before .before .before .before .before .before .before .before .before .before .args in
+    let l = c .before .before .before .before .before .before .before .before .loop in
+    let s = c .before .before .before .before .widen-slot in
+    let q : l .i ≡ l .i - 1 + 1 = omega (arith, c .before .before .before .before .before .before .before .loop-test .taken) in
+    let w = subst (Widening (a .length) (a .short) (a .n) (c .before .before .before .before .before .before .before .before .before .before .before .before .before .before .before .pre .2) (a .area .now) (c .before .before .before .before .before .before .before .before .before .before .before .before .before .before .before .pre .0) (l .area)) q (l .inv .3 (c .before .before .before .before .before .before .before .before .before .before .before .before .before .before .before .pre .2) (c .before .before .before .before .before .before .before .before .before .before .before .before .before .before .before .pre .0)) in
+    let c₁ : length (slotAt (a .short) (l .i - 1) (l .area)) ≡ a .short = length-slotAt (a .short) (l .i - 1) (l .area) (widening-short (a .length) (a .short) (a .n) (c .before .before .before .before .before .before .before .before .before .before .before .before .before .before .before .pre .2) (a .area .now) (c .before .before .before .before .before .before .before .before .before .before .before .before .before .before .before .pre .0) (l .area) (l .i - 1) w) in (
+      search needs,
+      search needs,
+      ap (drop (a .short)) (s .ensures .0) ∙ drop-at (slotAt (a .short) (l .i - 1) (l .area)) (drop (a .short) (l .slot)) (a .short) c₁ ∙ l .inv .2,
+      λ h f. widening-more (a .length) (a .short) (a .n) h (a .area .now) f (l .area) (l .i - 1) (subst (Widening (a .length) (a .short) (a .n) h (a .area .now) f (l .area)) q (l .inv .3 h f)) (s .last .0) (slotAt (a .short) (l .i - 1) (l .area) ++ drop (a .short) (l .slot)) (ap (λ (z : List ℕ). slotAt (a .short) (l .i - 1) (l .area) ++ z) (l .inv .2)) (s .ensures .1),
+    )
+
+-- src/slots.rt:131:1
+same-length : tie.Need-same-length Inv-loop μ-loop
+same-length c = search needs
+
+-- src/slots.rt:131:1
+same-length-2 : tie.Need-same-length-2 Inv-loop μ-loop
+same-length-2 c = search needs
+
+-- src/slots.rt:131:1
+returns : tie.Need-returns Inv-loop μ-loop
+returns c =
+    let a = c .before .before .before .before .before .before .before .before .args in
+    let l = c .before .loop in
+    let q : l .i ≡ 0 = omega (arith, c .loop-test .left) in
+    widening-end (a .length) (a .short) (a .n) (c .before .before .before .before .before .before .before .before .pre .2) (a .area .now) (c .before .before .before .before .before .before .before .before .pre .0) (l .area) (subst (Widening (a .length) (a .short) (a .n) (c .before .before .before .before .before .before .before .before .pre .2) (a .area .now) (c .before .before .before .before .before .before .before .before .pre .0) (l .area)) q (l .inv .3 (c .before .before .before .before .before .before .before .before .pre .2) (c .before .before .before .before .before .before .before .before .pre .0)))
+
+pub widen-slots-spec : {M : Type 1} → statement M
+widen-slots-spec =
+    tie.close
+    (tie.spec
+    Inv-loop
+    μ-loop
+    zero-requires
+    loop-holds
+    sub-i
+    widen-slot-requires
+    loop-less
+    loop-again
+    same-length
+    same-length-2
+    returns)
