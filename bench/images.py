@@ -17,6 +17,7 @@ NAME, OTHER = 7, 8
 BREADTH_FIRST, DEPTH_FIRST = "- - - - - 0", "- - - - - 0 d"
 FIRST_SIXTEEN = "- - - - - 16"
 LIMITED = "120 500 - - - 0 d"
+SHORT = "3 - - 3 - 0"
 
 # A path has at most 127 edges, a graph 2,048 nodes, a database 4,096 slots.
 LENGTHS = (15, 30, 60, 120)
@@ -27,6 +28,8 @@ BALLAST = (15, 30, 60, 120)
 RINGS = (16, 32, 64, 128)
 WAYS = (225, 450, 900, 1800)
 PATHS = (256, 512, 1024, 2048)
+SCOPES = (8, 16, 32, 64)
+HEIGHTS = (7, 15, 30, 60)
 
 
 class Drawing:
@@ -150,6 +153,48 @@ def diamonds(paths, precedence=0, exits=False):
     return drawing.graph
 
 
+def dead_ends(paths):
+    """The same without a definition: nothing is ever complete, and no partial path is found."""
+    drawing = Drawing()
+    scope = drawing.scope()
+    drawing.edge(drawing.reference(), scope)
+    for _ in range(paths.bit_length() - 1):
+        following = drawing.scope()
+        drawing.edge(scope, following)
+        drawing.edge(scope, following)
+        scope = following
+    return drawing.graph
+
+
+def dense(count):
+    """So many scopes, each with an edge to every other one, and a definition behind the last."""
+    drawing = Drawing()
+    reference = drawing.reference()
+    scopes = [drawing.scope() for _ in range(count)]
+    drawing.edge(reference, scopes[0])
+    for source in scopes:
+        for target in scopes:
+            if source != target:
+                drawing.edge(source, target)
+    drawing.edge(scopes[-1], drawing.definition())
+    return drawing.graph
+
+
+def towers(height):
+    """Four ways from one reference, each over so many pushes and as many pops: no step leaves the symbol stack as it was."""
+    drawing = Drawing()
+    reference = drawing.reference()
+    for _ in range(4):
+        last = reference
+        for kind, symbols in ((PUSH, range(height)), (POP, reversed(range(height)))):
+            for symbol in symbols:
+                node = drawing.node(kind, 100 + symbol)
+                drawing.edge(last, node)
+                last = node
+        drawing.edge(last, drawing.definition())
+    return drawing.graph
+
+
 def tails(count):
     """So many ways into one exported scope, and a long chain behind it: complete paths differ in their first two edges alone. Stitched search finds
     each of them twice."""
@@ -202,6 +247,9 @@ SERIES = {
     "ranked": (PATHS, lambda paths: diamonds(paths, precedence=1), BREADTH_FIRST),
     "exits": (PATHS, lambda paths: diamonds(paths, exits=True), DEPTH_FIRST),
     "tails": (WAYS, tails, BREADTH_FIRST),
+    "dead_ends": (PATHS, dead_ends, BREADTH_FIRST),
+    "dense": (SCOPES, dense, SHORT),
+    "towers": (HEIGHTS, towers, BREADTH_FIRST),
     "ballast": (BALLAST, ballast, BREADTH_FIRST),
     "ballast_root": (BALLAST, lambda count: ballast(count, joined=True), BREADTH_FIRST),
 }

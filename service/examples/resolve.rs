@@ -35,6 +35,8 @@ fn resolve(image: &[u8]) -> Result<(), Refusal> {
     let found = pozhdaghi::direct(image, REFERENCE, &request, &mut work, &mut result)?;
     println!("direct {found:?}");
     pozhdaghi::paths(&result).for_each(|edges| println!("path {edges:?}"));
+    let replayed = pozhdaghi::replay(image, REFERENCE, &[0])?;
+    println!("behind edge 0 {replayed:?}");
 
     pozhdaghi::fresh(image, &mut words)?;
     let filed = pozhdaghi::replace_file(image, 0, &request, &mut work, &mut words)?;

@@ -3,7 +3,9 @@
 
 use crate::answer::{self, Counts, PartialStatistics, Refusal, Resolution};
 use crate::link::{self, Answer, Direct, Linear, Stitched};
+use crate::replayed::{self, Replayed};
 use crate::request::Request;
+use crate::PATH_WORDS;
 
 const EMPTY: Answer = [0; answer::ANSWER];
 
@@ -15,6 +17,27 @@ pub fn check(image: &[u8]) -> Result<Counts, Refusal> {
         link::pozhdaghi_check(image.as_ptr(), image.len(), told.as_mut_ptr(), told.len());
     }
     answer::counts(&told)
+}
+
+/// The path of a reference and its edges.
+pub fn replay(image: &[u8], reference: u32, edges: &[u32]) -> Result<Replayed, Refusal> {
+    let mut path = [0; PATH_WORDS];
+    let mut told = EMPTY;
+    // SAFETY: each pointer and length is that of a slice held here.
+    unsafe {
+        link::pozhdaghi_replay(
+            image.as_ptr(),
+            image.len(),
+            reference,
+            edges.as_ptr(),
+            edges.len(),
+            path.as_mut_ptr(),
+            path.len(),
+            told.as_mut_ptr(),
+            told.len(),
+        );
+    }
+    answer::done(&told).map(|()| replayed::read(&path))
 }
 
 /// Whether the path of a reference and its edges is complete.

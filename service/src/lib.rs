@@ -1,22 +1,25 @@
 //! Resolution of cash-flow names: the calls of the proved library over slices
 //! and Rust types.
 //!
-//! Nothing here allocates, panics or keeps state. The caller lends the image,
-//! the areas and the database words; every call leaves them as its contract
-//! says (`crates/service/src`). A refusal has the number and the values of
-//! document 01, "Turned back". The library's own work takes about 200 KB of
-//! the caller's stack.
+//! Nothing here panics or keeps state, and nothing allocates but `replay`, for
+//! the path that it hands back. The caller lends the image, the areas and the
+//! database words; every call leaves them as its contract says
+//! (`crates/service/src`). A refusal has the number and the values of document
+//! 01, "Turned back". The library's own work takes about 200 KB of the caller's
+//! stack.
 
 mod answer;
 mod calls;
 mod link;
+mod replayed;
 mod request;
 
 pub use answer::{Counts, PartialStatistics, Refusal, Resolution, Statistics};
 pub use calls::{
     check, direct, direct_recorded, fresh, is_complete, linear, linear_recorded, lookup,
-    replace_file, shadows, stitched, stitched_recorded,
+    replace_file, replay, shadows, stitched, stitched_recorded,
 };
+pub use replayed::{Replayed, Step, Symbol};
 pub use request::{Limits, Order, Request};
 
 /// Words of a waiting slot and of a result slot: the edge count and 127 edges.
@@ -25,6 +28,13 @@ pub const SLOT_WORDS: usize = 128;
 /// Words in front of a database's records, and words of a record.
 pub const DATABASE_HEAD: usize = 3;
 pub const RECORD_WORDS: usize = 131;
+
+/// Words that any replayed path fits into: its end; at most 254 steps, as each
+/// of 127 edges may be followed by a jump; at most 128 symbols with 64 scopes
+/// each; 64 scopes. An item takes two words, and a word ends each list. A scope
+/// more on a symbol takes a push and a pop among 128 nodes, so there are at
+/// most 64.
+pub const PATH_WORDS: usize = 1 + (2 * 254 + 1) + (128 * (2 + 2 * 64 + 1) + 1) + (2 * 64 + 1);
 
 /// The paths in a result area, each as its edges: the slots up to the first
 /// without edges.

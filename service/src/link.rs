@@ -5,6 +5,17 @@ use crate::answer::ANSWER;
 
 unsafe extern "C" {
     pub fn pozhdaghi_check(image: *const u8, image_len: usize, answer: *mut u64, answer_len: usize);
+    pub fn pozhdaghi_replay(
+        image: *const u8,
+        image_len: usize,
+        reference: u32,
+        edges: *const u32,
+        edges_len: usize,
+        path: *mut u32,
+        path_len: usize,
+        answer: *mut u64,
+        answer_len: usize,
+    );
     pub fn pozhdaghi_is_complete(
         image: *const u8,
         image_len: usize,

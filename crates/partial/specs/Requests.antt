@@ -18,7 +18,7 @@ use Rattle.semantics.specs.declared.answer.Replacement.{Replacement}
 use Rattle.storage.specs.Rows.{Loaded}
 use Rattle.partial_state.specs.declared.filing.Filing.{Filing}
 use Rattle.partial_state.specs.declared.extraction.Config.{Config}
-use Rattle.partial_state.specs.Filings.{Fits}
+use Rattle.partial_state.specs.Filings.{Fits, filedIn}
 use Rattle.partial.specs.declared.compute.Computed.{Computed}
 use Rattle.partial.specs.declared.replace.Sizes.{Sizes}
 use Rattle.partial.specs.Rounds.{Ends}
@@ -43,6 +43,10 @@ pub record Computing (index : List ℕ) (nodes : ℕ) (f : Filing) (db : List �
 
 abbrev pub ComputedTo : List ℕ → ℕ → Filing → Config → List ℕ → List ℕ → Computed → List ℕ → Type 0
 ComputedTo index nodes f c ws db a db′ = (g : Graph) → Loaded g index → nodes ≡ length (g .nodes) → Ends f db a db′ (routesOf g (askedBy c ws (f .file)))
+
+-- what a computation finds that is not refused is filed
+abbrev pub FiledTo : List ℕ → ℕ → Filing → Config → List ℕ → List ℕ → List ℕ → Type 0
+FiledTo index nodes f c ws db db′ = (g : Graph) → Loaded g index → nodes ≡ length (g .nodes) → (u : State Route) → routesOf g (askedBy c ws (f .file)) ≡ ok u → db′ ≡ filedIn f (u .kept) db
 
 -- A REPLACEMENT, from its end: the paths were counted and have room
 pub record Storing (index : List ℕ) (n : Sizes) (f : Filing) (c : Config) (ws db : List ℕ) : Type 0 where

@@ -25,11 +25,17 @@ use Rattle.partial_trial.specs.Expansions.{Roomy, triesOf}
 pub mod Laws
 pub mod Kept
 
--- ROOM FOR ONE MORE EDGE behind the route in the front of the item: there is some, or the slots become as long as any
+-- ROOM FOR ONE MORE EDGE behind the route in the front of the item: the slots become longer, and the rest of the item zeros
+pub record Grown (x : Computation) (item ws : List ℕ) (y : Computation) (item′ ws′ : List ℕ) : Type 0 where
+  pub words : ℕ
+  pub longer : x .frontier .length < words
+  pub most : words ≤ 128
+  pub grows : Grows x ws words y ws′
+  pub rest : item′ ≡ take (x .frontier .length) item ++ zeros (128 - x .frontier .length)
+
+-- or there is room, or no slot is longer
 abbrev pub MadeRoom : Computation → List ℕ → List ℕ → Computation → List ℕ → List ℕ → Type 0
-MadeRoom x item ws y item′ ws′ =
-    ((y ≡ x) × (item′ ≡ item) × (ws′ ≡ ws) × Roomy (getD item 0 0) (x .frontier .length))
-    ⊎ (Grows x ws 128 y ws′ × (item′ ≡ take (x .frontier .length) item ++ zeros (128 - x .frontier .length)))
+MadeRoom x item ws y item′ ws′ = ((y ≡ x) × (item′ ≡ item) × (ws′ ≡ ws) × Roomy (getD item 0 0) (x .frontier .length)) ⊎ Grown x item ws y item′ ws′
 
 -- A ROUND: the route in the item was popped
 pub record Rounding (most : ℕ) (index : List ℕ) (f : Filing) (item : List ℕ) (x : Computation) (ws db : List ℕ) : Type 0 where

@@ -50,8 +50,19 @@ fn take_front(on: Extraction, work: &mut [u32], item: &mut [u32], frame: Frame) 
     on.take(work, &mut item[0..slot], frame)
 }
 
-// A route that fills its slot has no word for one more edge: then the slots get as many words as the longest route needs, and so does the
-// route in the item.
+// The words of the next longer slots: twice as many, as far as a slot may have them.
+fn longer(slot: usize) -> usize
+    requires { ⌜ (0 < slot) × (slot < 128) ⌝ }
+    ensures { λ r. ⌜ (slot < r) × (r ≤ 128) ⌝ }
+{
+    if slot <= SLOT_WORDS / 2 {
+        return slot + slot;
+    }
+    SLOT_WORDS
+}
+
+// A route that fills its slot has no word for one more edge: then the slots get more words, and so does the route in the item. Copies take
+// longer then, and few routes are as long as any may be.
 fn make_room(extraction: Extraction, item: &mut [u32], work: &mut [u32], frame: Frame) -> Frame
     requires { ⌜ Framed (at frame extraction .frontier) (now work) × Wider (at frame extraction .frontier) (now work) 128 × (length (now item) ≡ 128) × (getD (now item) 0 0 < 128) ⌝ }
     ensures { λ r. ⌜ MadeRoom (at frame extraction) (now (item .entry)) (now (work .entry)) (at r extraction) (now (item .exit)) (now (work .exit)) ⌝ }
@@ -63,7 +74,7 @@ fn make_room(extraction: Extraction, item: &mut [u32], work: &mut [u32], frame: 
     }
     if slot < SLOT_WORDS {
         slots::zero(&mut item[slot..SLOT_WORDS]);
-        return frame.widen(extraction, work);
+        return frame.widen(extraction, work, longer(slot));
     }
     frame
 }

@@ -1,6 +1,7 @@
 // A file replaced in the database. Document 01, "Partial paths": `replace_file`; 33 follows a finished computation.
 // A refused replacement alters no word, and the words behind the used slots may hold anything: so the paths are computed and counted
-// first, and computed again and filed when all refusals are past; the second computation ends with the last of them.
+// first, and computed again and filed when all refusals are past; the second computation ends with the last of them, and where none was
+// found there is none.
 ghost use mathlib.Core.Path.{_≡_};
 ghost use Rattle.semantics.specs.Limits.{base};
 ghost use Rattle.semantics.specs.Image.{symbolBytes, checkImage};
@@ -8,7 +9,7 @@ ghost use Rattle.semantics.specs.Told.{toldReplacement};
 ghost use Rattle.semantics.specs.Database.{filesOnly, replaceWords};
 ghost use Rattle.semantics.specs.Calls.{replaceCall};
 ghost use Rattle.storage.specs.Rows.{Takes};
-ghost use Rattle.partial.specs.Requests.{requestOf, askedBy, Storing, Replacing, Inspecting, replacedOn, inspectedOn, Leaves, Does};
+ghost use Rattle.partial.specs.Requests.{requestOf, askedBy, Computing, FiledTo, Storing, Replacing, Inspecting, replacedOn, inspectedOn, Leaves, Does};
 use crate::compute;
 use crate::compute::Computed;
 use database::check::Inspected;
@@ -32,7 +33,24 @@ pub struct Sizes {
     pub nodes: u32,
 }
 
-// The found paths are filed in the place of the file's old ones. The second computation takes the course of the first, up to the last of them.
+// The second computation takes the course of the first, up to the last path. It has nothing to file where the first found none.
+fn file_found(
+    index: &[u32],
+    nodes: u32,
+    filing: Filing,
+    config: Config,
+    work: &mut [u32],
+    words: &mut [u32],
+)
+    requires { ⌜ Computing (now index) nodes filing (now words) ⌝ }
+    ensures { λ _. ⌜ FiledTo (now (index .entry)) nodes filing config (now (work .entry)) (now (words .entry)) (now (words .exit)) ⌝ }
+{
+    if 0 < filing.room {
+        compute::compute(index, nodes, filing, config, work, words);
+    }
+}
+
+// The found paths are filed in the place of the file's old ones.
 fn store(
     index: &[u32],
     sizes: Sizes,
@@ -45,7 +63,7 @@ fn store(
     ensures { λ _. ⌜ ((v : Storing (now (index .entry)) sizes filing config (now (work .entry)) (now (words .entry))) → now (words .exit) ≡ replaceWords base (v .graph) (filing .file) (v .found) (now (words .entry))) ⌝ }
 {
     replace::clear_file(words, filing.file);
-    compute::compute(index, sizes.nodes, filing, config, work, words);
+    file_found(index, sizes.nodes, filing, config, work, words);
     let used = filing.first + filing.room;
     replace::store_header(words, used as u32, sizes.nodes, sizes.files);
 }

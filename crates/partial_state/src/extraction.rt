@@ -2,6 +2,7 @@
 // What never changes, the frame, is handed on beside what does: a large value that goes round a loop is copied again and again.
 ghost use mathlib.Core.Path.{_≡_};
 ghost use Prim.Native.Nat.{_+_, _<_, _≤_, _^_};
+ghost use lib.ListN.{length};
 ghost use Rattle.words.specs.Slots.{IsSlot};
 ghost use Rattle.graph_search.specs.Frontier.{Framed, Wider};
 ghost use Rattle.partial_state.specs.Extractions.{at, frameWith, nothingYet, countedBy, placedBy, cutIn, foundIn, goingAt, takenAt, partialIn, Extends, Taking, slottedBy, Grows};
@@ -30,7 +31,7 @@ pub struct Config {
     pub paths: Limit,
 }
 
-// What a computation never changes: its order, limits, and waiting slots. Their words become more once, when a route is too long for them.
+// What a computation never changes: its order, limits, and waiting slots. Their words become more when a route is too long for them.
 pub struct Frame {
     pub order: SearchOrder,
     pub length: Limit,
@@ -88,14 +89,30 @@ impl Frame {
         self
     }
 
-    // Longer routes may wait from now on: the slots get as many words as the longest needs.
-    pub fn widen(self, extraction: Extraction, work: &mut [u32]) -> Frame
-        requires { ⌜ Framed (at self extraction .frontier) (now work) × Wider (at self extraction .frontier) (now work) 128 ⌝ }
-        ensures { λ r. ⌜ Grows (at self extraction) (now (work .entry)) 128 (at r extraction) (now (work .exit)) ⌝ }
+    // Longer routes may wait from now on: the slots get so many words.
+    pub fn widen(self, extraction: Extraction, work: &mut [u32], words: usize) -> Frame
+        requires { ⌜ Framed (at self extraction .frontier) (now work) × Wider (at self extraction .frontier) (now work) words × (words ≤ 128) ⌝ }
+        ensures { λ r. ⌜ Grows (at self extraction) (now (work .entry)) words (at r extraction) (now (work .exit)) ⌝ }
     {
         let mut slot = [0u32; SLOT_WORDS];
-        extraction.frontier(self).widen(work, SLOT_WORDS, &mut slot);
-        self.with_slot(SLOT_WORDS)
+        self.widen_by(extraction, work, words, &mut slot)
+    }
+
+    // The front of the lent slot is for the move.
+    fn widen_by(
+        self,
+        extraction: Extraction,
+        work: &mut [u32],
+        words: usize,
+        slot: &mut [u32],
+    ) -> Frame
+        requires { ⌜ Framed (at self extraction .frontier) (now work) × Wider (at self extraction .frontier) (now work) words × (words ≤ length (now slot)) ⌝ }
+        ensures { λ r. ⌜ Grows (at self extraction) (now (work .entry)) words (at r extraction) (now (work .exit)) ⌝ }
+    {
+        extraction
+            .frontier(self)
+            .widen(work, words, &mut slot[0..words]);
+        self.with_slot(words)
     }
 }
 

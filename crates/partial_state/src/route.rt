@@ -41,7 +41,7 @@ fn source_of(edge: Edge) -> u32
 }
 
 // The node that an edge leads to.
-pub fn target_of(edge: Edge) -> u32
+fn target_of(edge: Edge) -> u32
     ensures { λ r. ⌜ r ≡ targetOf edge ⌝ }
 {
     match edge {

@@ -3,14 +3,14 @@
 use Prim.Native.Nat.{ℕ, _+_, _<_, _≤_}
 use mathlib.Core.Path.{_≡_}
 use mathlib.Core.Logic.{_⊎_}
-use mathlib.Core.Bool.{true}
+use mathlib.Core.Bool.{Bool, true}
 use mathlib.Core.List.{List, List·Memᴰ}
 use lib.ListN.{length}
 use Rattle.semantics.specs.declared.refusal.PartialPathRefusal.{PartialPathRefusal}
 use Rattle.semantics.specs.Lists.{pick}
 use Rattle.semantics.specs.Limits.{base}
 use Rattle.semantics.specs.Answer.{Answer, ok}
-use Rattle.semantics.specs.Graph.{Graph, viewOf}
+use Rattle.semantics.specs.Graph.{Graph, viewOf, fileOf, isFile}
 use Rattle.semantics.specs.Enumeration.{State, Try, one, each}
 use Rattle.semantics.specs.PartialPaths.{Route, belongs, ifRoom, judgeRoute, routeTries}
 use Rattle.storage.specs.Rows.{Loaded}
@@ -50,7 +50,12 @@ pub record Looking (most : ℕ) (index : List ℕ) (f : Filing) (start k e : ℕ
   pub given : Given most index f start k item x ws db
   pub leaves : List·Memᴰ e (viewOf (given .graph) .out (given .route .current))
 
--- and belongs to the file
+-- and it is known whether that node is of the file
+pub record Owning (most : ℕ) (index : List ℕ) (f : Filing) (start k e : ℕ) (item : List ℕ) (x : Computation) (ws db : List ℕ) (own : Bool) : Type 0 where
+  pub looking : Looking most index f start k e item x ws db
+  pub known : own ≡ isFile (f .file) (fileOf (viewOf (looking .given .graph) .node (looking .given .route .current)))
+
+-- an edge that belongs to the file
 pub record Trying (most : ℕ) (index : List ℕ) (f : Filing) (start k e : ℕ) (item : List ℕ) (x : Computation) (ws db : List ℕ) : Type 0 where
   pub looking : Looking most index f start k e item x ws db
   pub owned : belongs (viewOf (looking .given .graph)) (f .file) e ≡ true

@@ -1,46 +1,34 @@
 // The expansion of a route by the edges of a file. Document 01, "Partial paths": "Each edge passes cycle, length and the 127 bound, is
 // recorded if it reaches an endpoint, and is then pushed". Stacks are not examined.
 ghost use mathlib.Core.Path.{_≡_};
-ghost use Prim.Native.Nat.{_<_};
-ghost use Rattle.semantics.specs.Graph.{Graph, viewOf};
-ghost use Rattle.semantics.specs.PartialPaths.{isOfFile};
-ghost use Rattle.storage.specs.Rows.{Blocks, Loaded};
+ghost use Prim.Native.Nat.{_*_, _<_};
+ghost use lib.ListN.{length};
+ghost use Rattle.semantics.specs.Lists.{or};
+ghost use Rattle.semantics.specs.Graph.{fileOf, isFile};
+ghost use Rattle.storage.specs.Rows.{BLOCK, Blocks, nodeRow, targetRow};
 ghost use Rattle.partial_state.specs.Extractions.{at, goingAt};
-ghost use Rattle.partial_trial.specs.Expansions.{Given, Looking, Trying, Tried, Looked, Lengthened, Expanding, Expanded};
+ghost use Rattle.partial_trial.specs.Expansions.{Owning, Trying, Tried, Looked, Lengthened, Expanding, Expanded};
 use partial_state::extraction::Extraction;
 use partial_state::extraction::Frame;
 use partial_state::extraction::Going;
 use partial_state::filing::Filing;
-use partial_state::node::is_endpoint;
-use partial_state::node::is_of_file;
 use partial_state::route::Ends;
-use partial_state::route::target_of;
 use search_state::item;
 use semantics::bounds::MAX_EDGES;
-use semantics::graph::Edge;
 use semantics::graph::EdgeId;
 use semantics::graph::NodeId;
 use semantics::refusal::PartialPathRefusal;
 use storage::store;
 
-// An edge belongs to a file if either end does.
-fn belongs(index: &[u32], file: u32, edge: Edge) -> bool
-    requires { ⌜ Blocks (now index) ⌝ }
-    ensures { λ r. ⌜ ((g : Graph) → Loaded g (now (index .entry)) → r ≡ isOfFile (viewOf g) file edge) ⌝ }
+// An edge belongs to a file if either end does; `own` says it of its source, which all edges of an expansion share.
+fn belongs(index: &[u32], file: u32, own: bool, edge: u32) -> bool
+    requires { ⌜ Blocks (now index) × (BLOCK * edge < length (now index)) ⌝ }
+    ensures { λ r. ⌜ r ≡ or own (isFile file (fileOf (nodeRow (now (index .entry)) (targetRow (now (index .entry)) edge)))) ⌝ }
 {
-    match edge {
-        Edge::Removed => false,
-        Edge::Live {
-            source,
-            target,
-            precedence: _,
-        } => {
-            if is_of_file(store::node(index, source), file) {
-                return true;
-            }
-            is_of_file(store::node(index, target), file)
-        }
+    if own {
+        return true;
     }
+    store::is_of_file(index, store::target(index, EdgeId(edge)), file)
 }
 
 // The route of k edges in the item gets one more: found at an endpoint, then pushed.
@@ -60,11 +48,11 @@ fn lengthen(
     ensures { λ r. ⌜ ((v : Trying 1099511627776 (now (index .entry)) filing start k edge (now (item .entry)) (at frame extraction) (now (work .entry)) (now (words .entry))) → Lengthened 1099511627776 (now (index .entry)) filing start k edge (now (item .entry)) (at frame extraction) (now (work .entry)) (now (words .entry)) v (goingAt frame r) (now (item .exit)) (now (work .exit)) (now (words .exit))) ⌝ }
 {
     item::with_edge(item, k, edge);
-    let end = target_of(store::edge(index, EdgeId(edge)));
-    let endpoint = is_endpoint(store::node(index, NodeId(end)));
+    let end = store::target(index, EdgeId(edge));
+    let endpoint = store::is_endpoint(index, end);
     extraction.extend(
         endpoint,
-        Ends { start, end },
+        Ends { start, end: end.0 },
         filing,
         item,
         work,
@@ -117,6 +105,7 @@ fn try_edge(
 fn look_at(
     index: &[u32],
     filing: Filing,
+    own: bool,
     start: u32,
     k: usize,
     edge: u32,
@@ -126,10 +115,10 @@ fn look_at(
     words: &mut [u32],
     frame: Frame,
 ) -> Going
-    requires { ⌜ Looking 1099511627776 (now index) filing start k edge (now item) (at frame extraction) (now work) (now words) ⌝ }
-    ensures { λ r. ⌜ ((v : Looking 1099511627776 (now (index .entry)) filing start k edge (now (item .entry)) (at frame extraction) (now (work .entry)) (now (words .entry))) → Looked 1099511627776 (now (index .entry)) filing start k edge (now (item .entry)) (at frame extraction) (now (work .entry)) (now (words .entry)) v (goingAt frame r) (now (item .exit)) (now (work .exit)) (now (words .exit))) ⌝ }
+    requires { ⌜ Owning 1099511627776 (now index) filing start k edge (now item) (at frame extraction) (now work) (now words) own ⌝ }
+    ensures { λ r. ⌜ ((o : Owning 1099511627776 (now (index .entry)) filing start k edge (now (item .entry)) (at frame extraction) (now (work .entry)) (now (words .entry)) own) → Looked 1099511627776 (now (index .entry)) filing start k edge (now (item .entry)) (at frame extraction) (now (work .entry)) (now (words .entry)) (o .looking) (goingAt frame r) (now (item .exit)) (now (work .exit)) (now (words .exit))) ⌝ }
 {
-    if belongs(index, filing.file, store::edge(index, EdgeId(edge))) {
+    if belongs(index, filing.file, own, edge) {
         return try_edge(
             index,
             filing,
@@ -161,6 +150,7 @@ pub fn expand(
     requires { ⌜ Expanding 549755813888 (now index) filing ends k (now item) (at frame extraction) (now work) (now words) ⌝ }
     ensures { λ r. ⌜ ((v : Expanding 549755813888 (now (index .entry)) filing ends k (now (item .entry)) (at frame extraction) (now (work .entry)) (now (words .entry))) → Expanded 549755813888 (now (index .entry)) filing ends k (now (item .entry)) (at frame extraction) (now (work .entry)) (now (words .entry)) v (goingAt frame r) (now (work .exit)) (now (words .exit))) ⌝ }
 {
+    let own = store::is_of_file(index, NodeId(ends.end), filing.file);
     let mut on = extraction;
     let mut link = store::first(index, NodeId(ends.end));
     while 0 < link {
@@ -168,6 +158,7 @@ pub fn expand(
         let going = look_at(
             index,
             filing,
+            own,
             ends.start,
             k,
             edge,

@@ -9,8 +9,6 @@ ghost use Rattle.partial_trial.specs.Seeds.{Holds, Seeding, Started, Nod
 use partial_state::extraction::Extraction;
 use partial_state::extraction::Frame;
 use partial_state::extraction::Going;
-use partial_state::node::is_of_file;
-use partial_state::node::is_start;
 use partial_state::route;
 use semantics::graph::NodeId;
 use storage::store;
@@ -45,9 +43,8 @@ fn seed_node(
     requires { ⌜ Blocks (now index) × Seeding (now item) (at frame extraction) (now work) ⌝ }
     ensures { λ r. ⌜ ((g : Graph) → Loaded g (now (index .entry)) → (v : Seeding (now (item .entry)) (at frame extraction) (now (work .entry))) → NodeSeeded (now (item .entry)) (at frame extraction) (now (work .entry)) v g file n (goingAt frame r) (now (work .exit))) ⌝ }
 {
-    let node = store::node(index, NodeId(n));
-    if is_of_file(node, file) {
-        if is_start(node) {
+    if store::is_of_file(index, NodeId(n), file) {
+        if store::is_start(index, NodeId(n)) {
             return push_start(n, item, extraction, work, frame);
         }
     }

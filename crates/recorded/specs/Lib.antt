@@ -3,4 +3,5 @@ pub mod Beatable
 pub mod EdgeLists
 pub mod Ends
 pub mod ResultSlots
+pub mod Rivals
 pub mod Replies

@@ -11,12 +11,13 @@ ghost use Rattle.semantics.specs.Words.{area};
 ghost use Rattle.words.specs.Slots.{InArea};
 ghost use Rattle.storage.specs.Rows.{Blocks, edgeRow};
 ghost use Rattle.path.specs.Shadows.{shadowsEdges};
-ghost use Rattle.recorded.specs.Beatable.{HoldsGraph, Known};
+ghost use Rattle.recorded.specs.Beatable.{HoldsGraph};
 ghost use Rattle.recorded.specs.EdgeLists.{beatenList, beatenAt, without, unbeatenLists};
 ghost use Rattle.recorded.specs.ResultSlots.{Lists, Leaves, edgesAt, listsAt, Fitting, AllFitting, markIf, Marked, Marks, MarkedLists, Keeps};
-use crate::beatable;
+ghost use Rattle.recorded.specs.Rivals.{Best};
 use crate::closing;
 use crate::lists;
+use crate::rivals;
 use path::shadows;
 use semantics::bounds::SLOT_WORDS;
 use storage::rows;
@@ -53,19 +54,21 @@ fn is_shadowed(index: &[u32], result: &[u32], n: usize, i: usize) -> bool
     false
 }
 
-// The same. Of many paths most are let off by their own edges alone, before they are compared with all others.
-fn judge(index: &[u32], result: &[u32], best: &mut [u32], n: usize, i: usize) -> bool
-    requires { ⌜ HoldsGraph (now index) ⌝ }
-    requires { ⌜ AllFitting 128 n (now result) × Fitting 128 i (now result) ⌝ }
-    requires { ⌜ Known (now index) (now best) ⌝ }
-    ensures { λ r. ⌜ Known (now (index .entry)) (now (best .exit)) × (r ≡ beatenList (shadowsEdges (edgeRow (now (index .entry)))) (edgesAt 128 i (now (result .entry))) (listsAt 128 n (now (result .entry)))) ⌝ }
+// The same. Of many paths most are let off by their own edges alone, or are shadowed by the first rival that these tell of.
+fn judge(index: &[u32], result: &[u32], best: &[usize], n: usize, i: usize) -> bool
+    requires { ⌜ Blocks (now index) ⌝ }
+    requires { ⌜ AllFitting 128 n (now result) × (i < n) ⌝ }
+    requires { ⌜ Best 128 (now index) (now result) (128 * n) (now best) ⌝ }
+    ensures { λ r. ⌜ r ≡ beatenList (shadowsEdges (edgeRow (now (index .entry)))) (edgesAt 128 i (now (result .entry))) (listsAt 128 n (now (result .entry))) ⌝ }
 {
-    let start = SLOT_WORDS * i + 1;
-    let count = lists::edge_count(result, i);
-    if beatable::has_beatable(index, best, &result[start..start + count]) {
-        return is_shadowed(index, result, n, i);
+    let place = rivals::first_rival(index, result, best, i);
+    if place < 1 {
+        return false;
     }
-    false
+    if shadows_slot(index, result, place / SLOT_WORDS, i) {
+        return true;
+    }
+    is_shadowed(index, result, n, i)
 }
 
 // Slot i is marked if the test holds.
@@ -91,13 +94,14 @@ fn mark_few(index: &[u32], result: &mut [u32], n: usize)
     }
 }
 
-// The same. What is found out about a node for one path serves the others.
-fn mark_many(index: &[u32], result: &mut [u32], best: &mut [u32], n: usize)
+// The same. The edges of all paths are looked at before any path is judged.
+fn mark_many(index: &[u32], result: &mut [u32], best: &mut [usize], n: usize)
     requires { ⌜ HoldsGraph (now index) ⌝ }
     requires { ⌜ Lists 128 n (now result) ⌝ }
-    requires { ⌜ Known (now index) (now best) ⌝ }
+    requires { ⌜ Best 128 (now index) (now result) 0 (now best) ⌝ }
     ensures { λ _. ⌜ Marks 128 n (beatenAt (shadowsEdges (edgeRow (now (index .entry))))) (now (result .entry)) (now (result .exit)) ⌝ }
 {
+    rivals::note_all(index, result, best, n);
     for i in 0..n {
         let shadowed = judge(index, result, best, n, i);
         mark_if(result, i, shadowed);
@@ -114,7 +118,7 @@ fn mark_shadowed(index: &[u32], result: &mut [u32], n: usize)
         mark_few(index, result, n);
         return;
     }
-    let mut best = [0u32; NODES];
+    let mut best = [0usize; NODES];
     mark_many(index, result, &mut best, n);
 }
 

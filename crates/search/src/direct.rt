@@ -1,19 +1,22 @@
 // Direct search from a reference: every path that waits is tried with each outgoing edge of its end. Document 01, "Answer": `try_compute`.
 ghost use mathlib.Core.Path.{_≡_};
+ghost use Prim.Native.Nat.{_+_, _<_, _^_};
 ghost use Rattle.semantics.specs.Limits.{base};
 ghost use Rattle.semantics.specs.Graph.{Graph, viewOf};
 ghost use Rattle.semantics.specs.Image.{symbolBytes, checkImage};
 ghost use Rattle.semantics.specs.Recorded.{recorded, returned};
 ghost use Rattle.semantics.specs.Told.{toldResolution};
 ghost use Rattle.semantics.specs.Calls.{directCall};
-ghost use Rattle.storage.specs.Rows.{Loaded, Takes};
+ghost use Rattle.storage.specs.Rows.{Blocks, Loaded, Takes};
 ghost use Rattle.path.specs.Shadows.Laws.{JumpAt};
 ghost use Rattle.recorded.specs.Beatable.{HoldsGraph};
 ghost use Rattle.recorded.specs.Replies.{replyOf};
 ghost use Rattle.rounds.specs.Drives.{Rounding, Rounded, Driving, Ends, DrivenTo};
 ghost use Rattle.rounds.specs.Requests.{requestOf, Does};
-ghost use Rattle.search.specs.Expansions.{Given, Tried, Expanded};
+ghost use Rattle.search.specs.Expansions.{Given, Expanded};
+ghost use Rattle.search.specs.Passes.{countedBy, beyondRow, Passing, Passes, Turning, Turned};
 ghost use Rattle.search.specs.Requests.{edgeTries, directOf, foundOf};
+use budget::path_budget::Budget;
 use edge_trial::trial;
 use edge_trial::trial::Trial;
 use recorded::reply::Reply;
@@ -21,6 +24,7 @@ use rounds::driven::Driven;
 use rounds::driven::conclude;
 use rounds::start::start;
 use search_state::item;
+use search_state::passed::Passed;
 use search_state::retrace::STEP_WORDS;
 use search_state::retrace::retrace;
 use search_state::search::Going;
@@ -40,32 +44,110 @@ use storage::rows;
 use storage::store;
 use words::slots;
 
-// One edge is tried on the path of k edges in the item: counted where it is cut, too long or rejected, else recorded and pushed.
-fn try_edge(
-    index: &[u32],
-    steps: &[u32],
+// What becomes of the edges from a link on: those that lead nowhere are counted, up to the first that lengthens the path or meets the bound.
+pub enum Led {
+    End,
+    TooLong,
+    Extended { complete: bool },
+}
+
+// What was counted, the link to the edge that ended it, 0 at the end, and what that edge does.
+pub struct Pass {
+    pub passed: Passed,
+    pub link: u32,
+    pub led: Led,
+}
+
+// What one trial adds, or what it leads to.
+pub enum Counted {
+    More(Passed),
+    TooLong,
+    Extended { complete: bool },
+}
+
+fn count(passed: Passed, trial: Trial) -> Counted
+    requires { ⌜ (passed .cycles + 1 < 2 ^ 64) × (passed .rejected + 1 < 2 ^ 64) ⌝ }
+    ensures { λ r. ⌜ r ≡ countedBy passed trial ⌝ }
+{
+    match trial {
+        Trial::Cut => Counted::More(passed.cut()),
+        Trial::Overlong => Counted::More(passed.measure()),
+        Trial::Rejected => Counted::More(passed.reject()),
+        Trial::TooLong => Counted::TooLong,
+        Trial::Extended { complete } => Counted::Extended { complete },
+    }
+}
+
+// The edges are tried by ascending number on the path whose edges these are; the budget is asked for its limit on the length alone.
+fn pass_over(index: &[u32], steps: &[u32], edges: &[u32], budget: Budget, first: u32) -> Pass
+    requires { ⌜ Passing (now index) (now steps) (now edges) budget first ⌝ }
+    ensures { λ r. ⌜ ((x : Passing (now (index .entry)) (now (steps .entry)) (now (edges .entry)) budget first) → Passes (now (index .entry)) (now (steps .entry)) (now (edges .entry)) budget first x r) ⌝ }
+{
+    let mut passed = Passed::nothing();
+    let mut link = first;
+    while 0 < link {
+        let trial = trial::judge(index, steps, edges, link - 1, budget);
+        match count(passed, trial) {
+            Counted::More(next) => {
+                passed = next;
+            }
+            Counted::TooLong => {
+                return Pass {
+                    passed,
+                    link,
+                    led: Led::TooLong,
+                };
+            }
+            Counted::Extended { complete } => {
+                return Pass {
+                    passed,
+                    link,
+                    led: Led::Extended { complete },
+                };
+            }
+        }
+        link = store::next(index, EdgeId(link - 1));
+    }
+    Pass {
+        passed,
+        link: 0,
+        led: Led::End,
+    }
+}
+
+// The search behind the edges that were passed by: the path with the edge that ended it is recorded and pushed.
+fn onward(
+    pass: Pass,
     item: &mut [u32],
     k: usize,
-    edge: u32,
     search: Search,
     work: &mut [u32],
     result: &mut [u32],
 ) -> Going
-    requires { ⌜ Given 1099511627776 (now index) (now steps) (now item) k search (now work) (now result) ⌝ }
-    ensures { λ r. ⌜ ((v : Given 1099511627776 (now (index .entry)) (now (steps .entry)) (now (item .entry)) k search (now (work .entry)) (now (result .entry))) → Tried 1099511627776 (now (index .entry)) (now (steps .entry)) (now (item .entry)) k search (now (work .entry)) (now (result .entry)) v edge r (now (item .exit)) (now (work .exit)) (now (result .exit))) ⌝ }
+    requires { ⌜ Turning pass (now item) k search (now work) (now result) ⌝ }
+    ensures { λ r. ⌜ ((x : Turning pass (now (item .entry)) k search (now (work .entry)) (now (result .entry))) → Turned pass (now (item .entry)) k search (now (work .entry)) (now (result .entry)) x r (now (item .exit)) (now (work .exit)) (now (result .exit))) ⌝ }
 {
-    let state = search.state;
-    let budget = state.budget;
-    match trial::judge(index, steps, &item[1..k + 1], edge, budget) {
-        Trial::Cut => Going::On(search.with_state(state.cut())),
-        Trial::Overlong => Going::On(search.with_state(state.measure(k as u64 + 1))),
-        Trial::Rejected => Going::On(search.with_state(state.reject())),
-        Trial::TooLong => Going::Refused(SearchRefusal::TooLong),
-        Trial::Extended { complete } => {
-            item::with_edge(item, k, edge);
-            search.extend(complete, work, result, item)
+    let on = search.passed_by(pass.passed);
+    let led = pass.led;
+    match led {
+        Led::End => Going::On(on),
+        Led::TooLong => Going::Refused(SearchRefusal::TooLong),
+        Led::Extended { complete } => {
+            item::with_edge(item, k, pass.link - 1);
+            on.extend(complete, work, result, item)
         }
     }
+}
+
+// The link behind this one; none behind none.
+fn beyond(index: &[u32], link: u32) -> u32
+    requires { ⌜ Blocks (now index) ⌝ }
+    ensures { λ r. ⌜ r ≡ beyondRow (now (index .entry)) link ⌝ }
+{
+    if 0 < link {
+        return store::next(index, EdgeId(link - 1));
+    }
+    0
 }
 
 // Each outgoing edge of the path's end is tried, by ascending number.
@@ -81,16 +163,18 @@ fn expand(
     requires { ⌜ Given 549755813888 (now index) (now steps) (now item) k search (now work) (now result) ⌝ }
     ensures { λ r. ⌜ ((v : Given 549755813888 (now (index .entry)) (now (steps .entry)) (now (item .entry)) k search (now (work .entry)) (now (result .entry))) → Expanded 549755813888 (now (index .entry)) (now (steps .entry)) (now (item .entry)) k search (now (work .entry)) (now (result .entry)) v r (now (work .exit)) (now (result .exit))) ⌝ }
 {
+    let state = search.state;
+    let budget = state.budget;
     let mut on = search;
     let mut link = store::first(index, NodeId(steps::get_step(steps, k).end));
     while 0 < link {
-        let edge = link - 1;
-        let going = try_edge(index, steps, item, k, edge, on, work, result);
+        let pass = pass_over(index, steps, &item[1..k + 1], budget, link);
+        let going = onward(pass, item, k, on, work, result);
         let Going::On(next) = going else {
             return going;
         };
         on = next;
-        link = store::next(index, EdgeId(edge));
+        link = beyond(index, pass.link);
     }
     Going::On(on)
 }

@@ -5,3 +5,4 @@ pub mod Searches
 pub mod Reps
 pub mod Extensions
 pub mod Runs
+pub mod Passes

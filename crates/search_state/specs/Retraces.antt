@@ -3,7 +3,7 @@
 use Prim.Native.Nat.{ℕ, _+_, _*_, _<_, _≤_}
 use mathlib.Core.Path.{_≡_}
 use mathlib.Core.List.{List}
-use lib.ListN.{length, getD}
+use lib.ListN.{length, getD, drop}
 use Rattle.semantics.specs.Limits.{base}
 use Rattle.semantics.specs.Answer.{ok}
 use Rattle.semantics.specs.Graph.{Graph, View, viewOf}
@@ -34,6 +34,34 @@ pub record Retraced (index ws edges : List ℕ) (n : ℕ) (t : Retraces index ws
   pub stepped : Stepped ws′ (length edges) (t .path)
   pub begun : Stepped ws′ 0 (t .first)
   pub laid : Laid (viewOf (t .graph)) (t .first) ws′ (length edges)
+
+-- what the edges lead to, which stays the same while their steps are laid out
+pub record Way (index edges : List ℕ) : Type 0 where
+  pub graph : Graph
+  pub loaded : Loaded graph index
+  pub first : Path
+  pub path : Path
+  pub few : length edges ≤ 127
+
+-- behind i edges the steps stand for a path from which the others lead on
+pub record Mid (index edges : List ℕ) (w : Way index edges) (ws : List ℕ) (i : ℕ) : Type 0 where
+  pub path : Path
+  pub stepped : Stepped ws i path
+  pub begun : Stepped ws 0 (w .first)
+  pub led : appendAll base (viewOf (w .graph)) (w .first) (path .edges) ≡ ok path
+  pub laid : Laid (viewOf (w .graph)) (w .first) ws i
+  pub onward : appendAll base (viewOf (w .graph)) path (drop i edges) ≡ ok (w .path)
+
+-- the steps of the first i edges are laid out, and there is room for those of the others
+pub record Midway (index ws edges : List ℕ) (i : ℕ) : Type 0 where
+  pub way : Way index edges
+  pub mid : Mid index edges way ws i
+  pub inside : i ≤ length edges
+  pub room : 8 * length edges + 8 ≤ length ws
+
+-- a call that lays out the steps of further edges, up to edge r
+abbrev pub LaysOut : List ℕ → List ℕ → List ℕ → ℕ → ℕ → List ℕ → Type 0
+LaysOut index ws edges i r ws′ = (i ≤ r) × (r ≤ length edges) × ((m : Midway index ws edges i) → Mid index edges (m .way) ws′ r)
 
 -- the first c edges stand in the words already
 pub record Shared (ws edges : List ℕ) (n c : ℕ) : Type 0 where

@@ -2,20 +2,31 @@
 // One more edge is stored over the last one tried, so a successor is never copied before it waits or is kept.
 ghost use mathlib.Core.Path.{_≡_};
 ghost use Prim.Native.Nat.{_+_, _<_, _≤_};
+ghost use lib.Dec.{eqb};
 ghost use lib.ListN.{length};
-ghost use Rattle.semantics.specs.Lists.{has};
+ghost use Rattle.semantics.specs.Lists.{or, has};
 ghost use Rattle.search_state.specs.Items.{withEdge};
 
-// Is the edge among those of a path? Such an edge is a cycle cut.
+// Is it this one, or was it found before?
+fn found_by(found: bool, edge: u32, other: u32) -> bool
+    ensures { λ r. ⌜ r ≡ or (eqb edge other) found ⌝ }
+{
+    if edge == other {
+        return true;
+    }
+    found
+}
+
+// Is the edge among those of a path? Such an edge is a cycle cut. Few edges are, so all are looked at: without a way out of the loop they are
+// compared several at a time.
 pub fn contains(edges: &[u32], edge: u32) -> bool
     ensures { λ r. ⌜ r ≡ has edge (now (edges .entry)) ⌝ }
 {
+    let mut found = false;
     for i in 0..edges.len() {
-        if edge == edges[i] {
-            return true;
-        }
+        found = found_by(found, edge, edges[i]);
     }
-    false
+    found
 }
 
 // The path of k edges becomes the same with one more.

@@ -1,15 +1,17 @@
-// An answer as numbers, and written into the caller's area: specs/Written.antt.
+// An answer as numbers, and written into the caller's area: specs/Written.antt here and in path_words.
 ghost use mathlib.Core.Path.{_≡_};
 ghost use mathlib.Core.List.{[], _∷_};
 ghost use lib.ListN.{length, getD};
-ghost use Rattle.semantics.specs.Told.{toldFlag, toldStats, toldPartialStats, toldChecked, toldJudgement, toldResolution, toldLinearResolution, toldCreation, toldReplacement};
+ghost use Rattle.semantics.specs.Told.{toldFlag, toldStats, toldPartialStats, toldChecked, toldReplayed, toldJudgement, toldResolution, toldLinearResolution, toldCreation, toldReplacement};
 ghost use Rattle.told.specs.Numbers.{numbersOf};
-ghost use Rattle.service.specs.Written.{numbersIn, written};
+ghost use Rattle.path_words.specs.Written.{written};
+ghost use Rattle.service.specs.Written.{numbersIn};
 use semantics::answer::Checked;
 use semantics::answer::Creation;
 use semantics::answer::Judgement;
 use semantics::answer::LinearResolution;
 use semantics::answer::Replacement;
+use semantics::answer::Replayed;
 use semantics::answer::Resolution;
 use semantics::search::PartialPathStats;
 use semantics::search::SearchStats;
@@ -135,6 +137,16 @@ pub fn of_checked(answer: Checked) -> Numbers
             edges,
         } => counts(files, nodes, edges),
         Checked::Refused(r) => of_told(refusal::image(r)),
+    }
+}
+
+pub fn of_replayed(answer: Replayed) -> Numbers
+    ensures { λ r. ⌜ numbersIn r ≡ toldReplayed answer ⌝ }
+{
+    match answer {
+        Replayed::Done => bare(0),
+        Replayed::Image(r) => of_told(refusal::image(r)),
+        Replayed::Refused(r) => of_told(refusal::replay(r)),
     }
 }
 

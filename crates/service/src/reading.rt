@@ -1,13 +1,16 @@
-// Exported: the check of an image, and what is judged of a path.
+// Exported: the check of an image, a replayed path, and what is judged of a path.
 ghost use mathlib.Core.Path.{_≡_};
 ghost use lib.ListN.{length};
 ghost use Rattle.semantics.specs.Limits.{base};
 ghost use Rattle.semantics.specs.Image.{symbolBytes, checkImage};
-ghost use Rattle.semantics.specs.Told.{toldChecked, toldJudgement};
-ghost use Rattle.semantics.specs.Calls.{checkCall, completeCall, shadowsCall};
-ghost use Rattle.service.specs.Written.{written};
+ghost use Rattle.semantics.specs.Told.{toldChecked, toldReplayed, toldJudgement};
+ghost use Rattle.semantics.specs.Calls.{checkCall, replayCall, completeCall, shadowsCall};
+ghost use Rattle.path_words.specs.Written.{written};
+ghost use Rattle.path_words.specs.PathWords.{pathWords};
 use crate::numbers;
 use path::judgement;
+use path::replay;
+use path_words::write;
 use semantics::graph::NodeId;
 use storage::check;
 
@@ -18,6 +21,24 @@ pub extern "C" fn pozhdaghi_check(image: &[u8], answer: &mut [u64])
 {
     let checked = check::check(image);
     numbers::write(numbers::of_checked(checked), answer);
+}
+
+// 0, and the path of a reference and an edge list; or the refusal, and zeros in the place of the path.
+#[no_mangle]
+pub extern "C" fn pozhdaghi_replay(
+    image: &[u8],
+    reference: u32,
+    edges: &[u32],
+    path: &mut [u32],
+    answer: &mut [u64],
+)
+    ensures { λ _. ⌜ now (answer .exit) ≡ written (length (now (answer .entry))) (toldReplayed (replayCall base (checkImage symbolBytes (now (image .entry))) reference (now (edges .entry)) .answer)) ⌝ }
+    ensures { λ _. ⌜ now (path .exit) ≡ written (length (now (path .entry))) (pathWords (replayCall base (checkImage symbolBytes (now (image .entry))) reference (now (edges .entry)) .path)) ⌝ }
+{
+    let outcome = replay::replay(image, NodeId(reference), edges);
+    let replayed = outcome.answer;
+    write::write(outcome.path, path);
+    numbers::write(numbers::of_replayed(replayed), answer);
 }
 
 // 0, then 1 if the path of a reference and an edge list is complete; or the refusal.

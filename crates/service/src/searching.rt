@@ -8,7 +8,7 @@ ghost use Rattle.semantics.specs.Database.{filesOnly};
 ghost use Rattle.semantics.specs.Told.{toldResolution, toldLinearResolution};
 ghost use Rattle.semantics.specs.Calls.{directCall, linearCall, stitchedCall};
 ghost use Rattle.service.specs.Asked.{searchAsked, linearAsked};
-ghost use Rattle.service.specs.Written.{written};
+ghost use Rattle.path_words.specs.Written.{written};
 use crate::asked;
 use crate::numbers;
 use linear_search::linear;

@@ -16,7 +16,7 @@ use Rattle.semantics.specs.Path.{Path}
 use Rattle.stepping.specs.declared.step.Step.{Step}
 use Rattle.stepping.specs.declared.step.Effect.{Effect}
 use Rattle.stepping.specs.declared.step.Effect.the-variants.{Done, Refused}
-use Rattle.stepping.specs.Steps.{plainStep, askedScope, appliedOf, stacksOf, Low}
+use Rattle.stepping.specs.Steps.{plainStep, askedScope, appliedOf, remadeOf, stacksOf, Low}
 use Rattle.stepping.specs.StepWords.{stepAt, makerIn, withStep}
 pub mod Laws
 
@@ -44,6 +44,10 @@ module _ (nodes : ℕ → Node) where
   unfoldable pub judgedOf : List ℕ → ℕ → ℕ → Edge → Effect
   unfolding followed
   judgedOf ws k e x = followed e (k + 1) (stepAt ws k) (makerIn ws (stepAt ws k .symbols)) (makerIn ws (stepAt ws k .scopes)) x
+
+  -- the step behind k edges that leads to node t by edge e, where it was made once
+  abbrev pub remadeIn : List ℕ → ℕ → ℕ → ℕ → Step
+  remadeIn ws k e t = remadeOf (nodes t) t e (k + 1) (stepAt ws k) (makerIn ws (stepAt ws k .symbols)) (makerIn ws (stepAt ws k .scopes))
 
   -- at a definition with both stacks empty; the path starts at a reference
   abbrev pub completeStep : Step → Bool

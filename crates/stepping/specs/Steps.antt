@@ -26,6 +26,10 @@ plainStep edge end symbols scopes = record { edge = edge; end = end; symbols = s
 abbrev pub pushStep : ℕ → ℕ → ℕ → ℕ → Step → Step
 pushStep symbol target edge k last = record { edge = edge; end = target; symbols = k + 1; scopes = last .scopes; symbol = symbol; attached = 0; below = last .symbols; scope = 0 }
 
+-- a step that pushes one with the scope stack plus its own scope on top
+abbrev pub pushScopedStep : ℕ → ℕ → ℕ → ℕ → ℕ → Step → Step
+pushScopedStep symbol scope target edge k last = record { edge = edge; end = target; symbols = k + 1; scopes = last .scopes; symbol = symbol; attached = k + 1; below = last .symbols; scope = scope }
+
 unfoldable pub popOf : ℕ → ℕ → ℕ → Step → Step → Effect
 popOf target edge symbol last top =
     pick (eqb (last .symbols) 0) (Refused (EmptySymbolStack (nodeId target)))
@@ -46,10 +50,7 @@ jumpOf exported target edge last over =
     (pick exported (Done (plainStep edge (over .scope) (last .symbols) (over .scopes))) (Refused (UnknownAttachedScope (nodeId (over .scope)))))
 
 unfoldable pub pushScopedOf : Bool → ℕ → ℕ → ℕ → ℕ → ℕ → Step → Effect
-pushScopedOf exported symbol scope target edge k last =
-    pick exported
-    (Done (record { edge = edge; end = target; symbols = k + 1; scopes = last .scopes; symbol = symbol; attached = k + 1; below = last .symbols; scope = scope }))
-    (Refused (UnknownAttachedScope (nodeId scope)))
+pushScopedOf exported symbol scope target edge k last = pick exported (Done (pushScopedStep symbol scope target edge k last)) (Refused (UnknownAttachedScope (nodeId scope)))
 
 -- the scope whose export a node asks for: that of a push-scoped node, or the top scope at jump
 abbrev pub askedScope : Node → Step → ℕ
@@ -75,6 +76,19 @@ appliedOf exported (N.Pop f symbol d) target edge k last top over = popOf target
 appliedOf exported (N.PushScoped f symbol scope r) target edge k last top over = pushScopedOf exported symbol (scope .0) target edge k last
 appliedOf exported (N.PopScoped f symbol d) target edge k last top over = popScopedOf target edge symbol last top
 appliedOf exported (N.DropScopes f) target edge k last top over = Done (plainStep edge target (last .symbols) 0)
+
+-- A STEP THAT WAS MADE ONCE: what a node does that is not refused
+
+unfoldable pub remadeOf : Node → ℕ → ℕ → ℕ → Step → Step → Step → Step
+remadeOf N.Removed target edge k last top over = plainStep edge target (last .symbols) (last .scopes)
+remadeOf N.Root target edge k last top over = plainStep edge target (last .symbols) (last .scopes)
+remadeOf N.JumpToScope target edge k last top over = plainStep edge (over .scope) (last .symbols) (over .scopes)
+remadeOf (N.Scope f x) target edge k last top over = plainStep edge target (last .symbols) (last .scopes)
+remadeOf (N.Push f symbol r) target edge k last top over = pushStep symbol target edge k last
+remadeOf (N.Pop f symbol d) target edge k last top over = plainStep edge target (top .below) (last .scopes)
+remadeOf (N.PushScoped f symbol scope r) target edge k last top over = pushScopedStep symbol (scope .0) target edge k last
+remadeOf (N.PopScoped f symbol d) target edge k last top over = plainStep edge target (top .below) (top .attached)
+remadeOf (N.DropScopes f) target edge k last top over = plainStep edge target (last .symbols) 0
 
 -- THE STACKS that cells stand for, tops first; f gives each step
 

@@ -1,4 +1,5 @@
 // What a node does to the two stacks, and the steps of a path in lent words. Document 01, "Path".
+pub mod again;
 pub mod node;
 pub mod step;
 pub mod steps;

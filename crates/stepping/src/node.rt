@@ -1,6 +1,6 @@
 // What a node is, by its kind and flag. Document 01, "Graph image".
 ghost use mathlib.Core.Path.{_≡_};
-ghost use Rattle.semantics.specs.Graph.{traits, isReference, isDefinition, isExported};
+ghost use Rattle.semantics.specs.Graph.{traits, isReference};
 use semantics::graph::Node;
 
 // A push or push-scoped node that is marked so.
@@ -31,77 +31,6 @@ pub fn is_reference(node: Node) -> bool
             scope: _,
             reference,
         } => reference,
-        Node::PopScoped {
-            file: _,
-            symbol: _,
-            definition: _,
-        } => false,
-        Node::DropScopes { file: _ } => false,
-    }
-}
-
-// A pop or pop-scoped node that is marked so.
-pub fn is_definition(node: Node) -> bool
-    ensures { λ r. ⌜ r ≡ isDefinition node ⌝ }
-{
-    match node {
-        Node::Removed => false,
-        Node::Root => false,
-        Node::JumpToScope => false,
-        Node::Scope {
-            file: _,
-            exported: _,
-        } => false,
-        Node::Push {
-            file: _,
-            symbol: _,
-            reference: _,
-        } => false,
-        Node::Pop {
-            file: _,
-            symbol: _,
-            definition,
-        } => definition,
-        Node::PushScoped {
-            file: _,
-            symbol: _,
-            scope: _,
-            reference: _,
-        } => false,
-        Node::PopScoped {
-            file: _,
-            symbol: _,
-            definition,
-        } => definition,
-        Node::DropScopes { file: _ } => false,
-    }
-}
-
-// An exported scope.
-pub fn is_exported(node: Node) -> bool
-    ensures { λ r. ⌜ r ≡ isExported node ⌝ }
-{
-    match node {
-        Node::Removed => false,
-        Node::Root => false,
-        Node::JumpToScope => false,
-        Node::Scope { file: _, exported } => exported,
-        Node::Push {
-            file: _,
-            symbol: _,
-            reference: _,
-        } => false,
-        Node::Pop {
-            file: _,
-            symbol: _,
-            definition: _,
-        } => false,
-        Node::PushScoped {
-            file: _,
-            symbol: _,
-            scope: _,
-            reference: _,
-        } => false,
         Node::PopScoped {
             file: _,
             symbol: _,

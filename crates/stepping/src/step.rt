@@ -5,9 +5,8 @@ ghost use mathlib.Core.Path.{_≡_};
 ghost use Prim.Native.Nat.{_<_};
 ghost use Rattle.semantics.specs.Graph.{isExported};
 ghost use Rattle.storage.specs.Rows.{Blocks, nodeRow, edgeRow};
-ghost use Rattle.stepping.specs.Steps.{plainStep, pushStep, popOf, popScopedOf, jumpOf, pushScopedOf, askedScope, appliedOf};
+ghost use Rattle.stepping.specs.Steps.{plainStep, pushStep, pushScopedStep, popOf, popScopedOf, jumpOf, pushScopedOf, askedScope, appliedOf};
 ghost use Rattle.stepping.specs.Judged.{begunOf, followed, completeStep};
-use crate::node::is_definition;
 use crate::node::is_reference;
 use crate::node::is_removed;
 use semantics::graph::Edge;
@@ -37,7 +36,7 @@ pub enum Effect {
     Refused(PathRefusal),
 }
 
-fn plain(edge: u32, end: u32, symbols: u32, scopes: u32) -> Step
+pub fn plain(edge: u32, end: u32, symbols: u32, scopes: u32) -> Step
     ensures { λ r. ⌜ r ≡ plainStep edge end symbols scopes ⌝ }
 {
     Step {
@@ -94,7 +93,7 @@ fn jump(exported: bool, target: u32, edge: u32, last: Step, over: Step) -> Effec
     Effect::Refused(PathRefusal::UnknownAttachedScope(NodeId(over.scope)))
 }
 
-fn push(symbol: u32, target: u32, edge: u32, k: u32, last: Step) -> Step
+pub fn push(symbol: u32, target: u32, edge: u32, k: u32, last: Step) -> Step
     requires { ⌜ k < 4294967295 ⌝ }
     ensures { λ r. ⌜ r ≡ pushStep symbol target edge k last ⌝ }
 {
@@ -107,6 +106,22 @@ fn push(symbol: u32, target: u32, edge: u32, k: u32, last: Step) -> Step
         attached: 0,
         below: last.symbols,
         scope: 0,
+    }
+}
+
+pub fn pushed_scoped(symbol: u32, scope: u32, target: u32, edge: u32, k: u32, last: Step) -> Step
+    requires { ⌜ k < 4294967295 ⌝ }
+    ensures { λ r. ⌜ r ≡ pushScopedStep symbol scope target edge k last ⌝ }
+{
+    Step {
+        edge,
+        end: target,
+        symbols: k + 1,
+        scopes: last.scopes,
+        symbol,
+        attached: k + 1,
+        below: last.symbols,
+        scope,
     }
 }
 
@@ -123,16 +138,7 @@ fn push_scoped(
     ensures { λ r. ⌜ r ≡ pushScopedOf exported symbol scope target edge k last ⌝ }
 {
     if exported {
-        return Effect::Done(Step {
-            edge,
-            end: target,
-            symbols: k + 1,
-            scopes: last.scopes,
-            symbol,
-            attached: k + 1,
-            below: last.symbols,
-            scope,
-        });
+        return Effect::Done(pushed_scoped(symbol, scope, target, edge, k, last));
     }
     Effect::Refused(PathRefusal::UnknownAttachedScope(NodeId(scope)))
 }
@@ -250,5 +256,5 @@ pub fn is_complete(index: &[u32], s: Step) -> bool
     if s.scopes != 0 {
         return false;
     }
-    is_definition(store::node(index, NodeId(s.end)))
+    store::is_definition(index, NodeId(s.end))
 }

@@ -2,8 +2,11 @@
 -- Document 01, "Graph image": `outgoing`, the live edges of a node by ascending number.
 use Prim.Native.Nat.{ℕ, _+_, _≤_}
 use mathlib.Core.Path.{_≡_}
+use mathlib.Core.Bool.{Bool, true, false}
 use mathlib.Core.List.{List, [], _∷_}
 use lib.ListN.{length}
+use Rattle.semantics.specs.declared.graph.Node.{Node}
+use Rattle.semantics.specs.declared.graph.Node.the-variants as N
 use Rattle.semantics.specs.Graph.{Graph, viewOf}
 use Rattle.image.specs.Records.{Headed, Room}
 -- the blocks themselves are those that the pass over the image fills; crates above find both here
@@ -14,6 +17,22 @@ pub mod Use
 
 abbrev pub nextRow : List ℕ → ℕ → ℕ
 nextRow index e = cell index NEXT e
+
+-- where a live edge leads
+abbrev pub targetRow : List ℕ → ℕ → ℕ
+targetRow index e = cell index TARGET e
+
+-- root and scopes, which change neither stack
+abbrev pub isPlain : Node → Bool
+isPlain N.Removed = false
+isPlain N.Root = true
+isPlain N.JumpToScope = false
+isPlain (N.Scope f exported) = true
+isPlain (N.Push f symbol reference) = false
+isPlain (N.Pop f symbol definition) = false
+isPlain (N.PushScoped f symbol scope reference) = false
+isPlain (N.PopScoped f symbol definition) = false
+isPlain (N.DropScopes f) = false
 
 -- following the links from `link` on runs over just these edges
 abbrev pub Runs : List ℕ → ℕ → List ℕ → Type 0

@@ -1,11 +1,11 @@
 // The records of a loaded graph by number. A number that is not known is a removed record, and nothing leaves it.
 // Document 01, "Graph image".
 ghost use mathlib.Core.Path.{_≡_};
-ghost use Prim.Native.Nat.{_+_, _<_};
+ghost use Prim.Native.Nat.{_+_, _*_, _<_};
 ghost use lib.Dec.{eqb};
 ghost use lib.ListN.{length, getD};
-ghost use Rattle.semantics.specs.Graph.{isExported};
-ghost use Rattle.storage.specs.Rows.{FLAG, Blocks, nodeRow, edgeRow, firstRow, nextRow};
+ghost use Rattle.semantics.specs.Graph.{fileOf, isFile, isDefinition, isExported, isStart, isEndpoint};
+ghost use Rattle.storage.specs.Rows.{FLAG, BLOCK, Blocks, cell, nodeRow, edgeRow, firstRow, nextRow, targetRow, isPlain};
 use crate::rows;
 use semantics::graph::Edge;
 use semantics::graph::EdgeId;
@@ -14,8 +14,10 @@ use semantics::graph::Node;
 use semantics::graph::NodeId;
 use words::bytes;
 
-// The kind of a scope.
+// The kinds of the nodes that have a file, from the first to the last.
 const SCOPE: u32 = 3;
+
+const DROP_SCOPES: u32 = 8;
 
 // The word of a node's flag, in the block that stands at a place.
 fn flag(index: &[u32], at: usize) -> bool
@@ -89,15 +91,95 @@ pub fn edge(index: &[u32], e: EdgeId) -> Edge
     }
 }
 
-// Is the node an exported scope? Two words tell it, so that a step that asks need not take a whole node apart.
+// The node that a live edge leads to, by one word; a live edge has a block, so that no bound is tested.
+pub fn target(index: &[u32], e: EdgeId) -> NodeId
+    requires { ⌜ Blocks (now index) ⌝ }
+    requires { ⌜ BLOCK * e .0 < length (now index) ⌝ }
+    ensures { λ r. ⌜ r .0 ≡ targetRow (now (index .entry)) (e .0) ⌝ }
+{
+    NodeId(index[rows::BLOCK * e.0 as usize + rows::TARGET])
+}
+
+// Root or a scope, which change neither stack. A live node has a block, so that no bound is tested.
+pub fn is_plain(index: &[u32], n: NodeId) -> bool
+    requires { ⌜ Blocks (now index) ⌝ }
+    requires { ⌜ BLOCK * n .0 < length (now index) ⌝ }
+    ensures { λ r. ⌜ r ≡ isPlain (nodeRow (now (index .entry)) (n .0)) ⌝ }
+{
+    match index[rows::BLOCK * n.0 as usize + rows::KIND] {
+        1 | 3 => true,
+        _ => false,
+    }
+}
+
+// Is the node's flag set? The tests below take two words each, so that who asks need not take a whole node apart.
+fn is_marked(index: &[u32], n: NodeId) -> bool
+    requires { ⌜ Blocks (now index) ⌝ }
+    ensures { λ r. ⌜ r ≡ eqb (cell (now (index .entry)) FLAG (n .0)) 1 ⌝ }
+{
+    rows::word(index, rows::FLAG, n.0) == 1
+}
+
+// An exported scope.
 pub fn is_exported(index: &[u32], n: NodeId) -> bool
     requires { ⌜ Blocks (now index) ⌝ }
     ensures { λ r. ⌜ r ≡ isExported (nodeRow (now (index .entry)) (n .0)) ⌝ }
 {
-    if rows::word(index, rows::KIND, n.0) != SCOPE {
+    match rows::word(index, rows::KIND, n.0) {
+        3 => is_marked(index, n),
+        _ => false,
+    }
+}
+
+// A pop or a pop-scoped node that is marked so.
+pub fn is_definition(index: &[u32], n: NodeId) -> bool
+    requires { ⌜ Blocks (now index) ⌝ }
+    ensures { λ r. ⌜ r ≡ isDefinition (nodeRow (now (index .entry)) (n .0)) ⌝ }
+{
+    match rows::word(index, rows::KIND, n.0) {
+        5 | 7 => is_marked(index, n),
+        _ => false,
+    }
+}
+
+// An exported scope or a reference: a push or a push-scoped node that is marked so.
+pub fn is_start(index: &[u32], n: NodeId) -> bool
+    requires { ⌜ Blocks (now index) ⌝ }
+    ensures { λ r. ⌜ r ≡ isStart (nodeRow (now (index .entry)) (n .0)) ⌝ }
+{
+    match rows::word(index, rows::KIND, n.0) {
+        3 => is_marked(index, n),
+        4 | 6 => is_marked(index, n),
+        _ => false,
+    }
+}
+
+// Root, jump, an exported scope or a definition.
+pub fn is_endpoint(index: &[u32], n: NodeId) -> bool
+    requires { ⌜ Blocks (now index) ⌝ }
+    ensures { λ r. ⌜ r ≡ isEndpoint (nodeRow (now (index .entry)) (n .0)) ⌝ }
+{
+    match rows::word(index, rows::KIND, n.0) {
+        1 => true,
+        2 => true,
+        3 | 5 | 7 => is_marked(index, n),
+        _ => false,
+    }
+}
+
+// A live node of the file. Root and jump have none.
+pub fn is_of_file(index: &[u32], n: NodeId, file: u32) -> bool
+    requires { ⌜ Blocks (now index) ⌝ }
+    ensures { λ r. ⌜ r ≡ isFile file (fileOf (nodeRow (now (index .entry)) (n .0))) ⌝ }
+{
+    let kind = rows::word(index, rows::KIND, n.0);
+    if kind < SCOPE {
         return false;
     }
-    rows::word(index, rows::FLAG, n.0) == 1
+    if DROP_SCOPES < kind {
+        return false;
+    }
+    rows::word(index, rows::FILE, n.0) == file
 }
 
 // The link to the first edge that leaves a node: the edge's number plus 1, or 0.

@@ -1,10 +1,12 @@
 //! One call with everything that it is given, and what it leaves behind.
 
 use crate::budget::Asked;
+use crate::replayed::Replayed;
 
 #[derive(Clone, Copy, PartialEq, Eq, PartialOrd, Ord, Debug)]
 pub enum Call {
     Check,
+    Replay,
     IsComplete,
     Shadows,
     Direct,
@@ -41,6 +43,7 @@ pub struct Case {
     pub asked: Vec<u64>,
     pub words: Vec<u32>,
     pub work: Vec<u32>,
+    /// The result slots, or the words for a replayed path.
     pub result: Vec<u32>,
     /// How many numbers of the answer are asked for.
     pub answer_length: usize,
@@ -118,6 +121,13 @@ impl Outcome {
         {
             slot[0] = edges.len() as u32;
             slot[1..=edges.len()].copy_from_slice(edges);
+        }
+    }
+
+    /// A replayed path, as many of its words as fit.
+    pub fn put_replayed(&mut self, path: &Replayed) {
+        for (word, place) in path.words().into_iter().zip(&mut self.result) {
+            *place = word;
         }
     }
 }

@@ -5,8 +5,9 @@
 use crate::case::{Call, Case, Outcome};
 use crate::check::Refusal;
 use crate::database::{self, FILES, NODES};
-use crate::graph::{MOST_FILES, MOST_NODES};
+use crate::graph::{JUMP, MOST_FILES, MOST_NODES};
 use crate::load::{Graph, load};
+use crate::replayed::{Passage, Replayed};
 use cfglib::graph::search::SearchOrder;
 use cfglib::graph::stack::{
     StackEdgeId, StackFileId, StackLinearResolutionError, StackNodeId, StackPartialPathConfig,
@@ -50,6 +51,12 @@ fn answered(case: &Case) -> Result<Outcome, Refusal> {
             let counts = [graph.file_count(), graph.node_bound(), graph.edge_bound()];
             let told = counts.map(|count| count as u64);
             Ok(Outcome::new(case, [&[0], &told[..]].concat()))
+        }
+        Call::Replay => {
+            let path = replay(&graph, case.number, &case.edges)?;
+            let mut outcome = Outcome::new(case, vec![0]);
+            outcome.put_replayed(&replayed(&path));
+            Ok(outcome)
         }
         Call::IsComplete => {
             let path = replay(&graph, case.number, &case.edges)?;
@@ -102,6 +109,27 @@ fn replay(graph: &Graph, reference: u32, edges: &[u32]) -> Result<StackPath<u32>
             .map_err(path_refusal)?;
     }
     Ok(path)
+}
+
+/// The library's stacks have their tops last, and its jumps name their source too.
+fn replayed(path: &StackPath<u32>) -> Replayed {
+    let reversed = |scopes: &[StackNodeId]| scopes.iter().rev().map(|scope| scope.raw()).collect();
+    let steps = path.steps().iter().map(|step| match step {
+        StackPathStep::Edge(edge) => Passage::Edge(edge.raw()),
+        StackPathStep::Jump { source, target } => {
+            assert_eq!(source.raw(), JUMP);
+            Passage::Jump(target.raw())
+        }
+    });
+    let symbols = path.symbol_stack().iter().rev();
+    Replayed {
+        end: path.end().raw(),
+        steps: steps.collect(),
+        symbols: symbols
+            .map(|symbol| (*symbol.symbol(), symbol.scopes().map(reversed)))
+            .collect(),
+        scopes: reversed(path.scope_stack()),
+    }
 }
 
 fn order(depth_first: bool) -> SearchOrder {

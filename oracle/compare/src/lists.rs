@@ -1,8 +1,10 @@
 //! Edge lists for calls that replay: mostly taken by the path rules, with faults.
 
+use crate::budget::{Asked, Slots};
 use crate::graph::Graph;
 use crate::path::{Path, replay};
 use crate::random::Random;
+use crate::search::direct;
 
 /// A walk from a reference as far as the rules allow, repeating edges at times,
 /// as a replay may; then perhaps a fault in it.
@@ -18,6 +20,28 @@ pub fn edge_list(random: &mut Random, graph: &Graph, reference: u32) -> Vec<u32>
         3 => edges.insert(random.below(edges.len() + 1), number(random, graph)),
         4..8 => refuse(random, graph, reference, &mut edges),
         _ => {}
+    }
+    edges
+}
+
+/// A path that direct search finds, or the first edges of one; none where there is
+/// no path within a few expansions.
+pub fn found(random: &mut Random, graph: &Graph, reference: u32) -> Vec<u32> {
+    let asked = Asked {
+        depth_first: random.percent(50),
+        length: None,
+        count: Some(200),
+        complete: Some(8),
+    };
+    let Ok(found) = direct(graph, reference, asked, Slots::ENDLESS) else {
+        return vec![];
+    };
+    if found.recorded.is_empty() {
+        return vec![];
+    }
+    let mut edges = random.one_of(&found.recorded).edges.clone();
+    if random.percent(50) {
+        edges.truncate(random.below(edges.len() + 1));
     }
     edges
 }

@@ -17,6 +17,7 @@ mod ours;
 mod partials;
 mod path;
 mod random;
+mod replayed;
 mod report;
 mod requests;
 mod scenes;

@@ -5,6 +5,9 @@ use crate::case::{Call, Case, Outcome};
 #[rustfmt::skip]
 unsafe extern "C" {
     fn pozhdaghi_check(image: *const u8, image_len: usize, answer: *mut u64, answer_len: usize);
+    fn pozhdaghi_replay(image: *const u8, image_len: usize, reference: u32,
+        edges: *const u32, edges_len: usize, path: *mut u32, path_len: usize,
+        answer: *mut u64, answer_len: usize);
     fn pozhdaghi_is_complete(image: *const u8, image_len: usize, reference: u32,
         edges: *const u32, edges_len: usize, answer: *mut u64, answer_len: usize);
     fn pozhdaghi_shadows(image: *const u8, image_len: usize,
@@ -67,6 +70,8 @@ fn call(c: &Case, o: &mut Outcome) {
     unsafe {
         match c.call {
             Call::Check => pozhdaghi_check(image, n, answer, answer_n),
+            Call::Replay => pozhdaghi_replay(image, n, c.number, c.edges.as_ptr(), c.edges.len(),
+                result, result_n, answer, answer_n),
             Call::IsComplete => pozhdaghi_is_complete(image, n, c.number,
                 c.edges.as_ptr(), c.edges.len(), answer, answer_n),
             Call::Shadows => pozhdaghi_shadows(image, n, c.number, c.edges.as_ptr(), c.edges.len(),

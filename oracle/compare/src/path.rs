@@ -2,6 +2,7 @@
 
 use crate::check::Refusal;
 use crate::graph::{Graph, JUMP, Node};
+use crate::replayed::{Passage, Replayed};
 
 /// "A path holds at most 127 edges."
 pub const MOST_EDGES: usize = 127;
@@ -18,6 +19,7 @@ pub struct Path {
     pub end: u32,
     pub edges: Vec<u32>,
     steps: Vec<Step>,
+    passages: Vec<Passage>,
     symbols: Vec<Symbol>,
     scopes: Vec<u32>,
 }
@@ -35,6 +37,7 @@ impl Path {
             end: reference,
             edges: vec![],
             steps: vec![],
+            passages: vec![],
             symbols: vec![],
             scopes: vec![],
         };
@@ -52,10 +55,12 @@ impl Path {
         path.apply(graph.nodes[edge.target as usize], edge.target)?;
         path.edges.push(number);
         path.steps.push((edge.source, edge.precedence));
+        path.passages.push(Passage::Edge(number));
         path.end = edge.target;
         if edge.target == JUMP {
             path.end = path.scopes.pop().ok_or(vec![18, JUMP.into()])?;
             path.steps.push((JUMP, 0));
+            path.passages.push(Passage::Jump(path.end));
         }
         Ok(path)
     }
@@ -102,6 +107,20 @@ impl Path {
     /// Both stacks are empty: a drawn route may end here.
     pub fn is_spent(&self) -> bool {
         self.symbols.is_empty() && self.scopes.is_empty()
+    }
+
+    /// "The path (end, steps, both stacks)", tops first.
+    pub fn replayed(&self) -> Replayed {
+        let reversed = |scopes: &[u32]| scopes.iter().rev().copied().collect::<Vec<_>>();
+        let symbols = self.symbols.iter().rev();
+        Replayed {
+            end: self.end,
+            steps: self.passages.clone(),
+            symbols: symbols
+                .map(|(symbol, scopes)| (*symbol, scopes.as_deref().map(reversed)))
+                .collect(),
+            scopes: reversed(&self.scopes),
+        }
     }
 
     /// "Different sources: no. Left precedence greater: yes. Otherwise go on."

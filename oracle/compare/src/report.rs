@@ -4,6 +4,8 @@ use crate::case::{Call, Case, Outcome};
 use crate::check::check;
 use crate::comparison::{Compared, compare};
 use crate::database::lookup;
+use crate::path::replay;
+use crate::replayed::Passage;
 use std::collections::BTreeMap;
 
 #[derive(Default)]
@@ -18,6 +20,8 @@ pub struct Counts {
     empty_parts: u64,
     paths: u64,
     flags: [u64; 3],
+    /// Replayed paths: all, and those with jumps, symbols, attached scopes, scopes.
+    replayed: [u64; 5],
 }
 
 impl Counts {
@@ -33,12 +37,33 @@ impl Counts {
             .or_default() += 1;
         let is_empty_part = case.call == Call::Lookup && lookup(&case.words, case.number).1 == 0;
         self.empty_parts += u64::from(is_empty_part);
+        if case.call == Call::Replay && compared.number == 0 {
+            self.add_replayed(case);
+            return;
+        }
         let is_search = !case.result.is_empty() && compared.number == 0;
         if is_search && let [_, paths, _, _, _, _, flags @ ..] = &compared.second.answer[..] {
             self.paths += paths;
             for (count, flag) in self.flags.iter_mut().zip(flags) {
                 *count += flag;
             }
+        }
+    }
+
+    fn add_replayed(&mut self, case: &Case) {
+        let graph = check(&case.image).expect("it was replayed");
+        let path = replay(&graph, case.number, &case.edges).expect("it was replayed");
+        let path = path.replayed();
+        let is_jump = |step: &Passage| matches!(step, Passage::Jump(_));
+        let has = [
+            true,
+            path.steps.iter().any(is_jump),
+            !path.symbols.is_empty(),
+            path.symbols.iter().any(|(_, scopes)| scopes.is_some()),
+            !path.scopes.is_empty(),
+        ];
+        for (count, has) in self.replayed.iter_mut().zip(has) {
+            *count += u64::from(has);
         }
     }
 
@@ -57,6 +82,11 @@ impl Counts {
         let [length, count, complete] = self.flags;
         println!("lookups with an empty part {}", self.empty_parts);
         println!("paths in result slots {}", self.paths);
+        let [replayed, jumps, symbols, attached, scopes] = self.replayed;
+        println!(
+            "replayed paths {replayed}: with jumps {jumps}, with symbols {symbols}, \
+             with attached scopes {attached}, with scopes {scopes}"
+        );
         println!("flags: length {length}, path count {count}, complete paths {complete}");
         println!(
             "cases {}, of these also put to the given Rust {}",

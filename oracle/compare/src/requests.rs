@@ -6,6 +6,7 @@ use crate::case::{Call, Case, LONGEST_ANSWER};
 use crate::check::check;
 use crate::graph::Graph;
 use crate::partials::compute;
+use crate::path::replay;
 use crate::random::Random;
 use crate::second::found;
 
@@ -28,6 +29,9 @@ const GUESS: Needs = Needs {
     waiting: 8,
     is_endless: false,
 };
+
+/// A refused replay leaves zeros: the end and three empty lists.
+const REFUSED_PATH: usize = 4;
 
 /// Areas are seldom larger than so many slots: filling them would take the time.
 const MOST_DRAWN: usize = 400;
@@ -85,6 +89,20 @@ pub fn answer_length(random: &mut Random) -> usize {
     } else {
         random.below(13)
     }
+}
+
+/// Words for a replayed path: mostly as many as it has, or some more; at times too
+/// few, or none.
+pub fn path_area(random: &mut Random, graph: &Graph, reference: u32, edges: &[u32]) -> Vec<u32> {
+    let words = replay(graph, reference, edges).map(|path| path.replayed().words());
+    let need = words.map_or(REFUSED_PATH, |words| words.len());
+    let count = match random.below(10) {
+        0 => random.below(need + 1),
+        1 => need.saturating_sub(1),
+        2 | 3 => need,
+        _ => need + random.below(40),
+    };
+    random.rubbish(count)
 }
 
 fn numbers(asked: Asked) -> Vec<u64> {

@@ -32,7 +32,7 @@ pub fn scene(random: &mut Random) -> Vec<Case> {
     cases
 }
 
-/// Direct and linear searches, and what is judged of paths.
+/// Direct and linear searches, replays, and what is judged of paths.
 fn searches(random: &mut Random, graph: &Graph) -> Vec<Case> {
     let image = graph.image();
     let mut cases = Vec::new();
@@ -42,6 +42,7 @@ fn searches(random: &mut Random, graph: &Graph) -> Vec<Case> {
     }
     for _ in 0..4 {
         cases.push(judgement(random, graph, &image));
+        cases.push(replay(random, graph, &image));
     }
     cases
 }
@@ -58,6 +59,19 @@ fn search(
     case.number = requests::reference(random, graph);
     case.words = words.to_vec();
     requests::complete(random, &mut case).then_some(case)
+}
+
+fn replay(random: &mut Random, graph: &Graph, image: &[u8]) -> Case {
+    let mut case = Case::new(Call::Replay, image);
+    case.number = requests::reference(random, graph);
+    case.edges = if random.percent(30) {
+        lists::found(random, graph, case.number)
+    } else {
+        lists::edge_list(random, graph, case.number)
+    };
+    case.result = requests::path_area(random, graph, case.number, &case.edges);
+    case.answer_length = requests::answer_length(random);
+    case
 }
 
 fn judgement(random: &mut Random, graph: &Graph, image: &[u8]) -> Case {
@@ -197,8 +211,9 @@ fn other_call(random: &mut Random, graph: &Graph, image: &[u8]) -> Option<Case> 
     if random.percent(30) {
         slots::spoil(random, &mut words);
     }
-    match random.below(6) {
+    match random.below(7) {
         0 => Some(judgement(random, graph, image)),
+        6 => Some(replay(random, graph, image)),
         1 => Some(fresh(random, image, words.len())),
         2 => {
             let file = number_about(random, graph.files);

@@ -15,6 +15,7 @@ pub fn run(case: &Case) -> Outcome {
 fn answered(case: &Case) -> Result<Outcome, Refusal> {
     match case.call {
         Call::Check => checked(case),
+        Call::Replay => replayed(case),
         Call::IsComplete => is_complete(case),
         Call::Shadows => shadows(case),
         Call::Direct
@@ -33,6 +34,15 @@ fn checked(case: &Case) -> Result<Outcome, Refusal> {
     let graph = check(&case.image)?;
     let counts = [graph.files, graph.nodes.len(), graph.edges.len()].map(|count| count as u64);
     Ok(Outcome::new(case, [&[0], &counts[..]].concat()))
+}
+
+/// "Answers the path (end, steps, both stacks), or the first refusal."
+fn replayed(case: &Case) -> Result<Outcome, Refusal> {
+    let graph = check(&case.image)?;
+    let path = replay(&graph, case.number, &case.edges)?;
+    let mut outcome = Outcome::new(case, vec![0]);
+    outcome.put_replayed(&path.replayed());
+    Ok(outcome)
 }
 
 fn is_complete(case: &Case) -> Result<Outcome, Refusal> {

@@ -53,7 +53,7 @@ use Rattle.partial.specs.declared.compute.Computed.the-variants.{Done, F
 use Rattle.partial.specs.declared.replace.Sizes.{Sizes}
 use Rattle.partial.specs.Rounds.{Driving, Ends, runFrom, DrivenTo}
 use Rattle.partial_trial.specs.Seeds.{Seeding, Seeded}
-use Rattle.partial.specs.Requests.{askedBy, routesOf, Computing, ComputedTo, Storing, Replacing, Inspecting, replacedOn, inspectedOn, Leaves, Does}
+use Rattle.partial.specs.Requests.{askedBy, routesOf, Computing, ComputedTo, FiledTo, Storing, Replacing, Inspecting, replacedOn, inspectedOn, Leaves, Does}
 
 -- ---- seeding counts nothing
 
@@ -186,6 +186,14 @@ module _ (f : Filing) (db db′ : List ℕ) where
 
 -- ---- the found paths filed
 
+module _ (index : List ℕ) (nodes : ℕ) (f : Filing) (c : Config) (ws db : List ℕ) where
+  pub filed-by : (a : Computed) (db′ : List ℕ) → ComputedTo index nodes f c ws db a db′ → FiledTo index nodes f c ws db db′
+  filed-by a db′ h g loaded counted u e = ends-filed f db db′ a (routesOf g (askedBy c ws (f .file))) u (h g loaded counted) e
+
+  -- without room no computation is needed
+  pub filed-without : f .room ≡ 0 → FiledTo index nodes f c ws db db
+  filed-without z g loaded counted u e = sym (filed-nowhere f (u .kept) db z)
+
 module _ (index : List ℕ) (n : Sizes) (f : Filing) (c : Config) (ws db : List ℕ) (v : Storing index n f c ws db) where
   pub store-clears : Whole base db
   store-clears = omega (arith, v .first, v .fits .inside)
@@ -196,12 +204,12 @@ module _ (index : List ℕ) (n : Sizes) (f : Filing) (c : Config) (ws db : List 
   pub store-heads : (db′ : List ℕ) → length db′ ≡ length db → 3 ≤ length db′
   store-heads db′ l = omega (arith, l, v .fits .inside)
 
-  pub stored-is : (db₁ : List ℕ) → db₁ ≡ cleared base (f .file) db → (a : Computed) (db₂ : List ℕ) → ComputedTo index (n .nodes) f c ws db₁ a db₂ → (db₃ : List ℕ) → db₃ ≡ headed (f .first + f .room) (n .nodes) (n .files) db₂
+  pub stored-is : (db₁ : List ℕ) → db₁ ≡ cleared base (f .file) db → (db₂ : List ℕ) → FiledTo index (n .nodes) f c ws db₁ db₂ → (db₃ : List ℕ) → db₃ ≡ headed (f .first + f .room) (n .nodes) (n .files) db₂
       → db₃ ≡ replaceWords base (v .graph) (f .file) (v .found) db
   unfolding filedIn
-  stored-is db₁ p a db₂ h db₃ q =
+  stored-is db₁ p db₂ h db₃ q =
       let k = v .found .kept in
-      let w : db₂ ≡ putRoutes base (f .file) (f .first) (take (f .room) k) db₁ = ends-filed f db₁ db₂ a (routesOf (v .graph) (askedBy c ws (f .file))) (v .found) (h (v .graph) (v .loaded) (v .nodes)) (v .is) in
+      let w : db₂ ≡ putRoutes base (f .file) (f .first) (take (f .room) k) db₁ = h (v .graph) (v .loaded) (v .nodes) (v .found) (v .is) in
       let t : take (f .room) k ≡ k = take-all (f .room) k (omega (arith, v .room)) in
       let y : db₂ ≡ putRoutes base (f .file) (usedIn db) k (cleared base (f .file) db) =
       w ∙ ap (λ (l : List Route). putRoutes base (f .file) (f .first) l db₁) t ∙ ap (λ (i : ℕ). putRoutes base (f .file) i k db₁) (v .first) ∙ ap (putRoutes base (f .file) (usedIn db) k) p in

@@ -2,13 +2,14 @@
 -- Serves document 01, "Partial paths" and "Budget and frontier"; 36 of "Turned back".
 use Prim.Native.Nat.{ℕ, zero, suc, _+_, _-_, _*_, _<_, _≤_}
 use native.Mathlib.Omega.{arith}
+use native.Mathlib.Nat.{le-trans, mul-le-mul-right}
 use mathlib.Core.Path.{_≡_, refl, sym, ap, subst, _∙_}
-use mathlib.Core.Logic.{_⊎_, inr, ⊎-elim}
+use mathlib.Core.Logic.{_⊎_, inl, inr, ⊎-elim}
 use mathlib.Core.Bool.{Bool, true, false}
 use mathlib.Core.List.{List, [], _∷_, _++_, append-nil}
 use borrow.Rule.Slice.PartMut.{putMid, post-is}
 use lib.ListN.{length, take, drop, getD, length-map, length-drop, length-append, drop-of-length-le}
-use lib.Seq.{take-length, take-at, take-append-le, length-take-le}
+use lib.Seq.{take-at, take-append-le, length-take-le}
 use Rattle.semantics.specs.declared.graph.Edge.{Edge}
 use Rattle.semantics.specs.declared.search.SearchStats.{SearchStats}
 use Rattle.semantics.specs.declared.search.PartialPathStats.{PartialPathStats}
@@ -36,14 +37,14 @@ use Rattle.partial_state.specs.Routes.{held, endsIn, endsOf, Waiting}
 use Rattle.partial_state.specs.Routes.Laws.{held-long, held-count, held-carries, held-padded, held-ends}
 use Rattle.database.specs.Filing.{putRoutes}
 use Rattle.partial_state.specs.Filings.{filedIn}
-use Rattle.partial_state.specs.Extractions.{Computation, Course, goes, stops, Opening, closing, opening, exceeding, partialOf, withFrontier, slottedBy, Taking, Grows}
+use Rattle.partial_state.specs.Extractions.{Computation, Course, goes, stops, Opening, closing, opening, exceeding, partialOf, withFrontier, slottedBy, Taking}
 use Rattle.partial_state.specs.Reps.{Counts, frameOf, settingOf, Rep, Tells}
 use Rattle.partial_state.specs.Reps.Laws.{untouched, tells-on, tells-refused, rep-wider, rep-grows}
 use Rattle.partial_state.specs.Reps.Rounds.{Opened, round-over, round-expand, round-many}
 use Rattle.partial.specs.declared.compute.Computed.the-variants.{Done, Filed, Refused}
 use Rattle.partial_trial.specs.Expansions.{Roomy, Expanding, triesOf, Expanded}
 use Rattle.partial.specs.Rounds.Kept.{merged-kept}
-use Rattle.partial.specs.Rounds.{MadeRoom, Rounding, Rounded, Driving, Ends, runFrom, DrivenTo}
+use Rattle.partial.specs.Rounds.{Grown, MadeRoom, Rounding, Rounded, Driving, Ends, runFrom, DrivenTo}
 use Rattle.partial_trial.specs.Expansions.Edges.{fits-same}
 
 -- ---- one round
@@ -94,9 +95,6 @@ module _ (most : ℕ) (index : List ℕ) (f : Filing) (item : List ℕ) (x : Com
 
 -- ---- room for one more edge
 
-take-whole : (L : ℕ) (l : List ℕ) → length l ≡ L → take L l ≡ l
-take-whole L l e = ap (λ (n : ℕ). take n l) (sym e) ∙ take-length l
-
 -- the words of a route in the front of the item
 front-count : (L : ℕ) (item : List ℕ) → 0 < L → getD (take L item) 0 0 ≡ getD item 0 0
 front-count zero item h = absurd (omega (arith, h))
@@ -133,28 +131,32 @@ round-same most index f item item′ x ws db e v = record {
   small = v .small;
 }
 
+-- longer slots lie in the area if slots of full length do
+pub wider-yet : (f : Frontier) (ws : List ℕ) (L : ℕ) → f .length < L → L ≤ 128 → Wider f ws 128 → Wider f ws L
+wider-yet f ws L h most w = record { longer = omega (arith, h); room = le-trans (mul-le-mul-right (f .capacity) most) (w .room) }
+
 module _ (x : Computation) (item ws : List ℕ) (y : Computation) (item′ ws′ : List ℕ) (made : MadeRoom x item ws y item′ ws′) where
-  wider-is : Grows x ws 128 y ws′ → y ≡ withFrontier (widened (x .frontier) 128) x
-  wider-is h = h .is ∙ ap (λ (n : Frontier). withFrontier n x) (h .widens .is)
+  wider-is : (m : Grown x item ws y item′ ws′) → y ≡ withFrontier (widened (x .frontier) (m .words)) x
+  wider-is m = m .grows .is ∙ ap (λ (n : Frontier). withFrontier n x) (m .grows .widens .is)
 
   -- only the words of a slot have changed
   pub room-frame : frameOf y ≡ slottedBy (y .frontier .length) (frameOf x)
   room-frame = ⊎-elim
       (λ (m : (y ≡ x) × (item′ ≡ item) × (ws′ ≡ ws) × Roomy (getD item 0 0) (x .frontier .length)). ap (λ (z : Computation). slottedBy (y .frontier .length) (frameOf z)) (m .0))
-      (λ (m : Grows x ws 128 y ws′ × (item′ ≡ take (x .frontier .length) item ++ zeros (128 - x .frontier .length))). subst (λ (z : Computation). frameOf z ≡ slottedBy (z .frontier .length) (frameOf x)) (sym (wider-is (m .0))) refl)
+      (λ (m : Grown x item ws y item′ ws′). subst (λ (z : Computation). frameOf z ≡ slottedBy (z .frontier .length) (frameOf x)) (sym (wider-is m)) refl)
       made
 
   pub room-limit : y .budget ≡ x .budget
   room-limit = ⊎-elim
       (λ (m : (y ≡ x) × (item′ ≡ item) × (ws′ ≡ ws) × Roomy (getD item 0 0) (x .frontier .length)). ap (λ (z : Computation). z .budget) (m .0))
-      (λ (m : Grows x ws 128 y ws′ × (item′ ≡ take (x .frontier .length) item ++ zeros (128 - x .frontier .length))). ap (λ (z : Computation). z .budget) (wider-is (m .0)))
+      (λ (m : Grown x item ws y item′ ws′). ap (λ (z : Computation). z .budget) (wider-is m))
       made
 
   module _ (g : View) (f : Filing) (origin db : List ℕ) (m : State Route) (rep : Rep g f origin x ws db m) where
     pub room-rep : Rep g f origin y ws′ db m
     room-rep = ⊎-elim
         (λ (k : (y ≡ x) × (item′ ≡ item) × (ws′ ≡ ws) × Roomy (getD item 0 0) (x .frontier .length)). subst (λ (z : Computation). Rep g f origin z ws′ db m) (sym (k .0)) (subst (λ (z : List ℕ). Rep g f origin x z db m) (sym (k .2)) rep))
-        (λ (k : Grows x ws 128 y ws′ × (item′ ≡ take (x .frontier .length) item ++ zeros (128 - x .frontier .length))). rep-grows g f origin x ws db m rep y ws′ (k .0))
+        (λ (k : Grown x item ws y item′ ws′). rep-grows g f origin x ws db m rep (k .words) (omega (arith, k .longer)) (k .most) y ws′ (k .grows))
         made
 
     module _ (r : Route) (words : take (x .frontier .length) item ≡ held (x .frontier .length) r) (good : Waiting g (f .file) (x .frontier .length) r) where
@@ -165,23 +167,24 @@ module _ (x : Computation) (item ws : List ℕ) (y : Computation) (item′ ws′
       pub room-words : take (y .frontier .length) item′ ≡ held (y .frontier .length) r
       room-words = ⊎-elim
           (λ (k : (y ≡ x) × (item′ ≡ item) × (ws′ ≡ ws) × Roomy (getD item 0 0) (x .frontier .length)). subst (λ (z : Computation). take (z .frontier .length) item′ ≡ held (z .frontier .length) r) (sym (k .0)) (ap (take (x .frontier .length)) (k .1) ∙ words))
-          (λ (k : Grows x ws 128 y ws′ × (item′ ≡ take (x .frontier .length) item ++ zeros (128 - x .frontier .length))).
+          (λ (k : Grown x item ws y item′ ws′).
           let L : ℕ = x .frontier .length in
-          let e : item′ ≡ held 128 r = k .1 ∙ ap (λ (l : List ℕ). l ++ zeros (128 - L)) words ∙ padded-is 128 L (held L r) (held-long L r) ∙ held-padded 128 L r (rep .sized .start) (rep .sized .most) (good .1) in
-          subst (λ (z : Computation). take (z .frontier .length) item′ ≡ held (z .frontier .length) r) (sym (wider-is (k .0))) (ap (take 128) e ∙ take-whole 128 (held 128 r) (held-long 128 r)))
+          let M : ℕ = k .words in
+          let e : item′ ≡ held 128 r = k .rest ∙ ap (λ (l : List ℕ). l ++ zeros (128 - L)) words ∙ padded-is 128 L (held L r) (held-long L r) ∙ held-padded 128 L r (rep .sized .start) (rep .sized .most) (good .1) in
+          subst (λ (z : Computation). take (z .frontier .length) item′ ≡ held (z .frontier .length) r) (sym (wider-is k)) (ap (take M) (e ∙ sym (held-padded 128 M r (omega (arith, rep .sized .start, k .longer)) (k .most) (omega (arith, good .1, k .longer))) ∙ sym (padded-is 128 M (held M r) (held-long M r))) ∙ take-at (held M r) (zeros (128 - M)) M (held-long M r)))
           made
 
       pub room-good : Waiting g (f .file) (y .frontier .length) r
       room-good = ⊎-elim
           (λ (k : (y ≡ x) × (item′ ≡ item) × (ws′ ≡ ws) × Roomy (getD item 0 0) (x .frontier .length)). subst (λ (z : Computation). Waiting g (f .file) (z .frontier .length) r) (sym (k .0)) good)
-          (λ (k : Grows x ws 128 y ws′ × (item′ ≡ take (x .frontier .length) item ++ zeros (128 - x .frontier .length))).
-          subst (λ (z : Computation). Waiting g (f .file) (z .frontier .length) r) (sym (wider-is (k .0))) (good .0, omega (arith, good .0 .short)))
+          (λ (k : Grown x item ws y item′ ws′).
+          subst (λ (z : Computation). Waiting g (f .file) (z .frontier .length) r) (sym (wider-is k)) (good .0, omega (arith, good .1, k .longer)))
           made
 
       pub room-roomy : Roomy (length (r .edges)) (y .frontier .length)
       room-roomy = ⊎-elim
           (λ (k : (y ≡ x) × (item′ ≡ item) × (ws′ ≡ ws) × Roomy (getD item 0 0) (x .frontier .length)). subst (λ (z : Computation). Roomy (length (r .edges)) (z .frontier .length)) (sym (k .0)) (subst (λ (n : ℕ). Roomy n (x .frontier .length)) counted (k .3)))
-          (λ (k : Grows x ws 128 y ws′ × (item′ ≡ take (x .frontier .length) item ++ zeros (128 - x .frontier .length))). inr (ap (λ (z : Computation). z .frontier .length) (wider-is (k .0))))
+          (λ (k : Grown x item ws y item′ ws′). subst (λ (z : Computation). Roomy (length (r .edges)) (z .frontier .length)) (sym (wider-is k)) (inl (omega (arith, good .1, k .longer))))
           made
 
 -- ---- the run

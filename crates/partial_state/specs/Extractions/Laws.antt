@@ -107,13 +107,13 @@ module _ (fr : Frame) (p : Extraction) (f : Frontier) (is : f ≡ at fr p .front
       record { popped = a; pops = pops fr p f is ws a item ws′ h; is = rw (e, answers fr p f is ws a item ws′ h n e b same d asked q made true k, lt-leb 16777216 (p .expanded) m) (ap (λ (y : Computation). opening y) u) }
 
 -- ---- longer slots
-module _ (fr : Frame) (p : Extraction) (f : Frontier) (is : f ≡ at fr p .frontier) (ws : List ℕ) where
-  pub widen-given : Wider (at fr p .frontier) ws 128 → Framed (at fr p .frontier) ws → Framed f ws × Wider f ws 128
-  widen-given w ok = subst (λ (y : Frontier). Framed y ws × Wider y ws 128) (sym is) (ok, w)
+module _ (fr : Frame) (p : Extraction) (f : Frontier) (is : f ≡ at fr p .frontier) (ws : List ℕ) (L : ℕ) where
+  pub widen-given : Wider (at fr p .frontier) ws L → Framed (at fr p .frontier) ws → Framed f ws × Wider f ws L
+  widen-given w ok = subst (λ (y : Frontier). Framed y ws × Wider y ws L) (sym is) (ok, w)
 
-  pub widened-grows : (n : Frontier) (ws′ : List ℕ) → Widens f ws 128 n ws′ → (r : Frame) → r ≡ slottedBy 128 fr → Grows (at fr p) ws 128 (at r p) ws′
+  pub widened-grows : (n : Frontier) (ws′ : List ℕ) → Widens f ws L n ws′ → (r : Frame) → r ≡ slottedBy L fr → Grows (at fr p) ws L (at r p) ws′
   widened-grows n ws′ w r e =
-      let v : Widens (at fr p .frontier) ws 128 n ws′ = subst (λ (y : Frontier). Widens y ws 128 n ws′) is w in
+      let v : Widens (at fr p .frontier) ws L n ws′ = subst (λ (y : Frontier). Widens y ws L n ws′) is w in
       record { frontier = n; widens = v; is = ap (λ (y : Frame). at y p) e ∙ sym (ap (λ (y : Frontier). withFrontier y (at fr p)) (v .is)) }
 
 -- ---- the beginning

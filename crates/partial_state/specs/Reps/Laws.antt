@@ -130,19 +130,19 @@ module _ (g : View) (f : Filing) (origin : List ℕ) (x : Computation) (ws db : 
   pub rep-wider : Wider (x .frontier) ws 128
   rep-wider = record { longer = rep .sized .most; room = rep .sized .room }
 
-  pub rep-grows : (y : Computation) (ws′ : List ℕ) → Grows x ws 128 y ws′ → Rep g f origin y ws′ db m
-  rep-grows y ws′ h = subst (λ (z : Computation). Rep g f origin z ws′ db m) (sym (h .is ∙ ap (λ (n : Frontier). withFrontier n x) (h .widens .is))) (record {
-    sized = record { start = omega arith; most = omega arith; room = omega (arith, rep .sized .room, h .widens .same-length) };
+  pub rep-grows : (L : ℕ) → x .frontier .length ≤ L → L ≤ 128 → (y : Computation) (ws′ : List ℕ) → Grows x ws L y ws′ → Rep g f origin y ws′ db m
+  rep-grows L longer most y ws′ h = subst (λ (z : Computation). Rep g f origin z ws′ db m) (sym (h .is ∙ ap (λ (n : Frontier). withFrontier n x) (h .widens .is))) (record {
+    sized = record { start = omega (arith, rep .sized .start, longer); most = most; room = omega (arith, rep .sized .room, h .widens .same-length) };
     stands =
         let v = h .widens .waits (map (held (x .frontier .length)) (m .rest)) (map (held (x .frontier .length)) (m .pending)) (rep .stands) in
-        let a = all-padded 128 (rep .sized .most) (m .rest) (λ r i. rep .traced r (inl i) .1) in
-        let b = all-padded 128 (rep .sized .most) (m .pending) (λ r i. rep .traced r (inr i) .1) in
-        subst (λ (n : Frontier). Waits n ws′ (map (held 128) (m .rest)) (map (held 128) (m .pending))) (h .widens .is)
-        (subst (λ (l : List (List ℕ)). Waits (h .frontier) ws′ (map (held 128) (m .rest)) l) b (subst (λ (l : List (List ℕ)). Waits (h .frontier) ws′ l (map (padded 128) (map (held (x .frontier .length)) (m .pending)))) a v));
+        let a = all-padded L longer (m .rest) (λ r i. rep .traced r (inl i) .1) in
+        let b = all-padded L longer (m .pending) (λ r i. rep .traced r (inr i) .1) in
+        subst (λ (n : Frontier). Waits n ws′ (map (held L) (m .rest)) (map (held L) (m .pending))) (h .widens .is)
+        (subst (λ (l : List (List ℕ)). Waits (h .frontier) ws′ (map (held L) (m .rest)) l) b (subst (λ (l : List (List ℕ)). Waits (h .frontier) ws′ l (map (padded L) (map (held (x .frontier .length)) (m .pending)))) a v));
     counts = record { stats = rep .counts .stats; found = rep .counts .found };
     few = rep .few;
     filed = rep .filed;
-    traced = λ r k. let w = rep .traced r k in (w .0, omega (arith, w .1, rep .sized .most));
+    traced = λ r k. let w = rep .traced r k in (w .0, omega (arith, w .1, longer));
   })
 
 -- ---- a route that was extended

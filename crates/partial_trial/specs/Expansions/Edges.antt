@@ -10,11 +10,12 @@ use Rattle.semantics.specs.declared.refusal.PartialPathRefusal.{PartialPathRefu
 use Rattle.semantics.specs.Lists.{pick, select}
 use Rattle.semantics.specs.Answer.{Answer, ok, refuse}
 use Rattle.semantics.specs.Answer.Laws.{ok-inj, refuse-ok}
-use Rattle.semantics.specs.Graph.{View, viewOf}
+use Rattle.semantics.specs.declared.graph.Node.{Node}
+use Rattle.semantics.specs.Graph.{View, viewOf, fileOf, isFile}
 use Rattle.semantics.specs.Enumeration.{State, Setting, Try, one, each}
 use Rattle.semantics.specs.Enumeration.Statistics.{one-moved}
 use Rattle.semantics.specs.PartialPaths.{Route, belongs, routeTries}
-use Rattle.storage.specs.Rows.{firstRow, nextRow, Runs}
+use Rattle.storage.specs.Rows.{nodeRow, firstRow, nextRow, Runs}
 use Rattle.storage.specs.Rows.Use.{runs-end, runs-next, left, left-less, out-bounded}
 use Rattle.search_state.specs.Items.{Carries}
 use Rattle.partial_state.specs.declared.route.Ends.{Ends}
@@ -24,7 +25,7 @@ use Rattle.partial_state.specs.Filings.{Fits}
 use Rattle.partial_state.specs.Routes.{Waiting}
 use Rattle.partial_state.specs.Reps.{frameOf, settingOf, Rep, Tells}
 use Rattle.partial_state.specs.Reps.Laws.{tells-on, tells-refused}
-use Rattle.partial_trial.specs.Expansions.{Roomy, Given, Looking, judgeOf, Looked, Expanding, triesOf, Expanded}
+use Rattle.partial_trial.specs.Expansions.{Roomy, Given, Looking, Owning, judgeOf, Looked, Expanding, triesOf, Expanded}
 use Rattle.partial_state.specs.Extractions.{Computation, Course, goes, stops}
 
 -- ---- one edge of a list
@@ -133,6 +134,14 @@ module _ (most : ℕ) (index : List ℕ) (f : Filing) (ends : Ends) (k : ℕ) (i
             };
             leaves = mid .leave (link - 1) (subst (λ (l : List ℕ). List·Memᴰ (link - 1) l) (sym (r .1)) (List·Memᴰ·head refl));
           }
+
+      -- whether the route's end is of the file is asked once
+      pub mid-known : (own : Bool) → own ≡ isFile (f .file) (fileOf (nodeRow index (ends .end))) → own ≡ isFile (f .file) (fileOf (viewOf (mid-given .given .graph) .node (mid-given .given .route .current)))
+      unfolding mid-given
+      mid-known own q = q ∙ ap (λ (m : ℕ). isFile (f .file) (fileOf (nodeRow index m))) (w .stands) ∙ ap (λ (y : Node). isFile (f .file) (fileOf y)) (v .loaded .node (v .route .current))
+
+      abbrev pub mid-owning : (own : Bool) → own ≡ isFile (f .file) (fileOf (nodeRow index (ends .end))) → Owning n index f (ends .start) k (link - 1) item on ws db own
+      mid-owning own q = record { looking = mid-given; known = mid-known own q }
 
       module _ (a : Course) (item′ ws′ db′ : List ℕ) (t : Looked n index f (ends .start) k (link - 1) item on ws db mid-given a item′ ws′ db′) where
         abbrev looking : Answer PartialPathRefusal (State Route)

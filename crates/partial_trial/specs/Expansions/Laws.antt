@@ -1,6 +1,6 @@
 -- One edge on the route under expansion: what is counted, found, filed and pushed is what the enumeration does.
 -- Serves document 01, "Partial paths".
-use Prim.Native.Nat.{ℕ, suc, _+_, _-_, _<_, _≤_, _^_}
+use Prim.Native.Nat.{ℕ, suc, _+_, _*_, _-_, _<_, _≤_, _^_}
 use native.Mathlib.Omega.{arith}
 use mathlib.Core.Path.{_≡_, refl, sym, ap, subst, _∙_}
 use mathlib.Core.Logic.{⊎-elim}
@@ -19,11 +19,12 @@ use Rattle.semantics.specs.declared.refusal.PartialPathRefusal.the-variants.{To
 use Rattle.semantics.specs.Lists.{or, has}
 use Rattle.semantics.specs.Lists.Laws.{length-snoc}
 use Rattle.semantics.specs.Limits.{base, within}
-use Rattle.semantics.specs.Graph.{Graph, View, viewOf, fileOf, isFile, isEndpoint}
+use Rattle.semantics.specs.Graph.{nodeId, Graph, View, viewOf, fileOf, isFile, isEndpoint}
 use Rattle.semantics.specs.Graph.Laws.{viewOf-lawful}
 use Rattle.semantics.specs.Enumeration.{cut, overlong, stop, one, judged}
 use Rattle.semantics.specs.PartialPaths.{Route, isOfFile, belongs, targetOf, longer, ifRoom, ifShort, unlessCycle, judgeRoute}
-use Rattle.storage.specs.Rows.{nodeRow, edgeRow, Loaded}
+use Rattle.storage.specs.Rows.{BLOCK, nodeRow, edgeRow, targetRow, Loaded}
+use Rattle.storage.specs.Rows.Laws.{edge-inside, target-row}
 use Rattle.budget.specs.declared.path_budget.Budget.{Budget}
 use Rattle.budget.specs.declared.path_budget.Admitted.{Admitted}
 use Rattle.budget.specs.Budget.{lengthening}
@@ -37,7 +38,7 @@ use Rattle.partial_state.specs.Routes.Laws.{held-count, held-snoc, traced-snoc}
 use Rattle.partial_state.specs.Extractions.{Computation, Course, goes, stops, withBudget, cutOne}
 use Rattle.partial_state.specs.Reps.{frameOf, settingOf, Tells, Extendable, ExtendsTo}
 use Rattle.partial_state.specs.Reps.Laws.{untouched, lookedAt, rep-looked, rep-cut, rep-overlong}
-use Rattle.partial_trial.specs.Expansions.{Given, Looking, Trying, judgeOf, Lengthened, Tried, Looked}
+use Rattle.partial_trial.specs.Expansions.{Given, Looking, Owning, Trying, judgeOf, Lengthened, Tried, Looked}
 
 -- ---- the judgement, test by test
 
@@ -139,6 +140,12 @@ module _ (most : ℕ) (index : List ℕ) (f : Filing) (start k e : ℕ) (item : 
   pub longer-room : k < 127 → k + 1 < x .frontier .length
   longer-room h = ⊎-elim (λ (r : k + 1 < x .frontier .length). r) (λ (r : x .frontier .length ≡ 128). omega (arith, r, h)) (v .room)
 
+  -- its edge is live, so it has a block
+  pub longer-inside : BLOCK * e < length index
+  longer-inside =
+      let l = viewOf-lawful (v .graph) .live (v .route .current) e (t .looking .leaves) in
+      edge-inside index e (nodeId (v .route .current)) (l .0) (l .1) (v .loaded .edge e ∙ l .2)
+
   module _ (short : k < 127) (item′ : List ℕ) (made : item′ ≡ withEdge item k e) where
     grown : item′ ≡ held (x .frontier .length) longerBy
     grown =
@@ -166,9 +173,12 @@ module _ (most : ℕ) (index : List ℕ) (f : Filing) (start k e : ℕ) (item : 
       fits = v .fits;
     }
 
-    module _ (end : ℕ) (reads : end ≡ targetOf (edgeRow index e)) (b : Bool) (is : b ≡ isEndpoint (nodeRow index end)) where
+    module _ (end : ℕ) (reads : end ≡ targetRow index e) (b : Bool) (is : b ≡ isEndpoint (nodeRow index end)) where
       end-is : end ≡ targetOf (g .edge e)
-      end-is = reads ∙ ap targetOf (v .loaded .edge e)
+      unfolding targetOf
+      end-is =
+          let l = viewOf-lawful (v .graph) .live (v .route .current) e (t .looking .leaves) in
+          reads ∙ target-row index e (nodeId (v .route .current)) (l .0) (l .1) (v .loaded .edge e ∙ l .2) ∙ sym (ap targetOf (l .2))
 
       endpoint-is : b ≡ isEndpoint (g .node (targetOf (g .edge e)))
       endpoint-is = is ∙ ap isEndpoint (v .loaded .node end) ∙ ap (λ (n : ℕ). isEndpoint (g .node n)) end-is
@@ -185,11 +195,27 @@ module _ (most : ℕ) (index : List ℕ) (f : Filing) (start k e : ℕ) (item : 
 
 -- ---- an edge that leaves the route's end
 
-module _ (most : ℕ) (index : List ℕ) (f : Filing) (start k e : ℕ) (item : List ℕ) (x : Computation) (ws db : List ℕ) (l : Looking most index f start k e item x ws db) where
-  module _ (o : Edge) (read : o ≡ edgeRow index e) (b : Bool) (is : (h : Graph) → Loaded h index → b ≡ isOfFile (viewOf h) (f .file) o) where
+module _ (most : ℕ) (index : List ℕ) (f : Filing) (start k e : ℕ) (item : List ℕ) (x : Computation) (ws db : List ℕ) (own : Bool) (o : Owning most index f start k e item x ws db own) where
+  abbrev l : Looking most index f start k e item x ws db
+  l = o .looking
+
+  abbrev live : (t : NodeId) × (p : ℤ) × (viewOf (l .given .graph) .edge e ≡ E.Live (nodeId (l .given .route .current)) t p)
+  live = viewOf-lawful (l .given .graph) .live (l .given .route .current) e (l .leaves)
+
+  pub looking-inside : BLOCK * e < length index
+  looking-inside = edge-inside index e (nodeId (l .given .route .current)) (live .0) (live .1) (l .given .loaded .edge e ∙ live .2)
+
+  module _ (b : Bool) (is : b ≡ or own (isFile (f .file) (fileOf (nodeRow index (targetRow index e))))) where
     owned-is : b ≡ belongs (viewOf (l .given .graph)) (f .file) e
-    unfolding belongs
-    owned-is = is (l .given .graph) (l .given .loaded) ∙ ap (isOfFile (viewOf (l .given .graph)) (f .file)) (read ∙ l .given .loaded .edge e)
+    unfolding belongs isOfFile
+    owned-is =
+        let g = viewOf (l .given .graph) in
+        let t : targetRow index e ≡ live .0 .0 = target-row index e (nodeId (l .given .route .current)) (live .0) (live .1) (l .given .loaded .edge e ∙ live .2) in
+        let n : nodeRow index (targetRow index e) ≡ g .node (live .0 .0) = ap (nodeRow index) t ∙ l .given .loaded .node (live .0 .0) in
+        is
+        ∙ ap (λ (c : Bool). or c (isFile (f .file) (fileOf (nodeRow index (targetRow index e))))) (o .known)
+        ∙ ap (λ (y : Node). or (isFile (f .file) (fileOf (g .node (l .given .route .current)))) (isFile (f .file) (fileOf y))) n
+        ∙ sym (ap (isOfFile g (f .file)) (live .2))
 
     pub looking-tries : b ≡ true → Trying most index f start k e item x ws db
     looking-tries h = record { looking = l; owned = sym owned-is ∙ h }
@@ -200,23 +226,3 @@ module _ (most : ℕ) (index : List ℕ) (f : Filing) (start k e : ℕ) (item : 
 
     pub looked-not : b ≡ false → Looked most index f start k e item x ws db l (goes x) item ws db
     looked-not h = record { tells = rw (sym owned-is ∙ h) (refl, l .given .rep); carries = l .given .carries }
-
--- ---- either end
-
-module _ (g : Graph) (index : List ℕ) (loaded : Loaded g index) (file : ℕ) where
-  pub ends-read : (n : ℕ) (o : Node) (b : Bool) → o ≡ nodeRow index n → b ≡ isFile file (fileOf o) → b ≡ isFile file (fileOf (viewOf g .node n))
-  ends-read n o b p q = q ∙ ap (λ (y : Node). isFile file (fileOf y)) (p ∙ loaded .node n)
-
-  module _ (o : Edge) where
-    pub of-removed : o ≡ E.Removed → false ≡ isOfFile (viewOf g) file o
-    unfolding isOfFile
-    of-removed h = sym (ap (isOfFile (viewOf g) file) h)
-
-    module _ (s t : NodeId) (p : ℤ) (h : o ≡ E.Live s t p) (n : Node) (b : Bool) (reads : n ≡ nodeRow index (s .0)) (is : b ≡ isFile file (fileOf n)) where
-      pub of-source : b ≡ true → true ≡ isOfFile (viewOf g) file o
-      unfolding isOfFile
-      of-source q = sym (ap (isOfFile (viewOf g) file) h ∙ ap (λ (y : Bool). or y (isFile file (fileOf (viewOf g .node (t .0))))) (sym (ends-read (s .0) n b reads is) ∙ q))
-
-      pub of-target : b ≡ false → (m : Node) (d : Bool) → m ≡ nodeRow index (t .0) → d ≡ isFile file (fileOf m) → d ≡ isOfFile (viewOf g) file o
-      unfolding isOfFile
-      of-target q m d r e = ends-read (t .0) m d r e ∙ sym (ap (isOfFile (viewOf g) file) h ∙ ap (λ (y : Bool). or y (isFile file (fileOf (viewOf g .node (t .0))))) (sym (ends-read (s .0) n b reads is) ∙ q))

@@ -45,26 +45,22 @@ module _ (item : List ℕ) (x : Computation) (ws : List ℕ) (v : Seeding item x
   started n item′ e a ws′ h = push-tells (v .view) (v .filing) (v .origin) x ws (v .database) (v .model) (v .rep) (routeAt n) (traced-start (v .view) (v .filing .file) n, omega (arith, v .rep .sized .start)) a ws′ (subst (λ (i : List ℕ). Extends x ws i a ws′) (e ∙ ap (λ (y : ℕ). held y (routeAt n)) (v .slot)) h)
 
   -- ---- one node
-  module _ (g : Graph) (index : List ℕ) (loaded : Loaded g index) (file n : ℕ) (o : Node) (reads : o ≡ nodeRow index n) (b d : Bool) (mine : b ≡ isFile file (fileOf o)) (begins : d ≡ isStart o) where
-    node-is : o ≡ viewOf g .node n
-    node-is = reads ∙ loaded .node n
-
+  module _ (g : Graph) (index : List ℕ) (loaded : Loaded g index) (file n : ℕ) (b : Bool) (mine : b ≡ isFile file (fileOf (nodeRow index n))) where
     own : isFile file (fileOf (viewOf g .node n)) ≡ b
-    own = sym (mine ∙ ap (λ (y : Node). isFile file (fileOf y)) node-is)
+    own = sym (mine ∙ ap (λ (y : Node). isFile file (fileOf y)) (loaded .node n))
 
-    start : isStart (viewOf g .node n) ≡ d
-    start = sym (begins ∙ ap isStart node-is)
+    pub node-foreign : b ≡ false → NodeSeeded item x ws v g file n (goes x) ws
+    node-foreign p = rw (own ∙ p) (refl, v .rep)
 
-    pub node-started : b ≡ true → d ≡ true → (a : Course) (ws′ : List ℕ) → Started item x ws v n a ws′ → NodeSeeded item x ws v g file n a ws′
-    node-started p q a ws′ h = rw (own ∙ p, start ∙ q) h
+    module _ (d : Bool) (begins : d ≡ isStart (nodeRow index n)) where
+      start : isStart (viewOf g .node n) ≡ d
+      start = sym (begins ∙ ap isStart (loaded .node n))
 
-    pub node-other : b ≡ true → d ≡ false → NodeSeeded item x ws v g file n (goes x) ws
-    node-other p q = rw (own ∙ p, start ∙ q) (refl, v .rep)
+      pub node-started : b ≡ true → d ≡ true → (a : Course) (ws′ : List ℕ) → Started item x ws v n a ws′ → NodeSeeded item x ws v g file n a ws′
+      node-started p q a ws′ h = rw (own ∙ p, start ∙ q) h
 
-  pub node-foreign : (g : Graph) (index : List ℕ) → Loaded g index → (file n : ℕ) (o : Node) → o ≡ nodeRow index n → (b : Bool) → b ≡ isFile file (fileOf o) → b ≡ false → NodeSeeded item x ws v g file n (goes x) ws
-  node-foreign g index loaded file n o reads b mine p =
-      let q : isFile file (fileOf (viewOf g .node n)) ≡ false = sym (mine ∙ ap (λ (y : Node). isFile file (fileOf y)) (reads ∙ loaded .node n)) ∙ p in
-      rw q (refl, v .rep)
+      pub node-other : b ≡ true → d ≡ false → NodeSeeded item x ws v g file n (goes x) ws
+      node-other p q = rw (own ∙ p, start ∙ q) (refl, v .rep)
 
 -- ---- the nodes of a list
 

@@ -1,6 +1,7 @@
 -- A list is beaten when another one shadows it. No list shadows itself, so that nobody need ask whether the other one is a copy.
 -- Serves document 01, "Answer": "then every path shadowed by another recorded one".
-use Prim.Native.Nat.{ℕ, suc, _+_, _≤_, _<_}
+use Prim.Native.Nat.{ℕ, zero, suc, _+_, _≤_, _<_}
+use native.Mathlib.Nat.{not-suc-le-zero, le-of-suc-le-suc}
 use native.Mathlib.Numerals.{add-one}
 use native.Mathlib.Omega.{arith}
 use mathlib.Core.Path.{_≡_, refl, sym, ap, _∙_}
@@ -15,7 +16,7 @@ use lib.Seq.{drop-cons}
 use Rattle.semantics.specs.declared.graph.Edge.{Edge}
 use Rattle.semantics.specs.declared.graph.Edge.the-variants as E
 use Rattle.semantics.specs.Lists.{or, and, same}
-use Rattle.semantics.specs.Lists.Laws.{same-eq}
+use Rattle.semantics.specs.Lists.Laws.{same-eq, or-true}
 use Rattle.path.specs.Shadows.{alike, meet, after, shadowsEdges}
 use Rattle.recorded.specs.EdgeLists.{beatenList}
 
@@ -45,6 +46,13 @@ module _ (edges : ℕ → Edge) where
       on : (b : Bool) → same l m ≡ b → and (not b) (shadowsEdges edges m l) ≡ shadowsEdges edges m l
       on true e = sym (shadows-self m) ∙ ap (shadowsEdges edges m) (sym (same-eq l m e))
       on false e = refl
+
+  -- list j shadows it
+  pub beaten-by : (l : List ℕ) (ms : List (List ℕ)) (j : ℕ) → j < length ms → shadowsEdges edges (getD ms j []) l ≡ true → beatenList (shadowsEdges edges) l ms ≡ true
+  unfolding beatenList
+  beaten-by l [] j h e = absurd (not-suc-le-zero h)
+  beaten-by l (m ∷ ms) zero h e = ap (λ (b : Bool). or b (beatenList (shadowsEdges edges) l ms)) (another l m ∙ e)
+  beaten-by l (m ∷ ms) (suc j) h e = rw (beaten-by l ms j (le-of-suc-le-suc h) e) (or-true (and (not (same l m)) (shadowsEdges edges m l)))
 
   -- the first j lists were looked at
   module _ (l : List ℕ) (ms : List (List ℕ)) (j : ℕ) where

@@ -1,14 +1,14 @@
 -- What result slots hold, how a mark changes it, and how the slots that stay are closed up. For every slot length L.
 -- Serves document 01, "Answer": `from_complete` on result slots.
-use Prim.Native.Nat.{ℕ, zero, suc, _+_, _-_, _*_, _<_}
+use Prim.Native.Nat.{ℕ, zero, suc, _+_, _-_, _*_, _≤_, _<_}
 use native.Mathlib.Nat.{not-suc-le-zero, le-of-suc-le-suc, add-zero}
 use native.Mathlib.Omega.{arith}
 use mathlib.Core.Path.{_≡_, refl, sym, ap, ap₂, _∙_}
 use mathlib.Core.Bool.{Bool, true, false}
 use mathlib.Core.List.{List, [], _∷_, _++_, map, List·Memᴰ, List·Memᴰ·head, List·Memᴰ·tail}
 use borrow.Author.Tests.{lt-ltb, le-ltb}
-use lib.ListN.{length, getD, take, drop, length-append, length-map}
-use lib.Seq.{drop-at, take-take, drop-drop, getD-take, getD-drop, getD-set-same, drop-set-lt, ext-getD}
+use lib.ListN.{length, getD, take, drop, length-append, length-map, length-drop}
+use lib.Seq.{length-take-le, drop-at, take-take, drop-drop, getD-take, getD-drop, getD-set-same, drop-set-lt, ext-getD}
 use Rattle.semantics.specs.Lists.{pick}
 use Rattle.semantics.specs.Words.{zeros, encode, flat, area, slotsOf}
 use Rattle.semantics.specs.Words.Laws.{length-encode, length-flat, drop-take}
@@ -39,6 +39,25 @@ edges-part L i ws f =
     ∙ sym (take-take c (L - 1) (drop 1 x) (omega arith))
     ∙ ap (take c) (sym d)
     ∙ ap (λ (k : ℕ). take (countOf L k) (drop 1 (take L x))) (sym (slot-first L i ws (omega arith)))
+
+module _ (L i : ℕ) (ws : List ℕ) (f : Fitting L i ws) where
+  abbrev many : ℕ
+  many = countOf L (getD ws (L * i) 0)
+
+  behind-count : many ≤ length (drop (L * i + 1) ws)
+  behind-count = omega (arith, f .inside, f .fits, length-drop (L * i + 1) ws)
+
+  edges-taken : edgesAt L i ws ≡ take many (drop (L * i + 1) ws)
+  edges-taken =
+      let q : L * i + 1 + many - (L * i + 1) ≡ many = omega arith in
+      sym (edges-part L i ws f) ∙ ap (λ (k : ℕ). take k (drop (L * i + 1) ws)) q
+
+  pub edges-length : length (edgesAt L i ws) ≡ many
+  edges-length = ap length edges-taken ∙ length-take-le many (drop (L * i + 1) ws) behind-count
+
+  -- edge t of the slot stands behind its count
+  pub edges-word : (t : ℕ) → t < many → getD (edgesAt L i ws) t 0 ≡ getD ws (L * i + 1 + t) 0
+  edges-word t h = ap (λ (l : List ℕ). getD l t 0) edges-taken ∙ getD-take many (drop (L * i + 1) ws) t 0 h ∙ getD-drop (L * i + 1) ws t 0
 
 pub length-lists : (L n : ℕ) (ws : List ℕ) → length (listsAt L n ws) ≡ n
 unfolding listsAt

@@ -60,7 +60,7 @@ module _ (most : ℕ) (index steps item₀ : List ℕ) (k : ℕ) (s : S.Search) 
 
   module _ (on : S.Search) (item ws rs : List ℕ) (link : ℕ) (mid : Mid on item ws rs link) where
     -- what the next edge is given
-    pub mid-given : (n : ℕ) → most + 4096 ≤ n → Given n index steps item k on ws rs
+    unfoldable pub mid-given : (n : ℕ) → most + 4096 ≤ n → Given n index steps item k on ws rs
     mid-given n h = record {
       graph = v .graph;
       loaded = v .loaded;

@@ -4,30 +4,36 @@ use Prim.Native.Nat.{ℕ, zero, suc, _+_, _<_, _≤_}
 use native.Mathlib.Omega.{arith}
 use native.Mathlib.Numerals.{add-one}
 use mathlib.Core.Path.{_≡_, refl, ap, ap₂, _∙_}
-use mathlib.Core.Bool.{true, false}
+use mathlib.Core.Bool.{Bool, true, false}
 use mathlib.Core.List.{List, [], _∷_, _++_}
-use borrow.Author.Tests.{eq-eqb, ne-eqb}
+use lib.Dec.{eqb}
 use lib.ListN.{length, take, drop, set, getD, length-set, drop-of-length-le}
 use lib.Seq.{drop-cons, set-set, take-set-le}
-use Rattle.semantics.specs.Lists.{has}
+use Rattle.semantics.specs.Lists.{or, has}
 use Rattle.semantics.specs.Words.{zeros, encode}
 use Rattle.semantics.specs.Words.Laws.{length-encode}
 use Rattle.search_state.specs.Items.{withEdge, Carries}
 
 -- ---- the scan
 
-module _ (e : ℕ) (es : List ℕ) (i : ℕ) where
-  pub has-hit : i < length es → e ≡ getD es i 0 → has e (drop i es) ≡ true
-  unfolding has
-  has-hit h q = rw (drop-cons es i 0 h, eq-eqb e (getD es i 0) q)
+or-later : (b found rest : Bool) → or (or b found) rest ≡ or found (or b rest)
+or-later true true rest = refl
+or-later true false rest = refl
+or-later false found rest = refl
 
-  pub has-miss : i < length es → (e ≡ getD es i 0 → ⊥) → has e (drop i es) ≡ has e (drop (i + 1) es)
+-- found by now or in what is left
+module _ (e : ℕ) (es : List ℕ) (i : ℕ) (found : Bool) where
+  pub has-one : i < length es → or (or (eqb e (getD es i 0)) found) (has e (drop (i + 1) es)) ≡ or found (has e (drop i es))
   unfolding has
-  has-miss h q = rw (drop-cons es i 0 h, ne-eqb e (getD es i 0) q, add-one)
+  has-one h = rw (drop-cons es i 0 h, add-one) (or-later (eqb e (getD es i 0)) found (has e (drop (suc i) es)))
 
-  pub has-end : length es ≤ i → has e (drop i es) ≡ false
+  pub has-all : length es ≤ i → found ≡ or found (has e (drop i es))
   unfolding has
-  has-end h = rw (drop-of-length-le es h)
+  has-all h = rw (drop-of-length-le es h) (on found)
+    where
+      on : (b : Bool) → b ≡ or b false
+      on true = refl
+      on false = refl
 
 -- ---- one more edge
 

@@ -1,9 +1,10 @@
 -- The loop of `retrace`: behind i edges the steps stand for a path from which the others lead on.
 -- Serves document 01, "Answer".
-use Prim.Native.Nat.{ℕ, suc, _+_, _*_, _<_, _≤_}
+use Prim.Native.Nat.{ℕ, suc, _+_, _-_, _*_, _<_, _≤_}
 use native.Mathlib.Omega.{arith}
+use native.Mathlib.Decide.{decLt}
 use native.Mathlib.Numerals.{add-one}
-use mathlib.Core.Path.{_≡_, refl, sym, ap, subst, _∙_}
+use mathlib.Core.Path.{_≡_, refl, sym, ap, ap₂, subst, _∙_}
 use mathlib.Core.Bool.{Bool, true, false}
 use mathlib.Core.List.{List, [], _∷_, _++_}
 use borrow.Author.Tests.{ltb-true, ltb-false}
@@ -19,18 +20,19 @@ use Rattle.semantics.specs.Answer.Laws.{ok-inj, ok-refuse, andThen-ok}
 use Rattle.semantics.specs.Graph.{Graph, View, viewOf}
 use Rattle.semantics.specs.Path.{Path, append, appendAll, appendUnder}
 use Rattle.semantics.specs.Path.Laws.{appendUnder-ok, appendAll-append, appendAll-edges}
-use Rattle.storage.specs.Rows.{nodeRow, edgeRow, Loaded}
+use Rattle.storage.specs.Rows.{BLOCK, nodeRow, edgeRow, targetRow, isPlain, Loaded}
+use Rattle.storage.specs.Rows.Laws.{target-row, edge-inside, node-inside}
 use Rattle.stepping.specs.declared.step.Step.{Step}
 use Rattle.stepping.specs.declared.step.Effect.{Effect}
 use Rattle.stepping.specs.declared.step.Effect.the-variants.{Done, Refused}
-use Rattle.stepping.specs.Steps.{Low, stacksOf}
-use Rattle.stepping.specs.Steps.Laws.{scopes-kept, symbols-kept}
-use Rattle.stepping.specs.StepWords.{stepAt, withStep}
-use Rattle.stepping.specs.StepWords.Laws.{step-other}
-use Rattle.stepping.specs.Judged.{Ready, Stepped, judgedOf, wordsAfter}
-use Rattle.stepping.specs.Judged.Laws.{Grown, judged-done, judged-refused}
+use Rattle.stepping.specs.Steps.{plainStep, Low, stacksOf}
+use Rattle.stepping.specs.Steps.Laws.{scopes-kept, symbols-kept, plain-remade}
+use Rattle.stepping.specs.StepWords.{stepAt, makerIn, withStep}
+use Rattle.stepping.specs.StepWords.Laws.{step-same, step-other}
+use Rattle.stepping.specs.Judged.{Ready, Stepped, judgedOf, remadeIn}
+use Rattle.stepping.specs.Judged.Laws.{Grown, judged-done, judged-refused, Made, judged-made}
 use Rattle.path.specs.Replays.Laws.{nodes-are, edges-are}
-use Rattle.search_state.specs.Retraces.{Laid, Retraces, Retraced, Shared}
+use Rattle.search_state.specs.Retraces.{Laid, Retraces, Retraced, Way, Mid, Midway, Shared}
 
 -- ---- steps below a new one stay
 
@@ -111,83 +113,137 @@ laid-more g first ws n s q h st e j k = by (ltb j (n + 1)) refl
 
 -- ---- the loop
 
-pub record Mid (index ws₀ edges : List ℕ) (n : ℕ) (t : Retraces index ws₀ edges n) (ws : List ℕ) (i : ℕ) : Type 0 where
-  pub path : Path
-  pub stepped : Stepped ws i path
-  pub begun : Stepped ws 0 (t .first)
-  pub led : appendAll base (viewOf (t .graph)) (t .first) (path .edges) ≡ ok path
-  pub laid : Laid (viewOf (t .graph)) (t .first) ws i
-  pub onward : appendAll base (viewOf (t .graph)) path (drop i edges) ≡ ok (t .path)
+-- the edges of a path that is to be laid out
+pub way-of : (index ws edges : List ℕ) (n : ℕ) → Retraces index ws edges n → Way index edges
+way-of index ws edges n t = record { graph = t .graph; loaded = t .loaded; first = t .first; path = t .path; few = t .few }
 
-module _ (index ws₀ edges : List ℕ) (n : ℕ) (t : Retraces index ws₀ edges n) where
-  pub mid-start : (c : ℕ) → Shared ws₀ edges n c → Mid index ws₀ edges n t ws₀ c
-  mid-start c h =
-      let u = t .laid c (h .within) in
-      let l : length (u .0 .edges) ≡ c = u .1 .count in
-      let m : length (take c edges) ≡ c = length-take-le c edges (h .inside) in
-      let z : u .0 .edges ≡ take c edges = same-entries (u .0 .edges) (take c edges) (l ∙ sym m) (λ j k. sym (u .1 .edges j (omega (arith, k, l))) ∙ h .same j (omega (arith, k, l)) ∙ sym (getD-take c edges j 0 (omega (arith, k, l)))) in
-      let d : appendAll base (viewOf (t .graph)) (t .first) (take c edges) ≡ ok (u .0) = subst (λ (x : List ℕ). appendAll base (viewOf (t .graph)) (t .first) x ≡ ok (u .0)) z (u .2) in
+pub mid-start : (index ws edges : List ℕ) (n : ℕ) (t : Retraces index ws edges n) (c : ℕ) → Shared ws edges n c → Mid index edges (way-of index ws edges n t) ws c
+unfolding way-of
+mid-start index ws edges n t c h =
+    let u = t .laid c (h .within) in
+    let l : length (u .0 .edges) ≡ c = u .1 .count in
+    let m : length (take c edges) ≡ c = length-take-le c edges (h .inside) in
+    let z : u .0 .edges ≡ take c edges = same-entries (u .0 .edges) (take c edges) (l ∙ sym m) (λ j k. sym (u .1 .edges j (omega (arith, k, l))) ∙ h .same j (omega (arith, k, l)) ∙ sym (getD-take c edges j 0 (omega (arith, k, l)))) in
+    let d : appendAll base (viewOf (t .graph)) (t .first) (take c edges) ≡ ok (u .0) = subst (λ (x : List ℕ). appendAll base (viewOf (t .graph)) (t .first) x ≡ ok (u .0)) z (u .2) in
+    record {
+      path = u .0;
+      stepped = u .1;
+      begun = t .begun;
+      led = u .2;
+      laid = λ j k. t .laid j (omega (arith, k, h .within));
+      onward = append-split (viewOf (t .graph)) (take c edges) (drop c edges) (t .first) (u .0) (t .path) (subst (λ (x : List ℕ). appendAll base (viewOf (t .graph)) (t .first) x ≡ ok (t .path)) (sym (take-append-drop c edges)) (t .appended)) d;
+    }
+
+-- on the way, with the room that there was
+abbrev pub midway-of : (index ws₀ edges : List ℕ) (n : ℕ) (t : Retraces index ws₀ edges n) (ws : List ℕ) (i : ℕ) → Mid index edges (way-of index ws₀ edges n t) ws i → i ≤ length edges → length ws ≡ length ws₀ → Midway index ws edges i
+midway-of index ws₀ edges n t ws i mid h e = record { way = way-of index ws₀ edges n t; mid = mid; inside = h; room = omega (arith, t .room, e) }
+
+pub mid-end : (index ws₀ edges : List ℕ) (n : ℕ) (t : Retraces index ws₀ edges n) (ws : List ℕ) (i : ℕ) → Mid index edges (way-of index ws₀ edges n t) ws i → i ≤ length edges → length edges ≤ i → Retraced index ws₀ edges n t ws
+unfolding appendAll way-of
+mid-end index ws₀ edges n t ws i mid a b =
+    let m : i ≡ length edges = omega (arith, a, b) in
+    let o = subst (λ (l : List ℕ). appendAll base (viewOf (t .graph)) (mid .path) l ≡ ok (t .path)) (drop-of-length-le edges b) (mid .onward) in
+    record {
+      stepped = subst (λ (p : Path). Stepped ws (length edges) p) (ok-inj (mid .path) (t .path) o) (subst (λ (k : ℕ). Stepped ws k (mid .path)) m (mid .stepped));
+      begun = mid .begun;
+      laid = subst (λ (k : ℕ). Laid (viewOf (t .graph)) (t .first) ws k) m (mid .laid);
+    }
+
+-- a round ends closer to the last edge
+pub closer : (n i j r : ℕ) → i < n → i ≤ j → j ≤ n → j ≤ r → (j < n → j < r) → n - r < n - i
+closer n i j r a b c d f = on (decLt j n)
+  where
+    on : Dec (j < n) → n - r < n - i
+    on (yes h) = let k = f h in omega (arith, k)
+    on (no h) = omega arith
+
+-- ---- one edge more
+module _ (index edges : List ℕ) (w : Way index edges) (ws : List ℕ) (i : ℕ) (mid : Mid index edges w ws i) (room : 8 * length edges + 8 ≤ length ws) (h : i < length edges) where
+  abbrev edge : ℕ
+  edge = getD edges i 0
+
+  abbrev view : View
+  view = viewOf (w .graph)
+
+  pub mid-ready : Ready ws i
+  mid-ready = ready-of ws i (mid .path) (mid .stepped) (omega (arith, h, w .few)) (omega (arith, h, room))
+
+  pub mid-room : 8 * (i + 1) + 8 ≤ length ws
+  mid-room = omega (arith, h, room)
+
+  -- it leads to the next path
+  parts : (q : Path) × (appendUnder base view (mid .path) edge ≡ ok q) × (append view (mid .path) edge ≡ ok q) × (appendAll base view q (drop (i + 1) edges) ≡ ok (w .path))
+  unfolding appendAll
+  parts =
+      let o = subst (λ (l : List ℕ). appendAll base view (mid .path) l ≡ ok (w .path)) (drop-cons edges i 0 h) (mid .onward) in
+      let a = andThen-ok (appendUnder base view (mid .path) edge) (λ y. appendAll base view y (drop (suc i) edges)) (w .path) o in
+      (a .0, a .1, appendUnder-ok base view (mid .path) (a .0) edge (a .1) .1, rw add-one (a .2))
+
+  more : appendAll base view (mid .path) (edge ∷ []) ≡ ok (parts .0)
+  unfolding appendAll
+  more = rw (parts .1)
+
+  more-led : appendAll base view (w .first) (parts .0 .edges) ≡ ok (parts .0)
+  more-led =
+      subst (λ (l : List ℕ). appendAll base view (w .first) l ≡ ok (parts .0)) (sym (appendAll-edges base view (edge ∷ []) (mid .path) (parts .0) more))
+      (appendAll-append base view (mid .path .edges) (edge ∷ []) (w .first) (mid .path) (parts .0) (mid .led) more)
+
+  -- so it is not refused
+  judged : (s : Step) × (judgedOf (nodeRow index) ws i edge (edgeRow index edge) ≡ Done s)
+  judged = on (judgedOf (nodeRow index) ws i edge (edgeRow index edge)) refl
+    where
+      on : (x : Effect) → x ≡ judgedOf (nodeRow index) ws i edge (edgeRow index edge) → (s : Step) × (judgedOf (nodeRow index) ws i edge (edgeRow index edge) ≡ Done s)
+      on (Done s) is = (s, sym is)
+      on (Refused z) is = let q = parts in absurd (ok-refuse z (q .0) (sym (q .2) ∙ effect-refused (w .graph) index (w .loaded) ws i (mid .path) (mid .stepped) mid-room edge (Refused z) is z refl))
+
+  made : Made (nodeRow index) ws i edge (edgeRow index edge) (judged .0)
+  made = judged-made (nodeRow index) ws i edge (edgeRow index edge) (judged .0) (judged .1)
+
+  leads : targetRow index edge ≡ made .target .0
+  leads = target-row index edge (made .source) (made .target) (made .precedence) (made .live)
+
+  -- both records have a block
+  pub mid-edge : BLOCK * edge < length index
+  mid-edge = edge-inside index edge (made .source) (made .target) (made .precedence) (made .live)
+
+  pub mid-node : BLOCK * targetRow index edge < length index
+  mid-node = node-inside index (targetRow index edge) (λ e. made .there (ap (nodeRow index) (sym leads) ∙ e))
+
+  pub mid-again : (ws′ : List ℕ) → ws′ ≡ withStep ws (i + 1) (remadeIn (nodeRow index) ws i edge (targetRow index edge)) → Mid index edges w ws′ (i + 1)
+  mid-again ws′ e =
+      let q = parts in
+      let s = judged .0 in
+      let m = effect-done (w .graph) index (w .loaded) ws i (mid .path) (mid .stepped) mid-room edge (Done s) (sym (judged .1)) s refl in
+      let y : ws′ ≡ withStep ws (i + 1) s = e ∙ ap (λ (n : ℕ). withStep ws (i + 1) (remadeIn (nodeRow index) ws i edge n)) leads ∙ ap (withStep ws (i + 1)) (sym (made .step)) in
+      let z : q .0 ≡ m .path = ok-inj (q .0) (m .path) (sym (q .2) ∙ m .appended) in
+      let d : appendAll base view (w .first) (m .path .edges) ≡ ok (m .path) = subst (λ (p : Path). appendAll base view (w .first) (p .edges) ≡ ok p) z more-led in
       record {
-        path = u .0;
-        stepped = u .1;
-        begun = t .begun;
-        led = u .2;
-        laid = λ j k. t .laid j (omega (arith, k, h .within));
-        onward = append-split (viewOf (t .graph)) (take c edges) (drop c edges) (t .first) (u .0) (t .path) (subst (λ (x : List ℕ). appendAll base (viewOf (t .graph)) (t .first) x ≡ ok (t .path)) (sym (take-append-drop c edges)) (t .appended)) d;
+        path = m .path;
+        stepped = subst (λ (l : List ℕ). Stepped l (i + 1) (m .path)) (sym y) (m .stepped);
+        begun = subst (λ (l : List ℕ). Stepped l 0 (w .first)) (sym y) (stepped-kept ws (i + 1) 0 s (w .first) (omega arith) (mid .begun));
+        led = d;
+        laid = subst (λ (l : List ℕ). Laid view (w .first) l (i + 1)) (sym y) (laid-more view (w .first) ws i s (m .path) (mid .laid) (m .stepped) d);
+        onward = subst (λ (p : Path). appendAll base view p (drop (i + 1) edges) ≡ ok (w .path)) z (q .3);
       }
 
-  module _ (ws : List ℕ) (long : length ws ≡ length ws₀) (i : ℕ) (mid : Mid index ws₀ edges n t ws i) where
-    pub mid-ready : i < length edges → Ready ws i
-    mid-ready h = ready-of ws i (mid .path) (mid .stepped) (omega (arith, h, t .few)) (omega (arith, h, t .room, long))
+-- ---- a run of plain steps, behind which both tops are what they were
+pub record Plain (index edges : List ℕ) (w : Way index edges) (ws : List ℕ) (i symbols scopes : ℕ) : Type 0 where
+  pub mid : Mid index edges w ws i
+  pub symbols-are : stepAt ws i .symbols ≡ symbols
+  pub scopes-are : stepAt ws i .scopes ≡ scopes
 
-    pub mid-room : i < length edges → 8 * (i + 1) + 8 ≤ length ws
-    mid-room h = omega (arith, h, t .room, long)
-
-    module _ (h : i < length edges) (x : Effect) (is : x ≡ judgedOf (nodeRow index) ws i (getD edges i 0) (edgeRow index (getD edges i 0))) where
-      parts : (q : Path) × (appendUnder base (viewOf (t .graph)) (mid .path) (getD edges i 0) ≡ ok q) × (append (viewOf (t .graph)) (mid .path) (getD edges i 0) ≡ ok q) × (appendAll base (viewOf (t .graph)) q (drop (i + 1) edges) ≡ ok (t .path))
-      unfolding appendAll
-      parts =
-          let o = subst (λ (l : List ℕ). appendAll base (viewOf (t .graph)) (mid .path) l ≡ ok (t .path)) (drop-cons edges i 0 h) (mid .onward) in
-          let a = andThen-ok (appendUnder base (viewOf (t .graph)) (mid .path) (getD edges i 0)) (λ y. appendAll base (viewOf (t .graph)) y (drop (suc i) edges)) (t .path) o in
-          (a .0, a .1, appendUnder-ok base (viewOf (t .graph)) (mid .path) (a .0) (getD edges i 0) (a .1) .1, rw add-one (a .2))
-
-      -- one edge more leads to the next path
-      more : appendAll base (viewOf (t .graph)) (mid .path) (getD edges i 0 ∷ []) ≡ ok (parts .0)
-      unfolding appendAll
-      more = rw (parts .1)
-
-      more-led : appendAll base (viewOf (t .graph)) (t .first) (parts .0 .edges) ≡ ok (parts .0)
-      more-led =
-          subst (λ (l : List ℕ). appendAll base (viewOf (t .graph)) (t .first) l ≡ ok (parts .0)) (sym (appendAll-edges base (viewOf (t .graph)) (getD edges i 0 ∷ []) (mid .path) (parts .0) more))
-          (appendAll-append base (viewOf (t .graph)) (mid .path .edges) (getD edges i 0 ∷ []) (t .first) (mid .path) (parts .0) (mid .led) more)
-
-      pub never-refused : (z : PathRefusal) → x ≡ Refused z → ⊥
-      never-refused z d = let q = parts in ok-refuse z (q .0) (sym (q .2) ∙ effect-refused (t .graph) index (t .loaded) ws i (mid .path) (mid .stepped) (mid-room h) (getD edges i 0) x is z d)
-
-      pub mid-again : (s : Step) → x ≡ Done s → (ws′ : List ℕ) → ws′ ≡ wordsAfter ws (i + 1) x → Mid index ws₀ edges n t ws′ (i + 1)
-      unfolding wordsAfter
-      mid-again s d ws′ w =
-          let q = parts in
-          let m = effect-done (t .graph) index (t .loaded) ws i (mid .path) (mid .stepped) (mid-room h) (getD edges i 0) x is s d in
-          let y : ws′ ≡ withStep ws (i + 1) s = w ∙ ap (wordsAfter ws (i + 1)) d in
-          let z : q .0 ≡ m .path = ok-inj (q .0) (m .path) (sym (q .2) ∙ m .appended) in
-          let e : appendAll base (viewOf (t .graph)) (t .first) (m .path .edges) ≡ ok (m .path) = subst (λ (p : Path). appendAll base (viewOf (t .graph)) (t .first) (p .edges) ≡ ok p) z more-led in
-          record {
-            path = m .path;
-            stepped = subst (λ (l : List ℕ). Stepped l (i + 1) (m .path)) (sym y) (m .stepped);
-            begun = subst (λ (l : List ℕ). Stepped l 0 (t .first)) (sym y) (stepped-kept ws (i + 1) 0 s (t .first) (omega arith) (mid .begun));
-            led = e;
-            laid = subst (λ (l : List ℕ). Laid (viewOf (t .graph)) (t .first) l (i + 1)) (sym y) (laid-more (viewOf (t .graph)) (t .first) ws i s (m .path) (mid .laid) (m .stepped) e);
-            onward = subst (λ (p : Path). appendAll base (viewOf (t .graph)) p (drop (i + 1) edges) ≡ ok (t .path)) z (q .3);
-          }
-
-    pub mid-end : i ≤ length edges → length edges ≤ i → Retraced index ws₀ edges n t ws
-    unfolding appendAll
-    mid-end a b =
-        let m : i ≡ length edges = omega (arith, a, b) in
-        let o = subst (λ (l : List ℕ). appendAll base (viewOf (t .graph)) (mid .path) l ≡ ok (t .path)) (drop-of-length-le edges b) (mid .onward) in
-        record {
-          stepped = subst (λ (p : Path). Stepped ws (length edges) p) (ok-inj (mid .path) (t .path) o) (subst (λ (k : ℕ). Stepped ws k (mid .path)) m (mid .stepped));
-          begun = mid .begun;
-          laid = subst (λ (k : ℕ). Laid (viewOf (t .graph)) (t .first) ws k) m (mid .laid);
-        }
+pub plain-again : (index edges : List ℕ) (w : Way index edges) (ws : List ℕ) (i symbols scopes : ℕ) → Plain index edges w ws i symbols scopes → 8 * length edges + 8 ≤ length ws → i < length edges
+    → isPlain (nodeRow index (targetRow index (getD edges i 0))) ≡ true → (ws′ : List ℕ) → ws′ ≡ withStep ws (i + 1) (plainStep (getD edges i 0) (targetRow index (getD edges i 0)) symbols scopes)
+    → Plain index edges w ws′ (i + 1) symbols scopes
+plain-again index edges w ws i symbols scopes r room h p ws′ e =
+    let last = stepAt ws i in
+    let t = targetRow index (getD edges i 0) in
+    let s : Step = plainStep (getD edges i 0) t symbols scopes in
+    let a : plainStep (getD edges i 0) t (last .symbols) (last .scopes) ≡ s = ap₂ (plainStep (getD edges i 0) t) (r .symbols-are) (r .scopes-are) in
+    let b = plain-remade (nodeRow index t) t (getD edges i 0) (i + 1) last (makerIn ws (last .symbols)) (makerIn ws (last .scopes)) p in
+    let k : stepAt ws′ (i + 1) ≡ s = ap (λ (l : List ℕ). stepAt l (i + 1)) e ∙ step-same ws (i + 1) s (omega (arith, h, room)) in
+    record {
+      mid = mid-again index edges w ws i (r .mid) room h ws′ (e ∙ ap (withStep ws (i + 1)) (sym (b ∙ a)));
+      symbols-are = ap (λ (x : Step). x .symbols) k;
+      scopes-are = ap (λ (x : Step). x .scopes) k;
+    }

@@ -1,4 +1,4 @@
--- Laws of written answers and of the numbers in them, over plain numbers and lists; and of the part that a lookup hands back.
+-- Laws of the numbers in an answer, over plain numbers and lists; and of the part that a lookup hands back.
 use Prim.Native.Nat.{ℕ, zero, suc, _+_, _-_, _<_, _≤_}
 use native.Mathlib.Nat.{not-suc-le-zero, le-of-suc-le-suc}
 use native.Mathlib.Omega.{arith}
@@ -14,22 +14,7 @@ use Rattle.semantics.specs.Database.{Part, usedIn, filesOnly, wellFormed, empty
 use Rattle.database.specs.Records.{ownerWord, countWord}
 use Rattle.database.specs.Checks.Laws.{formed-live}
 use Rattle.database.specs.Parts.Laws.{words-part, lookup-malformed, lookup-beyond, lookup-used, edges-dead, edges-live, lookup-inside}
-use Rattle.service.specs.Written.{written, toldPart}
-
-pub written-length : (n : ℕ) (ns : List ℕ) → length (written n ns) ≡ n
-unfolding written
-written-length zero ns = refl
-written-length (suc n) [] = ap suc (written-length n [])
-written-length (suc n) (x ∷ ns) = ap suc (written-length n ns)
-
--- the number at a place below n, 0 behind the answer's own
-pub written-at : (n : ℕ) (ns : List ℕ) (i : ℕ) → i < n → getD (written n ns) i 0 ≡ getD ns i 0
-unfolding written
-written-at zero ns i h = absurd (not-suc-le-zero h)
-written-at (suc n) [] zero h = refl
-written-at (suc n) [] (suc i) h = written-at n [] i (le-of-suc-le-suc h)
-written-at (suc n) (x ∷ ns) zero h = refl
-written-at (suc n) (x ∷ ns) (suc i) h = written-at n ns i (le-of-suc-le-suc h)
+use Rattle.service.specs.Written.{toldPart}
 
 -- THE NUMBER AT A PLACE of the first k of some numbers
 pub taken-at : (k i : ℕ) (ns : List ℕ) → i < k → getD ns i 0 ≡ getD (take k ns) i 0

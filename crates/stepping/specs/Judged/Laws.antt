@@ -25,11 +25,11 @@ use Rattle.semantics.specs.Path.{Stacks, Path, noStacks, apply, pushAttached, a
 use Rattle.stepping.specs.declared.step.Step.{Step}
 use Rattle.stepping.specs.declared.step.Effect.{Effect}
 use Rattle.stepping.specs.declared.step.Effect.the-variants.{Done, Refused}
-use Rattle.stepping.specs.Steps.{plainStep, popOf, popScopedOf, jumpOf, pushScopedOf, askedScope, appliedOf, scopesFrom, scopesOf, symbolsFrom, symbolsOf, stacksOf, Low, makerOf, grown}
-use Rattle.stepping.specs.Steps.Laws.{push-stacks, push-scoped-stacks, scopes-kept, symbols-kept, pathBehind, outcome, extend-is, low-more}
+use Rattle.stepping.specs.Steps.{plainStep, pushScopedOf, askedScope, appliedOf, remadeOf, scopesFrom, scopesOf, symbolsFrom, symbolsOf, stacksOf, Low, makerOf, grown}
+use Rattle.stepping.specs.Steps.Laws.{push-stacks, push-scoped-stacks, scopes-kept, symbols-kept, pathBehind, outcome, extend-is, low-more, refused-done, unless-done, applied-remade, applied-there}
 use Rattle.stepping.specs.StepWords.{stepAt, makerIn, withStep}
 use Rattle.stepping.specs.StepWords.Laws.{step-same, step-other}
-use Rattle.stepping.specs.Judged.{noStep, reached, begunOf, judgedOf, followed, Stepped, completeStep}
+use Rattle.stepping.specs.Judged.{noStep, reached, begunOf, judgedOf, followed, remadeIn, Stepped, completeStep}
 
 -- the path that an effect leads to, along an edge that is x
 pub pathAfter : View → List ℕ → ℕ → Path → ℕ → Edge → Effect → Answer PathRefusal Path
@@ -60,98 +60,28 @@ module _ (f : ℕ → Step) (k : ℕ) (low : (j : ℕ) → j < k + 1 → Low (f 
   low-maker : (c : ℕ) → c ≤ k + 1 → Low (makerOf f c) (c - 1)
   low-maker c h = low (c - 1) (omega (arith, h))
 
-  done-inj : (x y : Step) → Done x ≡ Done y → x ≡ y
-  done-inj x y h = cc
-
-  refused-done : (r : PathRefusal) (s : Step) → Refused r ≡ Done s → ⊥
-  refused-done r s h = let z : _≡_ {A = ℕ} 0 1 = cc in omega arith
-
   -- it is low, and names the edge
   abbrev New : Step → Type 0
   New s = Low s (k + 1) × (s .edge ≡ e)
 
-  low-is : (s x : Step) → Done x ≡ Done s → Low x (k + 1) → x .edge ≡ e → New s
-  low-is s x h l q = subst New (done-inj x s h) (l, q)
+  plain-low : (a b : ℕ) → a ≤ k + 1 + 1 → b ≤ k + 1 → (n : ℕ) → New (plainStep e n a b)
+  plain-low a b x y n = (record { symbols = x; scopes = y; below = omega arith; attached = omega arith }, refl)
 
-  plain-low : (a b : ℕ) → a ≤ k + 1 + 1 → b ≤ k + 1 → (n : ℕ) → Low (plainStep e n a b) (k + 1)
-  plain-low a b x y n = record { symbols = x; scopes = y; below = omega arith; attached = omega arith }
-
-  pop-low : (x : ℕ) (s : Step) → popOf t e x (f k) (makerOf f (f k .symbols)) ≡ Done s → New s
-  unfolding popOf
-  pop-low x s h = on1 (eqb (f k .symbols) 0) h
-    where
-      l : Low (f k) k
-      l = low-last
-
-      m : Low (makerOf f (f k .symbols)) (f k .symbols - 1)
-      m = low-maker (f k .symbols) (l .symbols)
-
-      on3 : (b : Bool) → pick b (Done (plainStep e t (makerOf f (f k .symbols) .below) (f k .scopes))) (Refused (UnexpectedAttachedScopes (nodeId t))) ≡ Done s → New s
-      on3 true h3 = low-is s _ h3 (plain-low _ _ (omega (arith, m .below, l .symbols)) (omega (arith, l .scopes)) t) refl
-      on3 false h3 = absurd (refused-done _ s h3)
-
-      on2 : (b : Bool) → pick b (pick (eqb (makerOf f (f k .symbols) .attached) 0) (Done (plainStep e t (makerOf f (f k .symbols) .below) (f k .scopes))) (Refused (UnexpectedAttachedScopes (nodeId t)))) (Refused (IncorrectPoppedSymbol (nodeId t))) ≡ Done s → New s
-      on2 true h2 = on3 (eqb (makerOf f (f k .symbols) .attached) 0) h2
-      on2 false h2 = absurd (refused-done _ s h2)
-
-      on1 : (b : Bool) → pick b (Refused (EmptySymbolStack (nodeId t))) (pick (eqb (makerOf f (f k .symbols) .symbol) x) (pick (eqb (makerOf f (f k .symbols) .attached) 0) (Done (plainStep e t (makerOf f (f k .symbols) .below) (f k .scopes))) (Refused (UnexpectedAttachedScopes (nodeId t)))) (Refused (IncorrectPoppedSymbol (nodeId t)))) ≡ Done s → New s
-      on1 true h1 = absurd (refused-done _ s h1)
-      on1 false h1 = on2 (eqb (makerOf f (f k .symbols) .symbol) x) h1
-
-  pop-scoped-low : (x : ℕ) (s : Step) → popScopedOf t e x (f k) (makerOf f (f k .symbols)) ≡ Done s → New s
-  unfolding popScopedOf
-  pop-scoped-low x s h = on1 (eqb (f k .symbols) 0) h
-    where
-      l : Low (f k) k
-      l = low-last
-
-      m : Low (makerOf f (f k .symbols)) (f k .symbols - 1)
-      m = low-maker (f k .symbols) (l .symbols)
-
-      on3 : (b : Bool) → pick b (Refused (MissingAttachedScopes (nodeId t))) (Done (plainStep e t (makerOf f (f k .symbols) .below) (makerOf f (f k .symbols) .attached))) ≡ Done s → f k .symbols ≤ k + 1 → New s
-      on3 true h3 q = absurd (refused-done _ s h3)
-      on3 false h3 q = low-is s _ h3 (plain-low _ _ (omega (arith, m .below, q)) (omega (arith, m .attached, q)) t) refl
-
-      on2 : (b : Bool) → pick b (pick (eqb (makerOf f (f k .symbols) .attached) 0) (Refused (MissingAttachedScopes (nodeId t))) (Done (plainStep e t (makerOf f (f k .symbols) .below) (makerOf f (f k .symbols) .attached)))) (Refused (IncorrectPoppedSymbol (nodeId t))) ≡ Done s → New s
-      on2 true h2 = on3 (eqb (makerOf f (f k .symbols) .attached) 0) h2 (l .symbols)
-      on2 false h2 = absurd (refused-done _ s h2)
-
-      on1 : (b : Bool) → pick b (Refused (EmptySymbolStack (nodeId t))) (pick (eqb (makerOf f (f k .symbols) .symbol) x) (pick (eqb (makerOf f (f k .symbols) .attached) 0) (Refused (MissingAttachedScopes (nodeId t))) (Done (plainStep e t (makerOf f (f k .symbols) .below) (makerOf f (f k .symbols) .attached)))) (Refused (IncorrectPoppedSymbol (nodeId t)))) ≡ Done s → New s
-      on1 true h1 = absurd (refused-done _ s h1)
-      on1 false h1 = on2 (eqb (makerOf f (f k .symbols) .symbol) x) h1
-
-  jump-low : (x : Bool) (s : Step) → jumpOf x t e (f k) (makerOf f (f k .scopes)) ≡ Done s → New s
-  unfolding jumpOf
-  jump-low x s h = on1 (eqb (f k .scopes) 0) x h
-    where
-      l : Low (f k) k
-      l = low-last
-
-      m : Low (makerOf f (f k .scopes)) (f k .scopes - 1)
-      m = low-maker (f k .scopes) (omega (arith, l .scopes))
-
-      on1 : (b c : Bool) → pick b (Refused (EmptyScopeStack (nodeId t))) (pick c (Done (plainStep e (makerOf f (f k .scopes) .scope) (f k .symbols) (makerOf f (f k .scopes) .scopes))) (Refused (UnknownAttachedScope (nodeId (makerOf f (f k .scopes) .scope))))) ≡ Done s → New s
-      on1 true c h1 = absurd (refused-done _ s h1)
-      on1 false true h1 = low-is s _ h1 (plain-low _ _ (omega (arith, l .symbols)) (omega (arith, m .scopes, l .scopes)) _) refl
-      on1 false false h1 = absurd (refused-done _ s h1)
-
-  push-scoped-low : (b : Bool) (x a : ℕ) (s : Step) → pushScopedOf b x a t e (k + 1) (f k) ≡ Done s → New s
-  unfolding pushScopedOf
-  push-scoped-low true x a s h = let l = low-last in low-is s _ h (record { symbols = omega arith; scopes = omega (arith, l .scopes); below = omega (arith, l .symbols); attached = omega arith }) refl
-  push-scoped-low false x a s h = absurd (refused-done _ s h)
+  remade-low : (n : Node) → New (remadeOf n t e (k + 1) (f k) (makerOf f (f k .symbols)) (makerOf f (f k .scopes)))
+  unfolding remadeOf
+  remade-low N.Removed = let l = low-last in plain-low _ _ (omega (arith, l .symbols)) (omega (arith, l .scopes)) t
+  remade-low N.Root = let l = low-last in plain-low _ _ (omega (arith, l .symbols)) (omega (arith, l .scopes)) t
+  remade-low N.JumpToScope = let l = low-last in let m = low-maker (f k .scopes) (omega (arith, l .scopes)) in plain-low _ _ (omega (arith, l .symbols)) (omega (arith, m .scopes, l .scopes)) _
+  remade-low (N.Scope i y) = let l = low-last in plain-low _ _ (omega (arith, l .symbols)) (omega (arith, l .scopes)) t
+  remade-low (N.Push i y r) = let l = low-last in (record { symbols = omega arith; scopes = omega (arith, l .scopes); below = omega (arith, l .symbols); attached = omega arith }, refl)
+  remade-low (N.Pop i y d) = let l = low-last in let m = low-maker (f k .symbols) (l .symbols) in plain-low _ _ (omega (arith, m .below, l .symbols)) (omega (arith, l .scopes)) t
+  remade-low (N.PushScoped i y a r) = let l = low-last in (record { symbols = omega arith; scopes = omega (arith, l .scopes); below = omega (arith, l .symbols); attached = omega arith }, refl)
+  remade-low (N.PopScoped i y d) = let l = low-last in let m = low-maker (f k .symbols) (l .symbols) in plain-low _ _ (omega (arith, m .below, l .symbols)) (omega (arith, m .attached, l .symbols)) t
+  remade-low (N.DropScopes i) = let l = low-last in plain-low _ _ (omega (arith, l .symbols)) (omega arith) t
 
   -- of every kind of node
   pub applied-low : (x : Bool) (n : Node) (s : Step) → appliedOf x n t e (k + 1) (f k) (makerOf f (f k .symbols)) (makerOf f (f k .scopes)) ≡ Done s → New s
-  unfolding appliedOf
-  applied-low x N.Removed s h = absurd (refused-done _ s h)
-  applied-low x N.Root s h = let l = low-last in low-is s _ h (plain-low _ _ (omega (arith, l .symbols)) (omega (arith, l .scopes)) t) refl
-  applied-low x N.JumpToScope s h = jump-low x s h
-  applied-low x (N.Scope i y) s h = let l = low-last in low-is s _ h (plain-low _ _ (omega (arith, l .symbols)) (omega (arith, l .scopes)) t) refl
-  applied-low x (N.Push i y r) s h = let l = low-last in low-is s _ h (record { symbols = omega arith; scopes = omega (arith, l .scopes); below = omega (arith, l .symbols); attached = omega arith }) refl
-  applied-low x (N.Pop i y d) s h = pop-low y s h
-  applied-low x (N.PushScoped i y a r) s h = push-scoped-low x y (a .0) s h
-  applied-low x (N.PopScoped i y d) s h = pop-scoped-low y s h
-  applied-low x (N.DropScopes i) s h = let l = low-last in low-is s _ h (plain-low _ _ (omega (arith, l .symbols)) (omega arith) t) refl
+  applied-low x n s h = subst New (sym (applied-remade x n t e (k + 1) (f k) (makerOf f (f k .symbols)) (makerOf f (f k .scopes)) s h)) (remade-low n)
 
 -- THE WORDS WITH ONE STEP MORE STAND FOR THE LONGER PATH
 module _ (ws : List ℕ) (m : ℕ) (s : Step) (room : 8 * m + 8 ≤ length ws) where
@@ -196,6 +126,33 @@ stepped-more ws k p q s room st new end edges stacks = record {
         let q′ : k ≡ j = omega (arith, h, nltb→le j k (subst T (sym (ap not e)) tt)) in
         subst (λ (n : ℕ). stepAt (withStep ws (k + 1) s) (n + 1) .edge ≡ getD (q .edges) n 0) q′
         (ap (λ (x : Step). x .edge) (step-same ws (k + 1) s room) ∙ sym (getD-append-seam (p .edges) (s .edge) [] 0) ∙ ap (λ n. getD (p .edges ++ (s .edge ∷ [])) n 0) (st .count) ∙ ap (λ (x : List ℕ). getD x k 0) (sym edges))
+
+-- A STEP THAT WAS MADE ONCE: its edge is live, a node stands at its target, and it is made again as it was
+pub record Made (nodes : ℕ → Node) (ws : List ℕ) (k e : ℕ) (x : Edge) (s : Step) : Type 0 where
+  pub source : NodeId
+  pub target : NodeId
+  pub precedence : ℤ
+  pub live : x ≡ E.Live source target precedence
+  pub there : nodes (target .0) ≡ N.Removed → ⊥
+  pub step : s ≡ remadeIn nodes ws k e (target .0)
+
+pub judged-made : (nodes : ℕ → Node) (ws : List ℕ) (k e : ℕ) (x : Edge) (s : Step) → judgedOf nodes ws k e x ≡ Done s → Made nodes ws k e x s
+unfolding judgedOf followed
+judged-made nodes ws k e E.Removed s h = absurd (refused-done _ s h)
+judged-made nodes ws k e (E.Live a t p) s h =
+    let last = stepAt ws k in
+    let top = makerIn ws (last .symbols) in
+    let over = makerIn ws (last .scopes) in
+    let b = isExported (nodes (askedScope (nodes (t .0)) over)) in
+    let r = unless-done (eqb (a .0) (last .end)) (reached nodes (t .0) e (k + 1) last top over) _ s h in
+    record {
+      source = a;
+      target = t;
+      precedence = p;
+      live = refl;
+      there = λ z. applied-there b (nodes (t .0)) (t .0) e (k + 1) last top over s r z;
+      step = applied-remade b (nodes (t .0)) (t .0) e (k + 1) last top over s r;
+    }
 
 -- JUDGING, AS A WHOLE
 module _ (g : View) (ws : List ℕ) (k : ℕ) (p : Path) (st : Stepped ws k p) (room : 8 * (k + 1) + 8 ≤ length ws) (e : ℕ) where

@@ -3,7 +3,7 @@
 use Prim.Native.Nat.{ℕ, zero, suc, _+_, _-_, _<_, _≤_}
 use native.Mathlib.Omega.{arith}
 use mathlib.Core.Path.{_≡_, refl, sym, ap, ap₂, _∙_, subst}
-use mathlib.Core.Bool.{Bool, true, false, not}
+use mathlib.Core.Bool.{Bool, true, false, not, true≢false}
 use mathlib.Core.Option.{none, some}
 use mathlib.Core.List.{List, [], _∷_, _++_}
 use lib.Dec.{eqb, ltb, T}
@@ -14,16 +14,17 @@ use Rattle.semantics.specs.declared.graph.NodeId.{NodeId}
 use Rattle.semantics.specs.declared.graph.Node.{Node}
 use Rattle.semantics.specs.declared.graph.Node.the-variants as N
 use Rattle.semantics.specs.declared.refusal.PathRefusal.{PathRefusal}
-use Rattle.semantics.specs.declared.refusal.PathRefusal.the-variants.{EmptySymbolStack, IncorrectPoppedSymbol, UnexpectedAttachedScopes, MissingAttachedScopes, EmptyScopeStack, UnknownAttachedScope}
+use Rattle.semantics.specs.declared.refusal.PathRefusal.the-variants.{UnknownNode, EmptySymbolStack, IncorrectPoppedSymbol, UnexpectedAttachedScopes, MissingAttachedScopes, EmptyScopeStack, UnknownAttachedScope}
 use Rattle.semantics.specs.Lists.{pick}
 use Rattle.semantics.specs.Answer.{Answer, ok, refuse, andThen}
 use Rattle.semantics.specs.Graph.{nodeId, View, isExported}
 use Rattle.semantics.specs.Path.{Symbol, Stacks, along, jumped, Path, withoutScopes, withScopes, popEqual, popTop, pushAttached, apply, jumpTo, jumpTop, land, extend}
 use Rattle.semantics.specs.Path as Rules
+use Rattle.storage.specs.Rows.{isPlain}
 use Rattle.stepping.specs.declared.step.Step.{Step}
 use Rattle.stepping.specs.declared.step.Effect.{Effect}
 use Rattle.stepping.specs.declared.step.Effect.the-variants.{Done, Refused}
-use Rattle.stepping.specs.Steps.{plainStep, popOf, popScopedOf, jumpOf, pushScopedOf, askedScope, appliedOf, scopesFrom, scopesOf, attachedOf, symbolsFrom, symbolsOf, stacksOf, Low, makerOf, grown}
+use Rattle.stepping.specs.Steps.{plainStep, popOf, popScopedOf, jumpOf, pushScopedOf, askedScope, appliedOf, remadeOf, scopesFrom, scopesOf, attachedOf, symbolsFrom, symbolsOf, stacksOf, Low, makerOf, grown}
 
 module _ (f : ℕ → Step) (k : ℕ) (low : (j : ℕ) → j < k → Low (f j) j) where
   -- more fuel than the cell's number changes nothing
@@ -329,3 +330,47 @@ module _ (g : View) (f : ℕ → Step) (k : ℕ) (low : (j : ℕ) → j < k + 1 
   pub extend-is : p .stacks ≡ stacksOf f last → extend g p e t pr ≡ outcome f k (g .node t) p e pr (effect (g .node t))
   unfolding extend
   extend-is h = ap (λ (S : Stacks). andThen (apply g t (g .node t) S) (λ st. land g t (g .node t) (behind st))) h ∙ node-is (g .node t)
+
+-- A STEP THAT WAS MADE ONCE: what is not refused leads to the step that is made again
+done-inj : (x y : Step) → Done x ≡ Done y → y ≡ x
+done-inj x y h = cc
+
+pub refused-done : (r : PathRefusal) (s : Step) → Refused r ≡ Done s → ⊥
+refused-done r s h = let z : _≡_ {A = ℕ} 0 1 = cc in omega arith
+
+pub unless-done : (b : Bool) (x : Effect) (r : PathRefusal) (s : Step) → pick b x (Refused r) ≡ Done s → x ≡ Done s
+unless-done true x r s h = h
+unless-done false x r s h = absurd (refused-done r s h)
+
+if-done : (b : Bool) (r : PathRefusal) (x : Effect) (s : Step) → pick b (Refused r) x ≡ Done s → x ≡ Done s
+if-done true r x s h = absurd (refused-done r s h)
+if-done false r x s h = h
+
+pub applied-remade : (x : Bool) (n : Node) (t e k : ℕ) (last top over s : Step) → appliedOf x n t e k last top over ≡ Done s → s ≡ remadeOf n t e k last top over
+unfolding appliedOf remadeOf popOf popScopedOf jumpOf pushScopedOf
+applied-remade x N.Removed t e k last top over s h = absurd (refused-done _ s h)
+applied-remade x N.Root t e k last top over s h = done-inj _ s h
+applied-remade x N.JumpToScope t e k last top over s h = done-inj _ s (unless-done x _ _ s (if-done (eqb (last .scopes) 0) _ _ s h))
+applied-remade x (N.Scope f y) t e k last top over s h = done-inj _ s h
+applied-remade x (N.Push f y r) t e k last top over s h = done-inj _ s h
+applied-remade x (N.Pop f y d) t e k last top over s h = done-inj _ s (unless-done (eqb (top .attached) 0) _ _ s (unless-done (eqb (top .symbol) y) _ _ s (if-done (eqb (last .symbols) 0) _ _ s h)))
+applied-remade x (N.PushScoped f y a r) t e k last top over s h = done-inj _ s (unless-done x _ _ s h)
+applied-remade x (N.PopScoped f y d) t e k last top over s h = done-inj _ s (if-done (eqb (top .attached) 0) _ _ s (unless-done (eqb (top .symbol) y) _ _ s (if-done (eqb (last .symbols) 0) _ _ s h)))
+applied-remade x (N.DropScopes f) t e k last top over s h = done-inj _ s h
+
+pub applied-there : (x : Bool) (n : Node) (t e k : ℕ) (last top over s : Step) → appliedOf x n t e k last top over ≡ Done s → n ≡ N.Removed → ⊥
+unfolding appliedOf
+applied-there x n t e k last top over s h z = refused-done (UnknownNode (nodeId t)) s (ap (λ (m : Node). appliedOf x m t e k last top over) (sym z) ∙ h)
+
+-- a plain node leaves both tops as they are
+pub plain-remade : (n : Node) (t e k : ℕ) (last top over : Step) → isPlain n ≡ true → remadeOf n t e k last top over ≡ plainStep e t (last .symbols) (last .scopes)
+unfolding remadeOf
+plain-remade N.Removed t e k last top over h = refl
+plain-remade N.Root t e k last top over h = refl
+plain-remade N.JumpToScope t e k last top over h = absurd (true≢false (sym h))
+plain-remade (N.Scope f y) t e k last top over h = refl
+plain-remade (N.Push f y r) t e k last top over h = absurd (true≢false (sym h))
+plain-remade (N.Pop f y d) t e k last top over h = absurd (true≢false (sym h))
+plain-remade (N.PushScoped f y a r) t e k last top over h = absurd (true≢false (sym h))
+plain-remade (N.PopScoped f y d) t e k last top over h = absurd (true≢false (sym h))
+plain-remade (N.DropScopes f) t e k last top over h = absurd (true≢false (sym h))

@@ -25,87 +25,36 @@ use Rattle.semantics.specs.Bytes.{signed}
 use Rattle.semantics.specs.Graph.{nodeId, Graph, View, viewOf, fileOf, isFile}
 use Rattle.semantics.specs.Acceptance.{exportedIn, nodeFits, edgeFits, oneFile, isLive}
 use Rattle.semantics.specs.Image.{nextPlace, placeOf, nodeMisfit, edgeMisfit}
-use Rattle.storage.specs.Rows.{BLOCK, KIND, FLAG, FILE, SYMBOL, SCOPE, SOURCE, TARGET, PRECEDENCE, Blocks, cell, nodeOf, nodeRow, edgeRow, putLink}
-use Rattle.storage.specs.Rows.Laws.{cell-out, words-removed, words-live}
+use Rattle.storage.specs.Rows.{BLOCK, KIND, FLAG, FILE, SCOPE, SOURCE, TARGET, PRECEDENCE, Blocks, cell, nodeOf, nodeRow, edgeRow, putLink}
+use Rattle.storage.specs.Rows.Laws.{cell-out, words-removed, words-live, known-kind}
 use Rattle.image.specs.Filling.{Held}
 use Rattle.storage.specs.Links.{Linked}
 use Rattle.storage.specs.Links.Laws.{link-other, link-length, linked-removed, linked-live}
 use Rattle.storage.specs.References.{nodeTest, edgeTest, Sources}
 
--- A NODE FROM ITS WORDS: is it an exported scope of the file, is it live, which is its file
-pub exported-words : (kind flag file symbol scope f : ℕ) → kind < 9 → exportedIn f (nodeOf kind flag file symbol scope) ≡ pick (eqb kind 3) (and (eqb flag 1) (eqb file f)) false
-unfolding nodeOf exportedIn isFile
-exported-words zero flag file symbol scope f h = refl
-exported-words (suc zero) flag file symbol scope f h = refl
-exported-words (suc (suc zero)) flag file symbol scope f h = refl
-exported-words (suc (suc (suc zero))) flag file symbol scope f h = refl
-exported-words (suc (suc (suc (suc zero)))) flag file symbol scope f h = refl
-exported-words (suc (suc (suc (suc (suc zero))))) flag file symbol scope f h = refl
-exported-words (suc (suc (suc (suc (suc (suc zero)))))) flag file symbol scope f h = refl
-exported-words (suc (suc (suc (suc (suc (suc (suc zero))))))) flag file symbol scope f h = refl
-exported-words (suc (suc (suc (suc (suc (suc (suc (suc zero)))))))) flag file symbol scope f h = refl
-exported-words (suc (suc (suc (suc (suc (suc (suc (suc (suc k))))))))) flag file symbol scope f h = absurd (omega (arith, h))
-
-pub fits-words : (v : View) (kind flag file symbol scope : ℕ) → kind < 9 → nodeFits v (nodeOf kind flag file symbol scope) ≡ pick (eqb kind 6) (exportedIn file (v .node scope)) true
-unfolding nodeOf nodeFits
-fits-words v zero flag file symbol scope h = refl
-fits-words v (suc zero) flag file symbol scope h = refl
-fits-words v (suc (suc zero)) flag file symbol scope h = refl
-fits-words v (suc (suc (suc zero))) flag file symbol scope h = refl
-fits-words v (suc (suc (suc (suc zero)))) flag file symbol scope h = refl
-fits-words v (suc (suc (suc (suc (suc zero))))) flag file symbol scope h = refl
-fits-words v (suc (suc (suc (suc (suc (suc zero)))))) flag file symbol scope h = refl
-fits-words v (suc (suc (suc (suc (suc (suc (suc zero))))))) flag file symbol scope h = refl
-fits-words v (suc (suc (suc (suc (suc (suc (suc (suc zero)))))))) flag file symbol scope h = refl
-fits-words v (suc (suc (suc (suc (suc (suc (suc (suc (suc k))))))))) flag file symbol scope h = absurd (omega (arith, h))
-
-pub live-words : (kind flag file symbol scope : ℕ) → kind < 9 → isLive (nodeOf kind flag file symbol scope) ≡ not (eqb kind 0)
-unfolding nodeOf
-live-words zero flag file symbol scope h = refl
-live-words (suc zero) flag file symbol scope h = refl
-live-words (suc (suc zero)) flag file symbol scope h = refl
-live-words (suc (suc (suc zero))) flag file symbol scope h = refl
-live-words (suc (suc (suc (suc zero)))) flag file symbol scope h = refl
-live-words (suc (suc (suc (suc (suc zero))))) flag file symbol scope h = refl
-live-words (suc (suc (suc (suc (suc (suc zero)))))) flag file symbol scope h = refl
-live-words (suc (suc (suc (suc (suc (suc (suc zero))))))) flag file symbol scope h = refl
-live-words (suc (suc (suc (suc (suc (suc (suc (suc zero)))))))) flag file symbol scope h = refl
-live-words (suc (suc (suc (suc (suc (suc (suc (suc (suc k))))))))) flag file symbol scope h = absurd (omega (arith, h))
-
 -- root and jump have no file
 abbrev fileWord : ℕ → ℕ → Option ℕ
 fileWord kind file = pick (ltb kind 3) none (some file)
 
-pub file-words : (kind flag file symbol scope : ℕ) → kind < 9 → fileOf (nodeOf kind flag file symbol scope) ≡ fileWord kind file
-unfolding nodeOf
-file-words zero flag file symbol scope h = refl
-file-words (suc zero) flag file symbol scope h = refl
-file-words (suc (suc zero)) flag file symbol scope h = refl
-file-words (suc (suc (suc zero))) flag file symbol scope h = refl
-file-words (suc (suc (suc (suc zero)))) flag file symbol scope h = refl
-file-words (suc (suc (suc (suc (suc zero))))) flag file symbol scope h = refl
-file-words (suc (suc (suc (suc (suc (suc zero)))))) flag file symbol scope h = refl
-file-words (suc (suc (suc (suc (suc (suc (suc zero))))))) flag file symbol scope h = refl
-file-words (suc (suc (suc (suc (suc (suc (suc (suc zero)))))))) flag file symbol scope h = refl
-file-words (suc (suc (suc (suc (suc (suc (suc (suc (suc k))))))))) flag file symbol scope h = absurd (omega (arith, h))
-
--- THE SAME IN AN INDEX THAT HOLDS THE GRAPH
-module _ (g : Graph) (l : List ℕ) (k : Held g l) where
+-- A NODE OF THE GRAPH THAT AN INDEX HOLDS, by its words: is it an exported scope of the file, does it fit, is it live, which is its file
+module _ (g : Graph) (l : List ℕ) (held : Held g l) where
   pub exported-at : (f n : ℕ) → exportedIn f ((viewOf g) .node n) ≡ pick (eqb (cell l KIND n) 3) (and (eqb (cell l FLAG n) 1) (eqb (cell l FILE n) f)) false
-  unfolding nodeRow
-  exported-at f n = ap (exportedIn f) (sym (k .node n)) ∙ exported-words (cell l KIND n) (cell l FLAG n) (cell l FILE n) (cell l SYMBOL n) (cell l SCOPE n) f (k .kinds n)
+  unfolding exportedIn isFile
+  exported-at f n =
+      ap (exportedIn f) (sym (held .node n))
+      ∙ known-kind (λ k x. exportedIn f x ≡ pick (eqb k 3) (and (eqb (cell l FLAG n) 1) (eqb (cell l FILE n) f)) false) l n refl refl refl refl refl refl refl refl refl (held .kinds n)
 
   pub fits-at : (n : ℕ) → nodeTest g n ≡ pick (eqb (cell l KIND n) 6) (exportedIn (cell l FILE n) ((viewOf g) .node (cell l SCOPE n))) true
-  unfolding nodeRow
-  fits-at n = ap (nodeFits (viewOf g)) (sym (k .node n)) ∙ fits-words (viewOf g) (cell l KIND n) (cell l FLAG n) (cell l FILE n) (cell l SYMBOL n) (cell l SCOPE n) (k .kinds n)
+  unfolding nodeFits
+  fits-at n =
+      ap (nodeFits (viewOf g)) (sym (held .node n))
+      ∙ known-kind (λ k x. nodeFits (viewOf g) x ≡ pick (eqb k 6) (exportedIn (cell l FILE n) ((viewOf g) .node (cell l SCOPE n))) true) l n refl refl refl refl refl refl refl refl refl (held .kinds n)
 
   live-at : (n : ℕ) → isLive ((viewOf g) .node n) ≡ not (eqb (cell l KIND n) 0)
-  unfolding nodeRow
-  live-at n = ap (λ (x : Node). isLive x) (sym (k .node n)) ∙ live-words (cell l KIND n) (cell l FLAG n) (cell l FILE n) (cell l SYMBOL n) (cell l SCOPE n) (k .kinds n)
+  live-at n = ap (λ (x : Node). isLive x) (sym (held .node n)) ∙ known-kind (λ k x. isLive x ≡ not (eqb k 0)) l n refl refl refl refl refl refl refl refl refl (held .kinds n)
 
   file-at : (n : ℕ) → fileOf ((viewOf g) .node n) ≡ fileWord (cell l KIND n) (cell l FILE n)
-  unfolding nodeRow
-  file-at n = ap (λ (x : Node). fileOf x) (sym (k .node n)) ∙ file-words (cell l KIND n) (cell l FLAG n) (cell l FILE n) (cell l SYMBOL n) (cell l SCOPE n) (k .kinds n)
+  file-at n = ap (λ (x : Node). fileOf x) (sym (held .node n)) ∙ known-kind (λ k x. fileOf x ≡ fileWord k (cell l FILE n)) l n refl refl refl refl refl refl refl refl refl (held .kinds n)
 
 -- BOTH ENDS OF AN EDGE, by their words
 unfoldable pub endsFit : ℕ → ℕ → ℕ → ℕ → ℕ → Bool

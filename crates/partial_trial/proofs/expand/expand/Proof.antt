@@ -1,88 +1,77 @@
-use Rattle.partial_state.specs.Extractions.{at, goingAt}
-use native.Mathlib.Omega.{arith}
+-- `partial_trial::expand::expand`: edge by edge.
 use Prim.Native.Nat.{ℕ, _<_}
-use mathlib.Core.Path.{ap, _≡_, refl, sym, subst, _∙_}
+use native.Mathlib.Omega.{arith}
+use mathlib.Core.Path.{_≡_, refl, sym, ap, subst, _∙_}
 use lib.ListN.{length}
+use Rattle.semantics.specs.Graph.{fileOf, isFile}
+use Rattle.storage.specs.Rows.{nodeRow}
 use Rattle.storage.specs.Rows.Use.{left}
+use Rattle.partial_state.specs.Extractions.{at, goingAt}
 use Rattle.partial_trial.specs.Expansions.{Expanding}
-use Rattle.partial_trial.specs.Expansions.Edges.{Mid, mid-start, mid-given, mid-less, mid-again, mid-refused, mid-end}
+use Rattle.partial_trial.specs.Expansions.Edges.{Mid, mid-start, mid-owning, mid-less, mid-again, mid-refused, mid-end}
 use borrow.Author.Needs.{needs}
 use Rattle.partial_trial.proofs.expand.expand.Statement.{statement}
 use Rattle.partial_trial.proofs.expand.expand.Tie as tie
 
 abbrev Inv-loop : tie.InvT-loop
-Inv-loop index filing ends k item₀ work₀ words₀ frame on₀ link₀ item work words on link = (length item ≡ length item₀) × (length work ≡ length work₀) × (length words ≡ length words₀) × ((v : Expanding 549755813888 index filing ends k item₀ (at frame on₀) work₀ words₀) → Mid 549755813888 index filing ends k item₀ (at frame on₀) work₀ words₀ v (at frame on) item work words link)
+Inv-loop index filing ends k item₀ work₀ words₀ frame own on₀ link₀ item work words on link = (length item ≡ length item₀) × (length work ≡ length work₀) × (length words ≡ length words₀) × (own ≡ isFile (filing .file) (fileOf (nodeRow index (ends .end)))) × ((v : Expanding 549755813888 index filing ends k item₀ (at frame on₀) work₀ words₀) → Mid 549755813888 index filing ends k item₀ (at frame on₀) work₀ words₀ v (at frame on) item work words link)
 
 abbrev μ-loop : tie.MeasureT-loop
-μ-loop index filing ends k item₀ work₀ words₀ frame on₀ link₀ item work words on link = left index link
+μ-loop index filing ends k item₀ work₀ words₀ frame own on₀ link₀ item work words on link = left index link
 
--- src/expand.rt:132:9
+is-of-file-requires : tie.Need-is-of-file-requires Inv-loop μ-loop
+is-of-file-requires c κs = c .before .before .before .before .pre .given .loaded .long
+
 first-requires : tie.Need-first-requires Inv-loop μ-loop
-first-requires c κs = let a = c .before .before .before .before .args in let p = c .before .before .before .before .pre in p .given .loaded .long
+first-requires c κs = c .before .before .before .before .before .pre .given .loaded .long
 
--- src/expand.rt:133:5
 loop-holds : tie.Need-loop-holds Inv-loop μ-loop
-loop-holds c = let a = c .before .before .before .before .before .args in (refl, refl, refl, λ v. mid-start 549755813888 (a .index .now) (a .filing) (a .ends) (a .k) (a .item .now) (at (a .frame) (a .extraction)) (a .work .now) (a .words .now) v (c .first .result) (c .first .ensures))
+loop-holds c = let a = c .before .before .before .before .before .before .args in (refl, refl, refl, c .before .is-of-file .ensures, λ v. mid-start 549755813888 (a .index .now) (a .filing) (a .ends) (a .k) (a .item .now) (at (a .frame) (a .extraction)) (a .work .now) (a .words .now) v (c .first .result) (c .first .ensures))
 
--- src/expand.rt:134:20
 sub-edge : tie.Need-sub-edge Inv-loop μ-loop
 sub-edge c = search needs
 
--- src/expand.rt:135:13
 look-at-requires : tie.Need-look-at-requires Inv-loop μ-loop
-look-at-requires c κs = let a = c .before .before .before .before .before .before .before .before .before .before .args in let p = c .before .before .before .before .before .before .before .before .before .before .pre in let l = c .before .before .before .before .loop in mid-given 549755813888 (a .index .now) (a .filing) (a .ends) (a .k) (a .item .now) (at (a .frame) (a .extraction)) (a .work .now) (a .words .now) p (at (a .frame) (l .on)) (l .item) (l .work) (l .words) (l .link) (l .inv .3 p) (omega (arith, c .before .before .before .loop-test .taken)) (l .inv .2) 1099511627776 (omega arith)
+look-at-requires c κs = let a = c .before .before .before .before .before .before .before .before .before .before .before .args in let p = c .before .before .before .before .before .before .before .before .before .before .before .pre in let l = c .before .before .before .before .loop in mid-owning 549755813888 (a .index .now) (a .filing) (a .ends) (a .k) (a .item .now) (at (a .frame) (a .extraction)) (a .work .now) (a .words .now) p (at (a .frame) (l .on)) (l .item) (l .work) (l .words) (l .link) (l .inv .4 p) (omega (arith, c .before .before .before .loop-test .taken)) (l .inv .2) 1099511627776 (omega arith) (c .before .before .before .before .before .before .is-of-file .result) (l .inv .3)
 
--- src/expand.rt:136:23
 enum-known-going : tie.Need-enum-known-going Inv-loop μ-loop
 enum-known-going c = search needs
 
--- src/expand.rt:137:13
 enum-told : tie.Need-enum-told Inv-loop μ-loop
 enum-told c = search needs
 
--- src/expand.rt:137:13
 same-length : tie.Need-same-length Inv-loop μ-loop
-same-length c = c .before .before .before .before .before .before .before .before .look-at .kept .1 .1 .1 .1 .1 .0 ∙ c .before .before .before .before .before .before .before .before .before .before .before .before .before .loop .inv .0
+same-length c = c .before .before .before .before .before .before .before .before .look-at .kept .1 .1 .1 .1 .1 .1 .0 ∙ c .before .before .before .before .before .before .before .before .before .before .before .before .before .loop .inv .0
 
--- src/expand.rt:137:13
 same-length-2 : tie.Need-same-length-2 Inv-loop μ-loop
-same-length-2 c = c .before .before .before .before .before .before .before .before .look-at .kept .1 .1 .1 .1 .1 .1 .1 .0 ∙ c .before .before .before .before .before .before .before .before .before .before .before .before .before .loop .inv .1
+same-length-2 c = c .before .before .before .before .before .before .before .before .look-at .kept .1 .1 .1 .1 .1 .1 .1 .1 .0 ∙ c .before .before .before .before .before .before .before .before .before .before .before .before .before .loop .inv .1
 
--- src/expand.rt:137:13
 same-length-3 : tie.Need-same-length-3 Inv-loop μ-loop
-same-length-3 c = c .before .before .before .before .before .before .before .before .look-at .kept .1 .1 .1 .1 .1 .1 .1 .1 .0 ∙ c .before .before .before .before .before .before .before .before .before .before .before .before .before .loop .inv .2
+same-length-3 c = c .before .before .before .before .before .before .before .before .look-at .kept .1 .1 .1 .1 .1 .1 .1 .1 .1 .0 ∙ c .before .before .before .before .before .before .before .before .before .before .before .before .before .loop .inv .2
 
--- src/expand.rt:137:13
 returns : tie.Need-returns Inv-loop μ-loop
-returns c = let a = c .before .before .before .before .before .before .before .before .before .before .before .before .before .before .before .before .before .before .before .args in let p = c .before .before .before .before .before .before .before .before .before .before .before .before .before .before .before .before .before .before .before .pre in let l = c .before .before .before .before .before .before .before .before .before .before .before .before .before .loop in λ v. mid-refused 549755813888 (a .index .now) (a .filing) (a .ends) (a .k) (a .item .now) (at (a .frame) (a .extraction)) (a .work .now) (a .words .now) v (at (a .frame) (l .on)) (l .item) (l .work) (l .words) (l .link) (l .inv .3 v) (omega (arith, c .before .before .before .before .before .before .before .before .before .before .before .before .loop-test .taken)) (l .inv .2) 1099511627776 (omega arith) (goingAt (a .frame) (c .before .before .before .before .before .before .before .before .look-at .result)) (c .before .before .before .before .before .before .before .before .look-at .last .1 .1 .1 .1 .1 .0) (c .before .before .before .before .before .before .before .before .look-at .last .1 .1 .1 .1 .1 .1 .1 .0) (c .before .before .before .before .before .before .before .before .look-at .last .1 .1 .1 .1 .1 .1 .1 .1 .0) (c .before .before .before .before .before .before .before .before .look-at .ensures (mid-given 549755813888 (a .index .now) (a .filing) (a .ends) (a .k) (a .item .now) (at (a .frame) (a .extraction)) (a .work .now) (a .words .now) v (at (a .frame) (l .on)) (l .item) (l .work) (l .words) (l .link) (l .inv .3 v) (omega (arith, c .before .before .before .before .before .before .before .before .before .before .before .before .loop-test .taken)) (l .inv .2) 1099511627776 (omega arith))) (c .enum-told .given .0 .0) (ap (goingAt (a .frame)) (c .enum-told .given .1))
+returns c = let a = c .before .before .before .before .before .before .before .before .before .before .before .before .before .before .before .before .before .before .before .before .args in let l = c .before .before .before .before .before .before .before .before .before .before .before .before .before .loop in λ v. mid-refused 549755813888 (a .index .now) (a .filing) (a .ends) (a .k) (a .item .now) (at (a .frame) (a .extraction)) (a .work .now) (a .words .now) v (at (a .frame) (l .on)) (l .item) (l .work) (l .words) (l .link) (l .inv .4 v) (omega (arith, c .before .before .before .before .before .before .before .before .before .before .before .before .loop-test .taken)) (l .inv .2) 1099511627776 (omega arith) (goingAt (a .frame) (c .before .before .before .before .before .before .before .before .look-at .result)) (c .before .before .before .before .before .before .before .before .look-at .last .1 .1 .1 .1 .1 .1 .0) (c .before .before .before .before .before .before .before .before .look-at .last .1 .1 .1 .1 .1 .1 .1 .1 .0) (c .before .before .before .before .before .before .before .before .look-at .last .1 .1 .1 .1 .1 .1 .1 .1 .1 .0) (c .before .before .before .before .before .before .before .before .look-at .ensures (mid-owning 549755813888 (a .index .now) (a .filing) (a .ends) (a .k) (a .item .now) (at (a .frame) (a .extraction)) (a .work .now) (a .words .now) v (at (a .frame) (l .on)) (l .item) (l .work) (l .words) (l .link) (l .inv .4 v) (omega (arith, c .before .before .before .before .before .before .before .before .before .before .before .before .loop-test .taken)) (l .inv .2) 1099511627776 (omega arith) (c .before .before .before .before .before .before .before .before .before .before .before .before .before .before .before .is-of-file .result) (l .inv .3))) (c .enum-told .given .0 .0) (ap (goingAt (a .frame)) (c .enum-told .given .1))
 
--- src/expand.rt:140:9
 next-requires : tie.Need-next-requires Inv-loop μ-loop
-next-requires c κs = let a = c .before .before .before .before .before .before .before .before .before .before .before .before .before .before .before .before .before .before .before .before .args in let p = c .before .before .before .before .before .before .before .before .before .before .before .before .before .before .before .before .before .before .before .before .pre in p .given .loaded .long
+next-requires c κs = c .before .before .before .before .before .before .before .before .before .before .before .before .before .before .before .before .before .before .before .before .before .pre .given .loaded .long
 
--- src/expand.rt:133:5
 loop-less : tie.Need-loop-less Inv-loop μ-loop
-loop-less c = let a = c .before .before .before .before .before .before .before .before .before .before .before .before .before .before .before .before .before .before .before .before .before .args in let p = c .before .before .before .before .before .before .before .before .before .before .before .before .before .before .before .before .before .before .before .before .before .pre in let l = c .before .before .before .before .before .before .before .before .before .before .before .before .before .before .before .loop in subst (λ (n : ℕ). left (a .index .now) n < left (a .index .now) (l .link)) (sym (c .next .ensures)) (mid-less 549755813888 (a .index .now) (a .filing) (a .ends) (a .k) (a .item .now) (at (a .frame) (a .extraction)) (a .work .now) (a .words .now) p (at (a .frame) (l .on)) (l .item) (l .work) (l .words) (l .link) (l .inv .3 p) (omega (arith, c .before .before .before .before .before .before .before .before .before .before .before .before .before .before .loop-test .taken)))
+loop-less c = let a = c .before .before .before .before .before .before .before .before .before .before .before .before .before .before .before .before .before .before .before .before .before .before .args in let p = c .before .before .before .before .before .before .before .before .before .before .before .before .before .before .before .before .before .before .before .before .before .before .pre in let l = c .before .before .before .before .before .before .before .before .before .before .before .before .before .before .before .loop in subst (λ (n : ℕ). left (a .index .now) n < left (a .index .now) (l .link)) (sym (c .next .ensures)) (mid-less 549755813888 (a .index .now) (a .filing) (a .ends) (a .k) (a .item .now) (at (a .frame) (a .extraction)) (a .work .now) (a .words .now) p (at (a .frame) (l .on)) (l .item) (l .work) (l .words) (l .link) (l .inv .4 p) (omega (arith, c .before .before .before .before .before .before .before .before .before .before .before .before .before .before .loop-test .taken)))
 
--- src/expand.rt:133:5
 loop-again : tie.Need-loop-again Inv-loop μ-loop
-loop-again c = let a = c .before .before .before .before .before .before .before .before .before .before .before .before .before .before .before .before .before .before .before .before .before .args in let p = c .before .before .before .before .before .before .before .before .before .before .before .before .before .before .before .before .before .before .before .before .before .pre in let l = c .before .before .before .before .before .before .before .before .before .before .before .before .before .before .before .loop in (c .before .before .before .before .before .before .before .before .before .before .look-at .kept .1 .1 .1 .1 .1 .0 ∙ l .inv .0, c .before .before .before .before .before .before .before .before .before .before .look-at .kept .1 .1 .1 .1 .1 .1 .1 .0 ∙ l .inv .1, c .before .before .before .before .before .before .before .before .before .before .look-at .kept .1 .1 .1 .1 .1 .1 .1 .1 .0 ∙ l .inv .2, λ v. mid-again 549755813888 (a .index .now) (a .filing) (a .ends) (a .k) (a .item .now) (at (a .frame) (a .extraction)) (a .work .now) (a .words .now) v (at (a .frame) (l .on)) (l .item) (l .work) (l .words) (l .link) (l .inv .3 v) (omega (arith, c .before .before .before .before .before .before .before .before .before .before .before .before .before .before .loop-test .taken)) (l .inv .2) 1099511627776 (omega arith) (goingAt (a .frame) (c .before .before .before .before .before .before .before .before .before .before .look-at .result)) (c .before .before .before .before .before .before .before .before .before .before .look-at .last .1 .1 .1 .1 .1 .0) (c .before .before .before .before .before .before .before .before .before .before .look-at .last .1 .1 .1 .1 .1 .1 .1 .0) (c .before .before .before .before .before .before .before .before .before .before .look-at .last .1 .1 .1 .1 .1 .1 .1 .1 .0) (c .before .before .before .before .before .before .before .before .before .before .look-at .ensures (mid-given 549755813888 (a .index .now) (a .filing) (a .ends) (a .k) (a .item .now) (at (a .frame) (a .extraction)) (a .work .now) (a .words .now) v (at (a .frame) (l .on)) (l .item) (l .work) (l .words) (l .link) (l .inv .3 v) (omega (arith, c .before .before .before .before .before .before .before .before .before .before .before .before .before .before .loop-test .taken)) (l .inv .2) 1099511627776 (omega arith))) (at (a .frame) (c .before .before .going .given .0 .0)) (ap (goingAt (a .frame)) (c .before .before .going .given .1)) (c .next .result) (c .next .ensures))
+loop-again c = let a = c .before .before .before .before .before .before .before .before .before .before .before .before .before .before .before .before .before .before .before .before .before .before .args in let l = c .before .before .before .before .before .before .before .before .before .before .before .before .before .before .before .loop in (c .before .before .before .before .before .before .before .before .before .before .look-at .kept .1 .1 .1 .1 .1 .1 .0 ∙ l .inv .0, c .before .before .before .before .before .before .before .before .before .before .look-at .kept .1 .1 .1 .1 .1 .1 .1 .1 .0 ∙ l .inv .1, c .before .before .before .before .before .before .before .before .before .before .look-at .kept .1 .1 .1 .1 .1 .1 .1 .1 .1 .0 ∙ l .inv .2, l .inv .3, λ v. mid-again 549755813888 (a .index .now) (a .filing) (a .ends) (a .k) (a .item .now) (at (a .frame) (a .extraction)) (a .work .now) (a .words .now) v (at (a .frame) (l .on)) (l .item) (l .work) (l .words) (l .link) (l .inv .4 v) (omega (arith, c .before .before .before .before .before .before .before .before .before .before .before .before .before .before .loop-test .taken)) (l .inv .2) 1099511627776 (omega arith) (goingAt (a .frame) (c .before .before .before .before .before .before .before .before .before .before .look-at .result)) (c .before .before .before .before .before .before .before .before .before .before .look-at .last .1 .1 .1 .1 .1 .1 .0) (c .before .before .before .before .before .before .before .before .before .before .look-at .last .1 .1 .1 .1 .1 .1 .1 .1 .0) (c .before .before .before .before .before .before .before .before .before .before .look-at .last .1 .1 .1 .1 .1 .1 .1 .1 .1 .0) (c .before .before .before .before .before .before .before .before .before .before .look-at .ensures (mid-owning 549755813888 (a .index .now) (a .filing) (a .ends) (a .k) (a .item .now) (at (a .frame) (a .extraction)) (a .work .now) (a .words .now) v (at (a .frame) (l .on)) (l .item) (l .work) (l .words) (l .link) (l .inv .4 v) (omega (arith, c .before .before .before .before .before .before .before .before .before .before .before .before .before .before .loop-test .taken)) (l .inv .2) 1099511627776 (omega arith) (c .before .before .before .before .before .before .before .before .before .before .before .before .before .before .before .before .before .is-of-file .result) (l .inv .3))) (at (a .frame) (c .before .before .going .given .0 .0)) (ap (goingAt (a .frame)) (c .before .before .going .given .1)) (c .next .result) (c .next .ensures))
 
--- src/expand.rt:118:1
 same-length-4 : tie.Need-same-length-4 Inv-loop μ-loop
 same-length-4 c = c .before .loop .inv .0
 
--- src/expand.rt:118:1
 same-length-5 : tie.Need-same-length-5 Inv-loop μ-loop
 same-length-5 c = c .before .loop .inv .1
 
--- src/expand.rt:118:1
 same-length-6 : tie.Need-same-length-6 Inv-loop μ-loop
 same-length-6 c = c .before .loop .inv .2
 
--- src/expand.rt:118:1
 returns-2 : tie.Need-returns-2 Inv-loop μ-loop
-returns-2 c = let a = c .before .before .before .before .before .before .before .args in let p = c .before .before .before .before .before .before .before .pre in let l = c .before .loop in λ v. mid-end 549755813888 (a .index .now) (a .filing) (a .ends) (a .k) (a .item .now) (at (a .frame) (a .extraction)) (a .work .now) (a .words .now) v (at (a .frame) (l .on)) (l .item) (l .work) (l .words) (l .link) (l .inv .3 v) (omega (arith, c .loop-test .left))
+returns-2 c = let a = c .before .before .before .before .before .before .before .before .args in let l = c .before .loop in λ v. mid-end 549755813888 (a .index .now) (a .filing) (a .ends) (a .k) (a .item .now) (at (a .frame) (a .extraction)) (a .work .now) (a .words .now) v (at (a .frame) (l .on)) (l .item) (l .work) (l .words) (l .link) (l .inv .4 v) (omega (arith, c .loop-test .left))
 
 pub expand-spec : {M : Type 1} → statement M
 expand-spec =
@@ -90,6 +79,7 @@ expand-spec =
     (tie.spec
     Inv-loop
     μ-loop
+    is-of-file-requires
     first-requires
     loop-holds
     sub-edge

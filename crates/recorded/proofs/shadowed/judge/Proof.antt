@@ -1,81 +1,82 @@
--- `judge` meets its contract: a path without a beatable edge is beaten by none.
+-- `judge` meets its contract: a path without a rival is beaten by none, and one that its rival shadows is beaten.
 use mathlib.Core.Path.{sym, ap, _∙_}
 use mathlib.Core.List.{List}
-use Prim.Native.Nat.{ℕ, _+_, _*_, _-_}
-use lib.ListN.{take, drop}
-use Rattle.semantics.specs.Graph.{viewOf}
-use Rattle.recorded.specs.Beatable.{beatable}
-use Rattle.recorded.specs.Beatable.Laws.{never-beaten}
+use Prim.Native.Nat.{ℕ, _*_, _/_, _<_}
+use native.Mathlib.Omega.{arith}
+use Rattle.storage.specs.Rows.{edgeRow}
+use Rattle.path.specs.Shadows.{shadowsEdges}
+use Rattle.recorded.specs.EdgeLists.Shadowed.{beaten-by}
 use Rattle.recorded.specs.ResultSlots.{edgesAt, listsAt}
-use Rattle.recorded.specs.ResultSlots.Laws.{edges-part}
+use Rattle.recorded.specs.ResultSlots.Laws.{length-lists, lists-at}
+use Rattle.recorded.specs.Rivals.Laws.{best-inside, best-within, never-beaten}
 use borrow.Author.Needs.{needs}
 use Rattle.recorded.proofs.shadowed.judge.Statement.{statement}
 use Rattle.recorded.proofs.shadowed.judge.Tie as tie
 
-mul-start : tie.Need-mul-start
-mul-start c = search needs
-
-add-start : tie.Need-add-start
-add-start c = search needs
-
-edge-count-requires : tie.Need-edge-count-requires
-edge-count-requires c κs = search needs
-
-add-has-beatable : tie.Need-add-has-beatable
-add-has-beatable c = search needs
-
-mul-has-beatable : tie.Need-mul-has-beatable
-mul-has-beatable c = search needs
-
-sub-has-beatable : tie.Need-sub-has-beatable
-sub-has-beatable c = search needs
-
-part-has-beatable-start : tie.Need-part-has-beatable-start
-part-has-beatable-start c = search needs
-
-part-has-beatable-end : tie.Need-part-has-beatable-end
-part-has-beatable-end c = search needs
-
-has-beatable-requires : tie.Need-has-beatable-requires
-has-beatable-requires c κs = search needs
-
-is-shadowed-requires : tie.Need-is-shadowed-requires
-is-shadowed-requires c κs = search needs
-
-same-length : tie.Need-same-length
-same-length c = search needs
+first-rival-requires : tie.Need-first-rival-requires
+first-rival-requires c κs =
+    let a = c .before .before .before .args in
+    let p = c .before .before .before .pre .1 in
+    let ix = a .index .now in
+    let ws = a .result .now in
+    let all = p .0 .0 in
+    let h = p .0 .1 in
+    (c .before .before .before .pre .0, (all (a .i) h, best-within ix ws (a .best .now) 128 (a .n) (a .i) all h (p .1)))
 
 returns : tie.Need-returns
-returns c = search needs
+returns c =
+    let a = c .before .before .before .before .before .args in
+    let p = c .before .before .before .before .before .pre .1 in
+    let ix = a .index .now in
+    let ws = a .result .now in
+    let all = p .0 .0 in
+    let h = p .0 .1 in
+    sym (never-beaten 128 ix ws (a .best .now) (a .n) (a .i) all h (p .1) (c .before .first-rival .ensures .0 (omega (arith, c .if1 .taken))))
 
-same-length-2 : tie.Need-same-length-2
-same-length-2 c = search needs
+shadows-slot-requires : tie.Need-shadows-slot-requires
+shadows-slot-requires c κs =
+    let a = c .before .before .before .before .before .args in
+    let p = c .before .before .before .before .before .pre .1 in
+    let ix = a .index .now in
+    let ws = a .result .now in
+    let all = p .0 .0 in
+    let h = p .0 .1 in
+    let inside = best-inside ix ws (a .best .now) 128 (128 * a .n) (omega (arith, h)) (p .1) in
+    let place = c .before .first-rival .ensures .1 (128 * a .n) inside (omega (arith, h)) in
+    (c .before .before .before .before .before .pre .0, (all (c .before .first-rival .result / 128) (omega (arith, place)), all (a .i) h))
 
 returns-2 : tie.Need-returns-2
 returns-2 c =
-    let a = c .before .before .before .before .before .before .before .before .before .before .args in
-    let p = c .before .before .before .before .before .before .before .before .before .before .pre in
-    let k = p .0 in
+    let a = c .before .before .before .before .before .before .before .args in
+    let p = c .before .before .before .before .before .before .before .pre .1 in
+    let ix = a .index .now in
     let ws = a .result .now in
-    let lent = ap (λ (m : ℕ). take (128 * a .i + 1 + m - (128 * a .i + 1)) (drop (128 * a .i + 1) ws)) (c .before .before .before .before .before .before .edge-count .ensures) ∙ edges-part 128 (a .i) ws (p .1 .0 .1) in
-    let none = ap (λ (l : List ℕ). beatable (viewOf (k .graph)) l) (sym lent) ∙ c .before .before .before .has-beatable .ensures .1 (k .graph) (k .loaded) (c .if1 .left) in
-    (c .before .before .before .has-beatable .ensures .0, sym (never-beaten (a .index .now) k (edgesAt 128 (a .i) ws) (listsAt 128 (a .n) ws) none))
+    let all = p .0 .0 in
+    let h = p .0 .1 in
+    let inside = best-inside ix ws (a .best .now) 128 (128 * a .n) (omega (arith, h)) (p .1) in
+    let place = c .before .before .before .first-rival .ensures .1 (128 * a .n) inside (omega (arith, h)) in
+    let edges = edgeRow ix in
+    let own = edgesAt 128 (a .i) ws in
+    let j = c .before .before .before .first-rival .result / 128 in
+    let m : j < a .n = omega (arith, place) in
+    let hit = ap (λ (x : List ℕ). shadowsEdges edges x own) (lists-at 128 (a .n) j ws m) ∙ sym (c .before .shadows-slot .ensures) ∙ c .if2 .taken in
+    sym (beaten-by edges own (listsAt 128 (a .n) ws) j (omega (arith, m, length-lists 128 (a .n) ws)) hit)
+
+is-shadowed-requires : tie.Need-is-shadowed-requires
+is-shadowed-requires c κs =
+    let p = c .before .before .before .before .before .before .before .pre .1 .0 in
+    (c .before .before .before .before .before .before .before .pre .0, (p .0, p .0 (c .before .before .before .before .before .before .before .args .i) (p .1)))
+
+returns-3 : tie.Need-returns-3
+returns-3 c = search needs
 
 pub judge-spec : {M : Type 1} → statement M
 judge-spec =
     tie.close
     (tie.spec
-    mul-start
-    add-start
-    edge-count-requires
-    add-has-beatable
-    mul-has-beatable
-    sub-has-beatable
-    part-has-beatable-start
-    part-has-beatable-end
-    has-beatable-requires
-    is-shadowed-requires
-    same-length
+    first-rival-requires
     returns
-    same-length-2
-    returns-2)
+    shadows-slot-requires
+    returns-2
+    is-shadowed-requires
+    returns-3)

@@ -1,5 +1,5 @@
--- `mark_shadowed` meets its contract: of no node anything is known at first.
-use Rattle.recorded.specs.Beatable.Laws.{known-none}
+-- `mark_shadowed` meets its contract: nothing was looked at yet.
+use Rattle.recorded.specs.Rivals.Noting.{best-none}
 use borrow.Author.Needs.{needs}
 use Rattle.recorded.proofs.shadowed.mark_shadowed.Statement.{statement}
 use Rattle.recorded.proofs.shadowed.mark_shadowed.Tie as tie
@@ -18,7 +18,8 @@ slice-aggregate-mark-many c = search needs
 
 mark-many-requires : tie.Need-mark-many-requires
 mark-many-requires c κs =
-    (c .before .before .before .before .before .pre .0, (c .before .before .before .before .before .pre .1, known-none (c .before .before .before .before .before .args .index .now) 2048))
+    let a = c .before .before .before .before .before .args in
+    (c .before .before .before .before .before .pre .0, (c .before .before .before .before .before .pre .1, best-none 128 (a .index .now) (a .result .now) 2048))
 
 same-length-2 : tie.Need-same-length-2
 same-length-2 c = search needs

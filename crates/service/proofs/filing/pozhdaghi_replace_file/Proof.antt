@@ -9,7 +9,7 @@ use Rattle.semantics.specs.Database.{filesOnly}
 use Rattle.semantics.specs.Told.{toldReplacement}
 use Rattle.semantics.specs.Calls.{FileRequest, replaceCall}
 use Rattle.service.specs.Asked.{fileBy, fileAsked}
-use Rattle.service.specs.Written.{written}
+use Rattle.path_words.specs.Written.{written}
 use borrow.Author.Needs.{needs}
 use Rattle.service.proofs.filing.pozhdaghi_replace_file.Statement.{statement}
 use Rattle.service.proofs.filing.pozhdaghi_replace_file.Tie as tie

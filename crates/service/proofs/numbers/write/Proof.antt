@@ -6,8 +6,9 @@ use mathlib.Core.List.{_++_}
 use Prim.Native.Nat.{ℕ}
 use lib.ListN.{length, set, take, drop, length-set}
 use Rattle.words.specs.Copies.{copy-more, copy-all}
-use Rattle.service.specs.Written.{written, numbersIn}
-use Rattle.service.specs.Written.Laws.{written-length, written-at}
+use Rattle.path_words.specs.Written.{written}
+use Rattle.service.specs.Written.{numbersIn}
+use Rattle.path_words.specs.Written.Laws.{written-length, written-at}
 use borrow.Author.Needs.{needs}
 use Rattle.service.proofs.numbers.write.Statement.{statement}
 use Rattle.service.proofs.numbers.write.Tie as tie

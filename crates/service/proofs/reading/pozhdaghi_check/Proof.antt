@@ -3,7 +3,7 @@ use Prim.Native.Nat.{ℕ}
 use mathlib.Core.Path.{ap, _∙_}
 use mathlib.Core.List.{List}
 use lib.ListN.{length}
-use Rattle.service.specs.Written.{written}
+use Rattle.path_words.specs.Written.{written}
 use borrow.Author.Needs.{needs}
 use Rattle.service.proofs.reading.pozhdaghi_check.Statement.{statement}
 use Rattle.service.proofs.reading.pozhdaghi_check.Tie as tie

@@ -9,7 +9,7 @@ use Rattle.semantics.specs.Recorded.{recorded}
 use Rattle.semantics.specs.Told.{toldResolution}
 use Rattle.semantics.specs.Calls.{Request, directCall}
 use Rattle.service.specs.Asked.{searchBy, searchAsked}
-use Rattle.service.specs.Written.{written}
+use Rattle.path_words.specs.Written.{written}
 use borrow.Author.Needs.{needs}
 use Rattle.service.proofs.searching.pozhdaghi_direct_recorded.Statement.{statement}
 use Rattle.service.proofs.searching.pozhdaghi_direct_recorded.Tie as tie

@@ -9,7 +9,7 @@ use Rattle.semantics.specs.Recorded.{returned}
 use Rattle.semantics.specs.Told.{toldLinearResolution}
 use Rattle.semantics.specs.Calls.{LinearRequest, linearCall}
 use Rattle.service.specs.Asked.{linearBy, linearAsked}
-use Rattle.service.specs.Written.{written}
+use Rattle.path_words.specs.Written.{written}
 use borrow.Author.Needs.{needs}
 use Rattle.service.proofs.searching.pozhdaghi_linear.Statement.{statement}
 use Rattle.service.proofs.searching.pozhdaghi_linear.Tie as tie

@@ -10,7 +10,7 @@ use Rattle.semantics.specs.Database.{filesOnly}
 use Rattle.semantics.specs.Told.{toldResolution}
 use Rattle.semantics.specs.Calls.{Request, stitchedCall}
 use Rattle.service.specs.Asked.{searchBy, searchAsked}
-use Rattle.service.specs.Written.{written}
+use Rattle.path_words.specs.Written.{written}
 use borrow.Author.Needs.{needs}
 use Rattle.service.proofs.searching.pozhdaghi_stitched_recorded.Statement.{statement}
 use Rattle.service.proofs.searching.pozhdaghi_stitched_recorded.Tie as tie

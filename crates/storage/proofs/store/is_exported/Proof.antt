@@ -1,28 +1,27 @@
 -- `storage::store::is_exported`: the kind and the flag decide.
 use borrow.Author.Needs.{needs}
-use mathlib.Core.Path.{sym, ap, _∙_}
-use borrow.Author.Tests.{eq-eqb, ne-eqb}
-use lib.Dec.{eqb}
-use Prim.Native.Nat.{ℕ}
-use Rattle.storage.specs.Rows.Laws.{exported-row}
+use mathlib.Core.Path.{_∙_}
+use mathlib.Core.Bool.{false}
+use mathlib.Core.List.{[], _∷_}
+use Rattle.storage.specs.Rows.Laws.{marked-one, marked-none, exported-row}
 use Rattle.storage.proofs.store.is_exported.Statement.{statement}
 use Rattle.storage.proofs.store.is_exported.Tie as tie
 
 word-requires : tie.Need-word-requires
 word-requires c κs = search needs
 
+is-marked-requires : tie.Need-is-marked-requires
+is-marked-requires c κs = search needs
+
 returns : tie.Need-returns
 returns c =
-    let a = c .before .before .before .args in
-    sym (exported-row (a .index .now) (a .n .0) ∙ simp (ne-eqb _ 3 (λ e. c .if1 .taken (c .before .word .ensures ∙ e))))
-
-word-requires-2 : tie.Need-word-requires-2
-word-requires-2 c κs = search needs
+    let a = c .before .before .before .before .args in let w = c .before .before .word in
+    c .is-marked .ensures ∙ marked-one (3 ∷ []) false (a .index .now) (a .n .0) (w .result) (w .ensures) (c .before .match .keys1) ∙ exported-row (a .index .now) (a .n .0)
 
 returns-2 : tie.Need-returns-2
 returns-2 c =
-    let a = c .before .before .before .before .args in
-    sym (exported-row (a .index .now) (a .n .0) ∙ simp (eq-eqb _ 3 (sym (c .before .before .word .ensures) ∙ c .before .if1 .left)) (ap (λ (f : ℕ). eqb f 1) (sym (c .word2 .ensures))))
+    let a = c .before .before .before .args in let w = c .before .word in
+    marked-none (3 ∷ []) false (a .index .now) (a .n .0) (w .result) (w .ensures) (c .match .rest .1) ∙ exported-row (a .index .now) (a .n .0)
 
 pub is-exported-spec : {M : Type 1} → statement M
-is-exported-spec = tie.close (tie.spec word-requires returns word-requires-2 returns-2)
+is-exported-spec = tie.close (tie.spec word-requires is-marked-requires returns returns-2)

@@ -1,0 +1,96 @@
+-- what is left of the chain is still to be written
+use Prim.Native.Nat.{_-_}
+use native.Mathlib.Omega.{arith}
+use mathlib.Core.Path.{_≡_}
+use lib.ListN.{length}
+use Rattle.stepping.specs.Steps.{attachedOf, symbolsFrom, symbolsOf}
+use Rattle.stepping.specs.StepWords.{stepAt}
+use Rattle.path_words.specs.PathWords.{symbolWord, symbolWords}
+use Rattle.path_words.specs.PathWords.Laws.{Left, left-start, left-more, left-end, symbols-none, symbols-out, symbols-turn}
+use borrow.Author.Needs.{needs}
+use Rattle.path_words.proofs.stacks.write_symbols.Statement.{statement}
+use Rattle.path_words.proofs.stacks.write_symbols.Tie as tie
+
+abbrev Inv-loop : tie.InvT-loop
+Inv-loop steps top area₀ from at₀ cell₀ left₀ area at cell left = (length area ≡ length area₀) × Left area₀ from (symbolWords (symbolsOf (stepAt steps) top)) area at (symbolWords (symbolsFrom (stepAt steps) left cell))
+
+abbrev μ-loop : tie.MeasureT-loop
+μ-loop steps top area₀ from at₀ cell₀ left₀ area at cell left = left
+
+loop-holds : tie.Need-loop-holds Inv-loop μ-loop
+loop-holds c = let a = c .before .before .args in (search needs, left-start (a .area .now) (a .from) (symbolWords (symbolsOf (stepAt (a .steps .now)) (a .top))))
+
+put-requires : tie.Need-put-requires Inv-loop μ-loop
+put-requires c κs = search needs
+
+same-length : tie.Need-same-length Inv-loop μ-loop
+same-length c = search needs
+
+returns : tie.Need-returns Inv-loop μ-loop
+returns c =
+    let a = c .before .before .before .before .before .before .before .before .before .args in
+    let f = stepAt (a .steps .now) in
+    let l = c .before .before .before .before .before .before .loop in
+    let all = symbolWords (symbolsOf f (a .top)) in
+    let rest = symbolWords (symbolsFrom f (l .left) (l .cell)) in
+    left-end (a .area .now) (l .area) (c .before .before .put .last .0) (a .from) (l .at) (c .before .before .put .result) all rest (symbols-none f (l .left) (l .cell) (c .before .before .before .before .if1 .taken)) (l .inv .1) (c .before .before .put .ensures)
+
+write-symbol-requires : tie.Need-write-symbol-requires Inv-loop μ-loop
+write-symbol-requires c κs = search needs
+
+part-requires : tie.Need-part-requires Inv-loop μ-loop
+part-requires c κs = search needs
+
+sub-left : tie.Need-sub-left Inv-loop μ-loop
+sub-left c = search needs
+
+loop-less : tie.Need-loop-less Inv-loop μ-loop
+loop-less c = search needs
+
+loop-again : tie.Need-loop-again Inv-loop μ-loop
+loop-again c =
+    let a = c .before .before .before .before .before .before .before .before .before .before .args in
+    let f = stepAt (a .steps .now) in
+    let l = c .before .before .before .before .before .before .before .loop in
+    let d = c .part .result in
+    let k = l .cell - 1 in
+    let all = symbolWords (symbolsOf f (a .top)) in
+    let top = symbolWord (f k .symbol) (attachedOf f (f k .attached)) in
+    let rest = symbolWords (symbolsFrom f (l .left) (l .cell)) in
+    let next = symbolWords (symbolsFrom f (l .left - 1) d) in
+    let turn = symbols-turn f (l .left) (l .cell) d (c .before .before .before .before .before .before .loop-test .taken) (c .before .before .before .before .before .if1 .left) (c .part .ensures) in
+    (search needs, left-more (a .area .now) (l .area) (c .before .before .before .write-symbol .last .1 .1 .0) (a .from) (l .at) (c .before .before .before .write-symbol .result) all top rest next turn (l .inv .1) (c .before .before .before .write-symbol .ensures))
+
+put-requires-2 : tie.Need-put-requires-2 Inv-loop μ-loop
+put-requires-2 c κs = search needs
+
+same-length-2 : tie.Need-same-length-2 Inv-loop μ-loop
+same-length-2 c = search needs
+
+returns-2 : tie.Need-returns-2 Inv-loop μ-loop
+returns-2 c =
+    let a = c .before .before .before .before .before .before .before .before .args in
+    let f = stepAt (a .steps .now) in
+    let l = c .before .before .before .before .before .loop in
+    let all = symbolWords (symbolsOf f (a .top)) in
+    let rest = symbolWords (symbolsFrom f (l .left) (l .cell)) in
+    left-end (a .area .now) (l .area) (c .before .before .put2 .last .0) (a .from) (l .at) (c .before .before .put2 .result) all rest (symbols-out f (l .left) (l .cell) (omega (arith, c .before .before .before .before .loop-test .left))) (l .inv .1) (c .before .before .put2 .ensures)
+
+pub write-symbols-spec : {M : Type 1} → statement M
+write-symbols-spec =
+    tie.close
+    (tie.spec
+    Inv-loop
+    μ-loop
+    loop-holds
+    put-requires
+    same-length
+    returns
+    write-symbol-requires
+    part-requires
+    sub-left
+    loop-less
+    loop-again
+    put-requires-2
+    same-length-2
+    returns-2)

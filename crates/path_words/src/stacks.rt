@@ -1,0 +1,67 @@
+// Both stacks, read off the steps cell by cell, tops first, and written.
+// The number of the top cell also bounds how many cells are read, as in stepping/specs/Steps.antt: no chain need be known to end.
+ghost use Rattle.stepping.specs.Steps.{scopesOf, attachedOf, symbolsOf};
+ghost use Rattle.stepping.specs.StepWords.{stepAt};
+ghost use Rattle.path_words.specs.Written.{Adds};
+ghost use Rattle.path_words.specs.PathWords.{closed, scopeWords, symbolWord, symbolWords};
+use crate::cells;
+use crate::cells::part;
+use crate::put::NONE;
+use crate::put::put;
+use crate::put::put_item;
+
+// What stands in front of a scope.
+const SCOPE: u32 = 1;
+// In front of a symbol without scopes.
+const PLAIN: u32 = 1;
+// In front of a symbol with the scopes behind it.
+const SCOPED: u32 = 2;
+
+// The scopes from a cell down.
+pub fn write_scopes(steps: &[u32], top: u32, area: &mut [u32], from: usize) -> usize
+    ensures { λ r. ⌜ Adds (now (area .entry)) from (now (area .exit)) r (closed (scopeWords (scopesOf (stepAt (now (steps .entry))) top))) ⌝ }
+{
+    let mut at = from;
+    let mut cell = top;
+    let mut left = top;
+    while 0 < left {
+        if cell < 1 {
+            return put(area, at, NONE);
+        }
+        at = put_item(area, at, SCOPE, part(steps, cell - 1, cells::SCOPE));
+        cell = part(steps, cell - 1, cells::SCOPES);
+        left -= 1;
+    }
+    put(area, at, NONE)
+}
+
+// The symbol that step k made, with the scopes attached to it, if any are.
+fn write_symbol(steps: &[u32], k: u32, area: &mut [u32], from: usize) -> usize
+    ensures { λ r. ⌜ Adds (now (area .entry)) from (now (area .exit)) r (symbolWord (stepAt (now (steps .entry)) k .symbol) (attachedOf (stepAt (now (steps .entry))) (stepAt (now (steps .entry)) k .attached))) ⌝ }
+{
+    let symbol = part(steps, k, cells::SYMBOL);
+    let attached = part(steps, k, cells::ATTACHED);
+    if attached < 1 {
+        return put_item(area, from, PLAIN, symbol);
+    }
+    let next = put_item(area, from, SCOPED, symbol);
+    write_scopes(steps, attached, area, next)
+}
+
+// The symbols from a cell down.
+pub fn write_symbols(steps: &[u32], top: u32, area: &mut [u32], from: usize) -> usize
+    ensures { λ r. ⌜ Adds (now (area .entry)) from (now (area .exit)) r (closed (symbolWords (symbolsOf (stepAt (now (steps .entry))) top))) ⌝ }
+{
+    let mut at = from;
+    let mut cell = top;
+    let mut left = top;
+    while 0 < left {
+        if cell < 1 {
+            return put(area, at, NONE);
+        }
+        at = write_symbol(steps, cell - 1, area, at);
+        cell = part(steps, cell - 1, cells::BELOW);
+        left -= 1;
+    }
+    put(area, at, NONE)
+}

@@ -1,0 +1,91 @@
+-- Edges that lead nowhere are passed over, and the search goes on behind them, in code against the enumeration.
+-- Document 01, "Answer": `try_compute`.
+use Prim.Native.Nat.{ℕ, _+_, _-_, _<_, _≤_}
+use mathlib.Core.Path.{_≡_}
+use mathlib.Core.List.{List}
+use lib.Dec.{ltb}
+use Rattle.semantics.specs.declared.search.Limit.{Limit}
+use Rattle.semantics.specs.declared.refusal.SearchRefusal.the-variants as Search
+use Rattle.semantics.specs.Lists.{pick}
+use Rattle.semantics.specs.Graph.{View, viewOf}
+use Rattle.semantics.specs.Path.{Path}
+use Rattle.storage.specs.Rows.{nextRow}
+use Rattle.storage.specs.Rows.Use.{left}
+use Rattle.budget.specs.declared.path_budget.Budget.{Budget}
+use Rattle.search_state.specs.declared.search.Search as S
+use Rattle.search_state.specs.declared.search.Going.{Going}
+use Rattle.search_state.specs.declared.search.Going.the-variants as Going
+use Rattle.search_state.specs.declared.passed.Passed.{Passed}
+use Rattle.search_state.specs.Passes.{passedCut, passedRejection, passedLength, passedBy}
+use Rattle.edge_trial.specs.declared.trial.Trial.{Trial}
+use Rattle.edge_trial.specs.declared.trial.Trial.the-variants as Trial
+use Rattle.edge_trial.specs.Trials.Laws.{Judged}
+use Rattle.search.specs.declared.direct.Pass.{Pass}
+use Rattle.search.specs.declared.direct.Led.{Led}
+use Rattle.search.specs.declared.direct.Led.the-variants as Led
+use Rattle.search.specs.declared.direct.Counted.{Counted}
+use Rattle.search.specs.declared.direct.Counted.the-variants as Counted
+use Rattle.search.specs.Expansions.{Given, Expanded}
+use Rattle.search.specs.Expansions.Edges.{Mid}
+pub mod Laws
+
+-- what one trial adds, or what it leads to
+abbrev pub countedBy : Passed → Trial → Counted
+countedBy p Trial.Cut = Counted.More (passedCut p)
+countedBy p Trial.Overlong = Counted.More (passedLength p)
+countedBy p Trial.Rejected = Counted.More (passedRejection p)
+countedBy p Trial.TooLong = Counted.TooLong
+countedBy p (Trial.Extended b) = Counted.Extended b
+
+-- the link behind this one; none behind none
+abbrev pub beyondRow : List ℕ → ℕ → ℕ
+beyondRow index link = pick (ltb 0 link) (nextRow index (link - 1)) 0
+
+-- what the edge at a link does to the path
+abbrev pub LedTo : Limit → View → Path → ℕ → Led → Type 0
+LedTo lim g p link Led.End = link ≡ 0
+LedTo lim g p link Led.TooLong = (0 < link) × Judged Search.TooLong lim g p (link - 1) Trial.TooLong
+LedTo lim g p link (Led.Extended b) = (0 < link) × Judged Search.TooLong lim g p (link - 1) (Trial.Extended b)
+
+-- at a link of an expansion: these are the path's edges, and the budget has the search's limit on the length
+pub record Passing (index steps edges : List ℕ) (b : Budget) (first : ℕ) : Type 0 where
+  pub most : ℕ
+  pub small : most + 4096 ≤ 1099511627776
+  pub item₀ : List ℕ
+  pub k : ℕ
+  pub s : S.Search
+  pub ws₀ : List ℕ
+  pub rs₀ : List ℕ
+  pub v : Given most index steps item₀ k s ws₀ rs₀
+  pub on : S.Search
+  pub item : List ℕ
+  pub ws : List ℕ
+  pub rs : List ℕ
+  pub mid : Mid most index steps item₀ k s ws₀ rs₀ v on item ws rs first
+  pub edges-are : edges ≡ v .path .edges
+  pub limit : b .maxLength ≡ s .state .budget .maxLength
+
+-- the edges before the link led nowhere, and the one at the link does what is said
+pub record Passes (index steps edges : List ℕ) (b : Budget) (first : ℕ) (x : Passing index steps edges b first) (r : Pass) : Type 0 where
+  pub mid : Mid (x .most) index steps (x .item₀) (x .k) (x .s) (x .ws₀) (x .rs₀) (x .v) (passedBy (r .passed) (x .on)) (x .item) (x .ws) (x .rs) (r .link)
+  pub led : LedTo (x .s .state .budget .maxLength) (viewOf (x .v .graph)) (x .v .path) (r .link) (r .led)
+  pub less : left index (r .link) ≤ left index first
+
+-- the same of the search that is to go on
+pub record Turning (r : Pass) (item : List ℕ) (k : ℕ) (on : S.Search) (ws rs : List ℕ) : Type 0 where
+  pub index : List ℕ
+  pub steps : List ℕ
+  pub most : ℕ
+  pub small : most + 4096 ≤ 1099511627776
+  pub item₀ : List ℕ
+  pub s : S.Search
+  pub ws₀ : List ℕ
+  pub rs₀ : List ℕ
+  pub v : Given most index steps item₀ k s ws₀ rs₀
+  pub mid : Mid most index steps item₀ k s ws₀ rs₀ v (passedBy (r .passed) on) item ws rs (r .link)
+  pub led : LedTo (s .state .budget .maxLength) (viewOf (v .graph)) (v .path) (r .link) (r .led)
+
+-- it goes on at the next link, or the expansion is refused
+abbrev pub Turned : (r : Pass) (item : List ℕ) (k : ℕ) (on : S.Search) (ws rs : List ℕ) → Turning r item k on ws rs → Going → List ℕ → List ℕ → List ℕ → Type 0
+Turned r item k on ws rs x (Going.On next) item′ ws′ rs′ = Mid (x .most) (x .index) (x .steps) (x .item₀) k (x .s) (x .ws₀) (x .rs₀) (x .v) next item′ ws′ rs′ (beyondRow (x .index) (r .link))
+Turned r item k on ws rs x (Going.Refused z) item′ ws′ rs′ = Expanded (x .most) (x .index) (x .steps) (x .item₀) k (x .s) (x .ws₀) (x .rs₀) (x .v) (Going.Refused z) ws′ rs′

@@ -1,0 +1,48 @@
+//! The bound on expansions, document 01's 36: the 16,777,216th is made and the
+//! next one is not. A row of double edges doubles the paths at each scope, so
+//! that 23 of them give 2^24 - 1 expansions; each further edge gives one more.
+
+mod common;
+
+use common::{image, is_zero, reference, scope, slots};
+use pozhdaghi::{Limits, Order, Refusal, Request, Resolution};
+
+const MOST: u64 = 1 << 24;
+
+/// The search along the row, with so many edges beside it.
+fn searched(beside: u16) -> Result<Resolution, Refusal> {
+    let row = 23;
+    let mut nodes = vec![reference(7)];
+    let mut edges = Vec::new();
+    for source in 2..2 + row {
+        nodes.push(scope(false));
+        edges.extend([(source, source + 1, 0); 2]);
+    }
+    for target in 3 + row..3 + row + beside {
+        nodes.push(scope(false));
+        edges.push((2, target, 0));
+    }
+    let request = Request {
+        order: Order::DepthFirst,
+        limits: Limits::default(),
+    };
+    let (mut work, mut result) = (slots(32), slots(1));
+    let found = pozhdaghi::direct(&image(&nodes, &edges), 2, &request, &mut work, &mut result);
+    assert!(is_zero(&work) && is_zero(&result));
+    found
+}
+
+#[test]
+fn as_many_as_allowed() {
+    let found = searched(1).expect("not refused");
+    assert_eq!((found.paths, found.statistics.expanded), (0, MOST));
+}
+
+#[test]
+fn one_too_many() {
+    let refusal = Refusal {
+        number: 36,
+        values: [0, 0],
+    };
+    assert_eq!(searched(2), Err(refusal));
+}
