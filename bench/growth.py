@@ -15,7 +15,7 @@ import sys
 from table import lines, table
 
 COLOURS = {"direct": "#27a", "linear": "#888", "replace": "#c64", "stitched": "#4a7"}
-COLUMNS, WIDTH, HEIGHT, MARGIN = 4, 240, 200, 34
+COLUMNS, WIDTH, HEIGHT, MARGIN = 4, 250, 200, 46
 # What is left of a call after less than this is taken for noise of the check.
 LEAST_SHARE = 0.05
 FASTER = 1.25
