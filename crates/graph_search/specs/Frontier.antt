@@ -37,6 +37,10 @@ module _ {W : Type 0} where
 
 -- ---- the frontier and its slots
 
+-- the words of a slot while no item has more than fit in them
+abbrev pub shortSlot : ℕ
+shortSlot = 16
+
 -- nothing waits
 abbrev pub empty : SearchOrder → ℕ → ℕ → Frontier
 empty order length capacity = record { order = order; length = length; first = 0; count = 0; pending = 0; capacity = capacity }
@@ -151,3 +155,10 @@ pub record Widens (f : Frontier) (ws : List ℕ) (L : ℕ) (r : Frontier) (ws′
   pub same-length : length ws′ ≡ length ws
   pub framed : Framed r ws′
   pub waits : (rest pending : List (List ℕ)) → Waits f ws rest pending → Waits r ws′ (map (padded L) rest) (map (padded L) pending)
+
+-- the same items wait in slots in which so many words have a place
+pub record MakesRoom (f : Frontier) (ws : List ℕ) (words : ℕ) (r : Frontier) (ws′ : List ℕ) : Type 0 where
+  pub longer : f .length ≤ r .length
+  pub enough : words ≤ r .length
+  pub most : r .length ≤ 128
+  pub widens : Widens f ws (r .length) r ws′

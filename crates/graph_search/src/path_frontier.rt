@@ -3,10 +3,15 @@
 ghost use mathlib.Core.Path.{_≡_};
 ghost use mathlib.Core.Logic.{_⊎_};
 ghost use Prim.Native.Nat.{_+_, _≤_, _<_};
+ghost use lib.ListN.{length};
 ghost use Rattle.words.specs.Slots.{IsSlot};
-ghost use Rattle.graph_search.specs.Frontier.{empty, Framed, Front, Back, Pushes, Pops, Wider, Widens};
+ghost use Rattle.graph_search.specs.Frontier.{empty, Framed, Front, Back, Pushes, Pops, Wider, Widens, MakesRoom};
+use semantics::bounds::SLOT_WORDS;
 use semantics::search::SearchOrder;
 use words::slots;
+
+// The words of a waiting slot while no item has more than fit in them: thousands may wait, and most have few edges.
+pub const SHORT_SLOT: usize = 16;
 
 // `count` slots of `length` words wait, from slot `first` on; the newest `pending` of them were pushed since the last pop.
 pub struct Frontier {
@@ -38,6 +43,20 @@ fn around(first: usize, n: usize, capacity: usize) -> usize
         return first + n;
     }
     n - left
+}
+
+// The words of the next longer slots in which so many have a place: twice as many as there are, or as many as a slot may have.
+pub fn longer(slot: usize, words: usize) -> usize
+    requires { ⌜ (slot ≤ 128) × (words ≤ 128) ⌝ }
+    ensures { λ r. ⌜ (slot ≤ r) × (words ≤ r) × (r ≤ 128) ⌝ }
+{
+    if slot <= SLOT_WORDS / 2 {
+        let double = slot + slot;
+        if words <= double {
+            return double;
+        }
+    }
+    SLOT_WORDS
 }
 
 impl Frontier {
@@ -113,14 +132,48 @@ impl Frontier {
         next
     }
 
-    // The slots get more words each, so that longer items may wait: those that wait stay, with zeros behind. The lent slot is for the move.
-    pub fn widen(self, work: &mut [u32], length: usize, slot: &mut [u32]) -> Frontier
-        requires { ⌜ Framed self (now work) × Wider self (now work) length × IsSlot length (now slot) ⌝ }
-        ensures { λ r. ⌜ Widens self (now (work .entry)) length r (now (work .exit)) ⌝ }
+    // How many of the first slots are in use: all where the ring goes round its end. The sum is taken only where it stays inside.
+    fn in_use(self) -> usize
+        requires { ⌜ self .first ≤ self .capacity ⌝ }
+        ensures { λ r. ⌜ (r ≤ self .capacity) × ((self .first + self .count ≤ r) ⊎ (r ≡ self .capacity)) ⌝ }
     {
-        slots::widen_slots(work, self.length, length, self.capacity, slot);
+        let left = self.capacity - self.first;
+        if self.count <= left {
+            return self.first + self.count;
+        }
+        self.capacity
+    }
+
+    // The slots get more words each, so that longer items may wait: those that wait stay, with zeros behind. The lent slot is for the move. Slots
+    // that are not in use are not looked at, as a caller may lend many more than wait.
+    fn widen_by(self, work: &mut [u32], words: usize, slot: &mut [u32]) -> Frontier
+        requires { ⌜ Framed self (now work) × Wider self (now work) words × (words ≤ length (now slot)) ⌝ }
+        ensures { λ r. ⌜ Widens self (now (work .entry)) words r (now (work .exit)) ⌝ }
+    {
+        let used = self.in_use();
+        slots::widen_slots(work, self.length, words, used, &mut slot[0..words]);
         let mut next = self;
-        next.length = length;
+        next.length = words;
         next
+    }
+
+    pub fn widen(self, work: &mut [u32], words: usize) -> Frontier
+        requires { ⌜ Framed self (now work) × Wider self (now work) words × (words ≤ 128) ⌝ }
+        ensures { λ r. ⌜ Widens self (now (work .entry)) words r (now (work .exit)) ⌝ }
+    {
+        let mut slot = [0u32; SLOT_WORDS];
+        self.widen_by(work, words, &mut slot)
+    }
+
+    // Slots in which so many words have a place. Copies take longer then, and few items are as long as any may be: so they get more words only
+    // when one is too long for them.
+    pub fn make_room(self, work: &mut [u32], words: usize) -> Frontier
+        requires { ⌜ Framed self (now work) × Wider self (now work) 128 × (words ≤ 128) ⌝ }
+        ensures { λ r. ⌜ MakesRoom self (now (work .entry)) words r (now (work .exit)) ⌝ }
+    {
+        if words <= self.length {
+            return self;
+        }
+        self.widen(work, longer(self.length, words))
     }
 }

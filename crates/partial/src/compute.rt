@@ -8,11 +8,12 @@ ghost use Rattle.graph_search.specs.Frontier.{Framed, Wider};
 ghost use Rattle.partial_state.specs.Extractions.{at, goingAt, takenAt, Taking};
 ghost use Rattle.partial.specs.Rounds.{MadeRoom, Rounding, Rounded, Driving, DrivenTo};
 ghost use Rattle.partial.specs.Requests.{Computing, ComputedTo};
+use graph_search::path_frontier::SHORT_SLOT;
+use graph_search::path_frontier::longer;
 use partial_state::extraction::Config;
 use partial_state::extraction::Extraction;
 use partial_state::extraction::Frame;
 use partial_state::extraction::Going;
-use partial_state::extraction::SHORT_SLOT;
 use partial_state::extraction::Taken;
 use partial_state::filing::Filing;
 use partial_state::route;
@@ -50,17 +51,6 @@ fn take_front(on: Extraction, work: &mut [u32], item: &mut [u32], frame: Frame) 
     on.take(work, &mut item[0..slot], frame)
 }
 
-// The words of the next longer slots: twice as many, as far as a slot may have them.
-fn longer(slot: usize) -> usize
-    requires { ⌜ (0 < slot) × (slot < 128) ⌝ }
-    ensures { λ r. ⌜ (slot < r) × (r ≤ 128) ⌝ }
-{
-    if slot <= SLOT_WORDS / 2 {
-        return slot + slot;
-    }
-    SLOT_WORDS
-}
-
 // A route that fills its slot has no word for one more edge: then the slots get more words, and so does the route in the item. Copies take
 // longer then, and few routes are as long as any may be.
 fn make_room(extraction: Extraction, item: &mut [u32], work: &mut [u32], frame: Frame) -> Frame
@@ -74,7 +64,7 @@ fn make_room(extraction: Extraction, item: &mut [u32], work: &mut [u32], frame: 
     }
     if slot < SLOT_WORDS {
         slots::zero(&mut item[slot..SLOT_WORDS]);
-        return frame.widen(extraction, work, longer(slot));
+        return frame.widen(extraction, work, longer(slot, slot + 1));
     }
     frame
 }

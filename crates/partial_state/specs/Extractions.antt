@@ -16,7 +16,7 @@ use Rattle.graph_search.specs.declared.path_frontier.Pushed.the-variants as Pus
 use Rattle.graph_search.specs.declared.path_frontier.Popped.{Popped}
 use Rattle.graph_search.specs.declared.path_frontier.Popped.the-variants as Popped
 use Rattle.budget.specs.Budget.{fresh, withMaxLength, withMaxPaths, expansion, statsOf}
-use Rattle.graph_search.specs.Frontier.{empty, Pushes, Pops, Widens}
+use Rattle.graph_search.specs.Frontier.{shortSlot, empty, Pushes, Pops, Widens}
 use Rattle.semantics.specs.declared.refusal.PartialPathRefusal.{PartialPathRefusal}
 use Rattle.semantics.specs.declared.search.Limit.the-variants.{Absent}
 use Rattle.partial_state.specs.declared.extraction.Config.{Config}
@@ -29,10 +29,6 @@ use Rattle.partial_state.specs.declared.extraction.Taken.the-variants.{O
 pub mod Laws
 
 -- ---- what is handed on in code
-
--- the words of a waiting slot while no route has more edges than fit in them
-abbrev pub shortSlot : ℕ
-shortSlot = 16
 
 abbrev pub frameWith : Config → ℕ → Frame
 frameWith c waiting = record { order = c .order; length = c .length; paths = c .paths; waiting = waiting; slot = shortSlot }

@@ -14,15 +14,13 @@ use budget::path_budget::Budget;
 use graph_search::path_frontier::Frontier;
 use graph_search::path_frontier::Popped;
 use graph_search::path_frontier::Pushed;
+use graph_search::path_frontier::SHORT_SLOT;
 use semantics::bounds::MAX_EXPANSIONS;
 use semantics::bounds::SLOT_WORDS;
 use semantics::refusal::PartialPathRefusal;
 use semantics::search::Limit;
 use semantics::search::PartialPathStats;
 use semantics::search::SearchOrder;
-
-// The words of a waiting slot while no route has more edges than fit in them: thousands of routes may wait, and most have few edges.
-pub const SHORT_SLOT: usize = 16;
 
 // The frontier order, and the limits on edges of a path and on expansions.
 pub struct Config {
@@ -94,24 +92,7 @@ impl Frame {
         requires { ⌜ Framed (at self extraction .frontier) (now work) × Wider (at self extraction .frontier) (now work) words × (words ≤ 128) ⌝ }
         ensures { λ r. ⌜ Grows (at self extraction) (now (work .entry)) words (at r extraction) (now (work .exit)) ⌝ }
     {
-        let mut slot = [0u32; SLOT_WORDS];
-        self.widen_by(extraction, work, words, &mut slot)
-    }
-
-    // The front of the lent slot is for the move.
-    fn widen_by(
-        self,
-        extraction: Extraction,
-        work: &mut [u32],
-        words: usize,
-        slot: &mut [u32],
-    ) -> Frame
-        requires { ⌜ Framed (at self extraction .frontier) (now work) × Wider (at self extraction .frontier) (now work) words × (words ≤ length (now slot)) ⌝ }
-        ensures { λ r. ⌜ Grows (at self extraction) (now (work .entry)) words (at r extraction) (now (work .exit)) ⌝ }
-    {
-        extraction
-            .frontier(self)
-            .widen(work, words, &mut slot[0..words]);
+        extraction.frontier(self).widen(work, words);
         self.with_slot(words)
     }
 }

@@ -1,6 +1,6 @@
 -- The rounds of a search from a reference, in code against the enumeration, for every choice of what is tried on a path.
 -- Document 01, "Answer" and "Budget and frontier".
-use Prim.Native.Nat.{ℕ, _-_, _*_, _≤_}
+use Prim.Native.Nat.{ℕ, _-_, _*_, _<_, _≤_}
 use mathlib.Core.Path.{_≡_}
 use mathlib.Core.List.{List}
 use lib.ListN.{length}
@@ -15,8 +15,11 @@ use Rattle.storage.specs.Rows.{Loaded}
 use Rattle.stepping.specs.Judged.{Stepped}
 use Rattle.search_state.specs.declared.search.Search as S
 use Rattle.search_state.specs.declared.search.Going.{Going}
+use Rattle.search_state.specs.Items.{Clear}
 use Rattle.search_state.specs.Retraces.{Laid}
-use Rattle.search_state.specs.Reps.{slotOf, Counts, Frame, frameOf, settingOf, Replayed, Rep, Tells}
+use Rattle.search_state.specs.declared.progress.Frame.{Frame}
+use Rattle.search_state.specs.Progresses.{frameOf}
+use Rattle.search_state.specs.Reps.{slotOf, Counts, settingOf, Replayed, Rep, Tells}
 use Rattle.rounds.specs.declared.driven.Driven.{Driven}
 use Rattle.rounds.specs.declared.driven.Driven.the-variants.{Over, Refused}
 pub mod Laws
@@ -38,6 +41,7 @@ pub record Rounding (most : ℕ) (index steps item : List ℕ) (n : ℕ) (s : S.
   pub path : Path
   pub words : item ≡ slotOf path
   pub good : Replayed (viewOf graph) reference path
+  pub fits : length (path .edges) < s .frontier .length
   pub model : State Path
   pub rep : Rep (viewOf graph) reference s ws rs model
   pub small : model .tally .looked ≤ most
@@ -57,6 +61,7 @@ pub record Driving (index steps item : List ℕ) (s : S.Search) (ws rs : List �
   pub begun : Stepped steps 0 first
   pub long : 1024 ≤ length steps
   pub slot : IsSlot 128 item
+  pub clear : Clear (s .frontier .length) item
   pub model : State Path
   pub rep : Rep (viewOf graph) reference s ws rs model
   pub looked : model .tally .looked ≤ 4096 * s .state .budget .expanded

@@ -3,9 +3,9 @@
 use Prim.Native.Nat.{ℕ, _-_, _*_, _/_, _≤_}
 use native.Mathlib.Omega.{arith}
 use mathlib.Core.Path.{_≡_, refl, sym, ap, subst, _∙_}
-use mathlib.Core.Logic.{⊎-elim}
+use mathlib.Core.Logic.{_⊎_, ⊎-elim}
 use mathlib.Core.List.{List, [], _∷_, List·Memᴰ, List·Memᴰ·not-nil}
-use lib.ListN.{length, length-replicate}
+use lib.ListN.{length, drop, getD, length-replicate}
 use Rattle.semantics.specs.declared.graph.Node.{Node}
 use Rattle.semantics.specs.declared.search.SearchLimits.{SearchLimits}
 use Rattle.semantics.specs.declared.search.SearchOrder.{SearchOrder}
@@ -32,8 +32,9 @@ use Rattle.stepping.specs.Judged.{Stepped, begunOf}
 use Rattle.stepping.specs.Judged.Laws.{Begun, begun-done, begun-refused}
 use Rattle.path.specs.Replays.Laws.{nodes-are}
 use Rattle.path.specs.Values.Laws.{empty-room}
+use Rattle.words.specs.Slots.Wider.{zeros-drop}
 use Rattle.graph_search.specs.declared.path_frontier.Frontier.{Frontier}
-use Rattle.graph_search.specs.Frontier.{empty, Framed}
+use Rattle.graph_search.specs.Frontier.{shortSlot, empty}
 use Rattle.graph_search.specs.Frontier.Laws.{framed-empty}
 use Rattle.graph_search.specs.Frontier.Stands.{stands-blank}
 use Rattle.search_state.specs.declared.state.SearchState.{SearchState}
@@ -41,9 +42,11 @@ use Rattle.search_state.specs.declared.search.Search as S
 use Rattle.search_state.specs.declared.search.Going.{Going}
 use Rattle.search_state.specs.declared.search.Going.the-variants as Going
 use Rattle.search_state.specs.States.{newState}
-use Rattle.search_state.specs.Searches.{Extends}
+use Rattle.search_state.specs.Searches.{Pushable, Extends}
 use Rattle.search_state.specs.Reps as R
-use Rattle.search_state.specs.Reps.{slotOf, Frame, frameOf, Rep, Tells}
+use Rattle.search_state.specs.declared.progress.Frame.{Frame}
+use Rattle.search_state.specs.Progresses.{frameOf}
+use Rattle.search_state.specs.Reps.{slotIn, slotOf, Rep, Tells}
 use Rattle.search_state.specs.Reps.Laws.{push-tells, tells-on, tells-refused}
 use Rattle.rounds.specs.declared.driven.Driven.{Driven}
 use Rattle.rounds.specs.declared.driven.Driven.the-variants as Driven
@@ -95,12 +98,24 @@ module _ (c : Setting SearchRefusal) (f : Path → List (Try SearchRefusal Path)
 
 -- ---- what is built before the first push
 
-module _ (o : SearchOrder) (l : SearchLimits) (ws rs : List ℕ) (f : Frontier) (st : SearchState) (a : f ≡ empty o 128 (length ws / 128)) (b : st ≡ newState l (length rs / 128)) where
-  pub made-extends : (item : List ℕ) (y : Going) (ws′ : List ℕ) → Extends (record { frontier = f; state = st }) ws item y ws′ → Extends (record { frontier = empty o 128 (length ws / 128); state = newState l (length rs / 128) }) ws item y ws′
-  made-extends item y ws′ h = subst (λ (z : S.Search). Extends z ws item y ws′) (λ i. record { frontier = a i; state = b i }) h
+-- nothing waits in short slots, as many as there are of full length, and nothing is counted
+abbrev firstOf : SearchOrder → SearchLimits → List ℕ → List ℕ → S.Search
+firstOf o l ws rs = record { frontier = empty o shortSlot (length ws / 128); state = newState l (length rs / 128) }
 
-  pub made-framed : (item : List ℕ) → length item ≡ 128 → Framed f ws × (length item ≡ f .length)
-  made-framed item k = subst (λ (z : Frontier). Framed z ws × (length item ≡ z .length)) (sym a) (framed-empty o 128 (length ws / 128) ws (omega arith) (whole-fits 128 (length ws)), k)
+module _ (o : SearchOrder) (l : SearchLimits) (ws rs : List ℕ) (f : Frontier) (st : SearchState) (a : f ≡ empty o shortSlot (length ws / 128)) (b : st ≡ newState l (length rs / 128)) where
+  made : record { frontier = f; state = st } ≡ firstOf o l ws rs
+  made = λ i. record { frontier = a i; state = b i }
+
+  pub made-extends : (item : List ℕ) (y : Going) (ws′ : List ℕ) → Extends (record { frontier = f; state = st }) ws item y ws′ → Extends (firstOf o l ws rs) ws item y ws′
+  made-extends item y ws′ h = subst (λ (z : S.Search). Extends z ws item y ws′) made h
+
+  pub made-pushable : (item : List ℕ) → item ≡ zeros 128 → Pushable (record { frontier = f; state = st }) ws item
+  made-pushable item k = subst (λ (z : S.Search). Pushable z ws item) (sym made) (record {
+    framed = framed-empty o shortSlot (length ws / 128) ws (omega arith) (omega (arith, whole-fits 128 (length ws)));
+    wider = record { longer = omega arith; room = whole-fits 128 (length ws) };
+    slot = ap length k ∙ length-replicate {A = ℕ} 128 0;
+    short = let z : getD item 0 0 ≡ 0 = ap (λ (w : List ℕ). getD w 0 0) k in omega (arith, z);
+  })
 
 module _ (tries : Tries) (index : List ℕ) (g : Graph) (loaded : Loaded g index) (o : SearchOrder) (l : SearchLimits) (ws rs : List ℕ) (n : ℕ) (x : Effect) (is : x ≡ begunOf (nodeRow index) n) where
   abbrev answer : Answer SearchRefusal (State Path)
@@ -119,9 +134,8 @@ module _ (tries : Tries) (index : List ℕ) (g : Graph) (loaded : Loaded g index
     abbrev start : Begun (viewOf g) (zeros 1024) empty-room n s
     start = begun-done (viewOf g) (zeros 1024) empty-room n s (begun-in ∙ e)
 
-    -- nothing waits and nothing is counted
     abbrev first : S.Search
-    first = record { frontier = empty o 128 (length ws / 128); state = newState l (length rs / 128) }
+    first = firstOf o l ws rs
 
     module _ (rs₀ : List ℕ) (cleared : rs₀ ≡ zeros (length rs)) where
       long : length rs₀ ≡ length rs
@@ -129,8 +143,8 @@ module _ (tries : Tries) (index : List ℕ) (g : Graph) (loaded : Loaded g index
 
       first-rep : Rep (viewOf g) n first ws rs₀ blank
       first-rep = record {
-        sized = refl;
-        stands = stands-blank slotOf o 128 (length ws / 128) ws (omega arith) (whole-fits 128 (length ws));
+        sized = record { wider = record { longer = omega arith; room = whole-fits 128 (length ws) }; fits = λ p k. absurd (none p k) };
+        stands = stands-blank (slotIn shortSlot) o shortSlot (length ws / 128) ws (omega arith) (omega (arith, whole-fits 128 (length ws)));
         counts = record {
           stats = refl;
           kept = refl;
@@ -139,8 +153,11 @@ module _ (tries : Tries) (index : List ℕ) (g : Graph) (loaded : Loaded g index
           words = cleared ∙ ap zeros (sym long) ∙ sym (area-none 128 (length rs₀));
         };
         few = record { complete = omega arith; rejected = omega arith; cycles = omega arith };
-        replays = λ p k. ⊎-elim (λ (a : List·Memᴰ p []). absurd (List·Memᴰ·not-nil a)) (λ (a : List·Memᴰ p []). absurd (List·Memᴰ·not-nil a)) k;
+        replays = λ p k. absurd (none p k);
       }
+        where
+          none : (p : Path) → List·Memᴰ p [] ⊎ List·Memᴰ p [] → ⊥
+          none p k = ⊎-elim (λ (a : List·Memᴰ p []). List·Memᴰ·not-nil a) (λ (a : List·Memᴰ p []). List·Memᴰ·not-nil a) k
 
       module _ (item : List ℕ) (none : item ≡ zeros 128) (a : Going) (ws′ : List ℕ) (y : Extends first ws item a ws′) where
         item-is : item ≡ slotOf (start .path)
@@ -190,6 +207,7 @@ module _ (tries : Tries) (index : List ℕ) (g : Graph) (loaded : Loaded g index
               begun = subst (λ (z : List ℕ). Stepped z 0 (start .path)) (sym laid) (start .stepped);
               long = let z : length steps ≡ 1024 = ap length laid ∙ refl in omega (arith, z);
               slot = ap length none ∙ length-replicate {A = ℕ} 128 0;
+              clear = ap (drop (t .frontier .length)) none ∙ zeros-drop (t .frontier .length) 128;
               model = going .0;
               rep = going .3;
               looked = let z = unlooked in omega (arith, z);

@@ -4,6 +4,7 @@ ghost use Rattle.semantics.specs.Words.{zeros};
 ghost use Rattle.recorded.specs.Beatable.{HoldsGraph};
 ghost use Rattle.rounds.specs.Starts.{Started};
 use graph_search::path_frontier::Frontier;
+use graph_search::path_frontier::SHORT_SLOT;
 use search_state::search::Going;
 use search_state::search::Search;
 use search_state::state::SearchState;
@@ -37,7 +38,7 @@ pub fn start(
         Effect::Done(first) => {
             steps::put_step(steps, 0, first);
             let search = Search {
-                frontier: Frontier::new(order, SLOT_WORDS, work.len() / SLOT_WORDS),
+                frontier: Frontier::new(order, SHORT_SLOT, work.len() / SLOT_WORDS),
                 state: SearchState::new(limits, result.len() / SLOT_WORDS),
             };
             search.push(work, item)

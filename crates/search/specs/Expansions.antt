@@ -16,8 +16,10 @@ use Rattle.storage.specs.Rows.{Loaded}
 use Rattle.stepping.specs.Judged.{Stepped}
 use Rattle.search_state.specs.declared.search.Search as S
 use Rattle.search_state.specs.declared.search.Going.{Going}
-use Rattle.search_state.specs.Items.{Carries}
-use Rattle.search_state.specs.Reps.{frameOf, settingOf, Replayed, Rep, Tells}
+use Rattle.search_state.specs.Items.{Clear, Carries}
+use Rattle.search_state.specs.Searches.{Clears}
+use Rattle.search_state.specs.Progresses.{frameOf}
+use Rattle.search_state.specs.Reps.{settingOf, Replayed, Rep, Tells}
 use Rattle.search.specs.Requests.{edgeTries}
 pub mod Laws
 pub mod Edges
@@ -33,6 +35,7 @@ pub record Given (most : ℕ) (index steps item : List ℕ) (k : ℕ) (s : S.Sea
   pub stepped : Stepped steps k path
   pub long : 1024 ≤ length steps
   pub carries : Carries 128 item (path .edges)
+  pub clear : Clear (s .frontier .length) item
   pub good : Replayed (viewOf graph) reference path
   pub model : State Path
   pub rep : Rep (viewOf graph) reference s ws rs model
@@ -46,6 +49,7 @@ module _ (most : ℕ) (index steps item : List ℕ) (k : ℕ) (s : S.Search) (ws
   pub record Tried (e : ℕ) (a : Going) (item′ ws′ rs′ : List ℕ) : Type 0 where
     pub tells : Tells (viewOf (v .graph)) (v .reference) (frameOf s) a ws′ rs′ (tryOf e)
     pub carries : Carries 128 item′ (v .path .edges)
+    pub clears : Clears a item′
 
   -- the answer to all edges
   abbrev pub Expanded : Going → List ℕ → List ℕ → Type 0

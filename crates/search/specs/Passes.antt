@@ -2,15 +2,21 @@
 -- Document 01, "Answer": `try_compute`.
 use Prim.Native.Nat.{ℕ, _+_, _-_, _<_, _≤_}
 use mathlib.Core.Path.{_≡_}
-use mathlib.Core.List.{List}
-use lib.Dec.{ltb}
+use mathlib.Core.Bool.{Bool, false, not}
+use mathlib.Core.List.{List, [], _∷_}
+use lib.Dec.{eqb, ltb}
+use lib.ListN.{length}
+use Rattle.semantics.specs.declared.graph.Edge.{Edge}
+use Rattle.semantics.specs.declared.graph.Edge.the-variants as E
 use Rattle.semantics.specs.declared.search.Limit.{Limit}
 use Rattle.semantics.specs.declared.refusal.SearchRefusal.the-variants as Search
-use Rattle.semantics.specs.Lists.{pick}
+use Rattle.semantics.specs.Lists.{or, pick}
+use Rattle.semantics.specs.Limits.{within}
 use Rattle.semantics.specs.Graph.{View, viewOf}
 use Rattle.semantics.specs.Path.{Path}
-use Rattle.storage.specs.Rows.{nextRow}
+use Rattle.storage.specs.Rows.{edgeRow, nextRow}
 use Rattle.storage.specs.Rows.Use.{left}
+use Rattle.stepping.specs.StepWords.{stepAt}
 use Rattle.budget.specs.declared.path_budget.Budget.{Budget}
 use Rattle.search_state.specs.declared.search.Search as S
 use Rattle.search_state.specs.declared.search.Going.{Going}
@@ -28,6 +34,7 @@ use Rattle.search.specs.declared.direct.Counted.the-variants as Counted
 use Rattle.search.specs.Expansions.{Given, Expanded}
 use Rattle.search.specs.Expansions.Edges.{Mid}
 pub mod Laws
+pub mod TooLong
 
 -- what one trial adds, or what it leads to
 abbrev pub countedBy : Passed → Trial → Counted
@@ -40,6 +47,24 @@ countedBy p (Trial.Extended b) = Counted.Extended b
 -- the link behind this one; none behind none
 abbrev pub beyondRow : List ℕ → ℕ → ℕ
 beyondRow index link = pick (ltb 0 link) (nextRow index (link - 1)) 0
+
+-- does the edge leave this node
+abbrev pub isFrom : ℕ → Edge → Bool
+isFrom n E.Removed = false
+isFrom n (E.Live s t p) = eqb (s .0) n
+
+-- does one of these edges leave it
+unfoldable pub leavesBy : (ℕ → Edge) → ℕ → List ℕ → Bool
+leavesBy edge n [] = false
+leavesBy edge n (e ∷ es) = or (isFrom n (edge e)) (leavesBy edge n es)
+
+-- one edge more is above the limit, and the path did not leave its end before
+abbrev pub allTooLong : List ℕ → List ℕ → List ℕ → Budget → Bool
+allTooLong index steps edges b = pick (within (length edges + 1) (b .maxLength)) false (not (leavesBy (edgeRow index) (stepAt steps (length edges) .end) edges))
+
+-- what becomes of the edges from a link on where all are too long: if there is one, the flag is set
+abbrev pub allPassed : ℕ → Pass
+allPassed first = record { passed = record { cycles = 0; rejected = 0; overlong = ltb 0 first }; link = 0; led = Led.End }
 
 -- what the edge at a link does to the path
 abbrev pub LedTo : Limit → View → Path → ℕ → Led → Type 0

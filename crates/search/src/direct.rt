@@ -1,20 +1,24 @@
 // Direct search from a reference: every path that waits is tried with each outgoing edge of its end. Document 01, "Answer": `try_compute`.
 ghost use mathlib.Core.Path.{_≡_};
 ghost use Prim.Native.Nat.{_+_, _<_, _^_};
+ghost use lib.ListN.{length};
 ghost use Rattle.semantics.specs.Limits.{base};
 ghost use Rattle.semantics.specs.Graph.{Graph, viewOf};
 ghost use Rattle.semantics.specs.Image.{symbolBytes, checkImage};
 ghost use Rattle.semantics.specs.Recorded.{recorded, returned};
 ghost use Rattle.semantics.specs.Told.{toldResolution};
 ghost use Rattle.semantics.specs.Calls.{directCall};
-ghost use Rattle.storage.specs.Rows.{Blocks, Loaded, Takes};
+ghost use Rattle.storage.specs.Rows.{Blocks, edgeRow, Loaded, Takes};
+ghost use Rattle.stepping.specs.Judged.{Ready};
 ghost use Rattle.path.specs.Shadows.Laws.{JumpAt};
 ghost use Rattle.recorded.specs.Beatable.{HoldsGraph};
 ghost use Rattle.recorded.specs.Replies.{replyOf};
+ghost use Rattle.search_state.specs.Progresses.{at, courseAt};
+ghost use Rattle.search_state.specs.Searches.{Clears};
 ghost use Rattle.rounds.specs.Drives.{Rounding, Rounded, Driving, Ends, DrivenTo};
 ghost use Rattle.rounds.specs.Requests.{requestOf, Does};
 ghost use Rattle.search.specs.Expansions.{Given, Expanded};
-ghost use Rattle.search.specs.Passes.{countedBy, beyondRow, Passing, Passes, Turning, Turned};
+ghost use Rattle.search.specs.Passes.{countedBy, beyondRow, isFrom, leavesBy, allTooLong, allPassed, Passing, Passes, Turning, Turned};
 ghost use Rattle.search.specs.Requests.{edgeTries, directOf, foundOf};
 use budget::path_budget::Budget;
 use edge_trial::trial;
@@ -25,14 +29,17 @@ use rounds::driven::conclude;
 use rounds::start::start;
 use search_state::item;
 use search_state::passed::Passed;
+use search_state::progress::Course;
+use search_state::progress::Frame;
+use search_state::progress::Next;
+use search_state::progress::Progress;
 use search_state::retrace::STEP_WORDS;
 use search_state::retrace::retrace;
 use search_state::search::Going;
-use search_state::search::Search;
-use search_state::search::Taken;
 use semantics::answer::Checked;
 use semantics::answer::Resolution;
 use semantics::bounds::SLOT_WORDS;
+use semantics::graph::Edge;
 use semantics::graph::EdgeId;
 use semantics::graph::NodeId;
 use semantics::refusal::SearchRefusal;
@@ -78,11 +85,71 @@ fn count(passed: Passed, trial: Trial) -> Counted
     }
 }
 
+// Does the edge leave this node?
+fn is_from(index: &[u32], edge: u32, node: u32) -> bool
+    requires { ⌜ Blocks (now index) ⌝ }
+    ensures { λ r. ⌜ r ≡ isFrom node (edgeRow (now (index .entry)) edge) ⌝ }
+{
+    match store::edge(index, EdgeId(edge)) {
+        Edge::Removed => false,
+        Edge::Live {
+            source,
+            target: _,
+            precedence: _,
+        } => source.0 == node,
+    }
+}
+
+// Does one of these edges leave it?
+fn leaves(index: &[u32], edges: &[u32], node: u32) -> bool
+    requires { ⌜ Blocks (now index) ⌝ }
+    ensures { λ r. ⌜ r ≡ leavesBy (edgeRow (now (index .entry))) node (now (edges .entry)) ⌝ }
+{
+    for i in 0..edges.len() {
+        if is_from(index, edges[i], node) {
+            return true;
+        }
+    }
+    false
+}
+
+// Is every outgoing edge of the path's end too long? One edge more is above the limit, whichever it is, and only a path that left its end
+// before has an edge that is a cycle cut there.
+fn all_too_long(index: &[u32], steps: &[u32], edges: &[u32], budget: Budget) -> bool
+    requires { ⌜ Blocks (now index) × Ready (now steps) (length (now edges)) ⌝ }
+    ensures { λ r. ⌜ r ≡ allTooLong (now (index .entry)) (now (steps .entry)) (now (edges .entry)) budget ⌝ }
+{
+    let asked = budget.admitted_length(edges.len() as u64 + 1);
+    if asked.allowed {
+        return false;
+    }
+    !leaves(index, edges, steps::get_step(steps, edges.len()).end)
+}
+
+// The edges from a link on, if there are any, where all are too long.
+fn pass_all(first: u32) -> Pass
+    ensures { λ r. ⌜ r ≡ allPassed first ⌝ }
+{
+    Pass {
+        passed: Passed {
+            cycles: 0,
+            rejected: 0,
+            overlong: 0 < first,
+        },
+        link: 0,
+        led: Led::End,
+    }
+}
+
 // The edges are tried by ascending number on the path whose edges these are; the budget is asked for its limit on the length alone.
+// Where all are too long they are not walked: most paths that a short limit ends are such, and each edge would set the same flag.
 fn pass_over(index: &[u32], steps: &[u32], edges: &[u32], budget: Budget, first: u32) -> Pass
     requires { ⌜ Passing (now index) (now steps) (now edges) budget first ⌝ }
     ensures { λ r. ⌜ ((x : Passing (now (index .entry)) (now (steps .entry)) (now (edges .entry)) budget first) → Passes (now (index .entry)) (now (steps .entry)) (now (edges .entry)) budget first x r) ⌝ }
 {
+    if all_too_long(index, steps, edges, budget) {
+        return pass_all(first);
+    }
     let mut passed = Passed::nothing();
     let mut link = first;
     while 0 < link {
@@ -120,21 +187,22 @@ fn onward(
     pass: Pass,
     item: &mut [u32],
     k: usize,
-    search: Search,
+    progress: Progress,
     work: &mut [u32],
     result: &mut [u32],
-) -> Going
-    requires { ⌜ Turning pass (now item) k search (now work) (now result) ⌝ }
-    ensures { λ r. ⌜ ((x : Turning pass (now (item .entry)) k search (now (work .entry)) (now (result .entry))) → Turned pass (now (item .entry)) k search (now (work .entry)) (now (result .entry)) x r (now (item .exit)) (now (work .exit)) (now (result .exit))) ⌝ }
+    frame: Frame,
+) -> Course
+    requires { ⌜ Turning pass (now item) k (at frame progress) (now work) (now result) ⌝ }
+    ensures { λ r. ⌜ ((x : Turning pass (now (item .entry)) k (at frame progress) (now (work .entry)) (now (result .entry))) → Turned pass (now (item .entry)) k (at frame progress) (now (work .entry)) (now (result .entry)) x (courseAt frame r) (now (item .exit)) (now (work .exit)) (now (result .exit))) ⌝ }
 {
-    let on = search.passed_by(pass.passed);
+    let on = progress.passed_by(pass.passed);
     let led = pass.led;
     match led {
-        Led::End => Going::On(on),
-        Led::TooLong => Going::Refused(SearchRefusal::TooLong),
+        Led::End => Course::On(on),
+        Led::TooLong => Course::Refused(SearchRefusal::TooLong),
         Led::Extended { complete } => {
             item::with_edge(item, k, pass.link - 1);
-            on.extend(complete, work, result, item)
+            on.extend(complete, work, result, item, frame)
         }
     }
 }
@@ -156,27 +224,28 @@ fn expand(
     steps: &[u32],
     item: &mut [u32],
     k: usize,
-    search: Search,
+    progress: Progress,
     work: &mut [u32],
     result: &mut [u32],
-) -> Going
-    requires { ⌜ Given 549755813888 (now index) (now steps) (now item) k search (now work) (now result) ⌝ }
-    ensures { λ r. ⌜ ((v : Given 549755813888 (now (index .entry)) (now (steps .entry)) (now (item .entry)) k search (now (work .entry)) (now (result .entry))) → Expanded 549755813888 (now (index .entry)) (now (steps .entry)) (now (item .entry)) k search (now (work .entry)) (now (result .entry)) v r (now (work .exit)) (now (result .exit))) ⌝ }
+    frame: Frame,
+) -> Course
+    requires { ⌜ Given 549755813888 (now index) (now steps) (now item) k (at frame progress) (now work) (now result) ⌝ }
+    ensures { λ r. ⌜ ((v : Given 549755813888 (now (index .entry)) (now (steps .entry)) (now (item .entry)) k (at frame progress) (now (work .entry)) (now (result .entry))) → Expanded 549755813888 (now (index .entry)) (now (steps .entry)) (now (item .entry)) k (at frame progress) (now (work .entry)) (now (result .entry)) v (courseAt frame r) (now (work .exit)) (now (result .exit))) ⌝ }
+    ensures { λ r. ⌜ (Given 549755813888 (now (index .entry)) (now (steps .entry)) (now (item .entry)) k (at frame progress) (now (work .entry)) (now (result .entry)) → Clears (courseAt frame r) (now (item .exit))) ⌝ }
 {
-    let state = search.state;
-    let budget = state.budget;
-    let mut on = search;
+    let budget = progress.budget(frame);
+    let mut on = progress;
     let mut link = store::first(index, NodeId(steps::get_step(steps, k).end));
     while 0 < link {
         let pass = pass_over(index, steps, &item[1..k + 1], budget, link);
-        let going = onward(pass, item, k, on, work, result);
-        let Going::On(next) = going else {
+        let going = onward(pass, item, k, on, work, result, frame);
+        let Course::On(next) = going else {
             return going;
         };
         on = next;
         link = beyond(index, pass.link);
     }
-    Going::On(on)
+    Course::On(on)
 }
 
 // The popped path's steps are laid out, where steps up to `laid` stand there for the path before, and the path is expanded.
@@ -185,16 +254,18 @@ fn round(
     steps: &mut [u32],
     item: &mut [u32],
     laid: usize,
-    search: Search,
+    progress: Progress,
     work: &mut [u32],
     result: &mut [u32],
-) -> Going
-    requires { ⌜ Rounding 549755813888 (now index) (now steps) (now item) laid search (now work) (now result) ⌝ }
-    ensures { λ r. ⌜ ((v : Rounding 549755813888 (now (index .entry)) (now (steps .entry)) (now (item .entry)) laid search (now (work .entry)) (now (result .entry))) → Rounded edgeTries 549755813888 (now (index .entry)) (now (steps .entry)) (now (item .entry)) laid search (now (work .entry)) (now (result .entry)) v r (now (steps .exit)) (now (work .exit)) (now (result .exit))) ⌝ }
+    frame: Frame,
+) -> Course
+    requires { ⌜ Rounding 549755813888 (now index) (now steps) (now item) laid (at frame progress) (now work) (now result) ⌝ }
+    ensures { λ r. ⌜ ((v : Rounding 549755813888 (now (index .entry)) (now (steps .entry)) (now (item .entry)) laid (at frame progress) (now (work .entry)) (now (result .entry))) → Rounded edgeTries 549755813888 (now (index .entry)) (now (steps .entry)) (now (item .entry)) laid (at frame progress) (now (work .entry)) (now (result .entry)) v (courseAt frame r) (now (steps .exit)) (now (work .exit)) (now (result .exit))) ⌝ }
+    ensures { λ r. ⌜ (Rounding 549755813888 (now (index .entry)) (now (steps .entry)) (now (item .entry)) laid (at frame progress) (now (work .entry)) (now (result .entry)) → Clears (courseAt frame r) (now (item .exit))) ⌝ }
 {
     let k = item[0] as usize;
     retrace(index, steps, &item[1..k + 1], laid);
-    expand(index, steps, item, k, search, work, result)
+    expand(index, steps, item, k, progress, work, result, frame)
 }
 
 // Paths are taken and expanded until none waits, or the path count or a refusal ends the search.
@@ -202,27 +273,28 @@ fn drive(
     index: &[u32],
     steps: &mut [u32],
     item: &mut [u32],
-    search: Search,
+    progress: Progress,
     work: &mut [u32],
     result: &mut [u32],
+    frame: Frame,
 ) -> Driven
-    requires { ⌜ Driving (now index) (now steps) (now item) search (now work) (now result) ⌝ }
-    ensures { λ r. ⌜ ((v : Driving (now (index .entry)) (now (steps .entry)) (now (item .entry)) search (now (work .entry)) (now (result .entry))) → DrivenTo edgeTries (now (index .entry)) (now (steps .entry)) (now (item .entry)) search (now (work .entry)) (now (result .entry)) v r (now (result .exit))) ⌝ }
+    requires { ⌜ Driving (now index) (now steps) (now item) (at frame progress) (now work) (now result) ⌝ }
+    ensures { λ r. ⌜ ((v : Driving (now (index .entry)) (now (steps .entry)) (now (item .entry)) (at frame progress) (now (work .entry)) (now (result .entry))) → DrivenTo edgeTries (now (index .entry)) (now (steps .entry)) (now (item .entry)) (at frame progress) (now (work .entry)) (now (result .entry)) v r (now (result .exit))) ⌝ }
 {
-    let mut on = search;
+    let mut on = progress;
     let mut laid: usize = 0;
     loop {
-        match on.take(work, item) {
-            Taken::Over(state) => return Driven::Over(state),
-            Taken::TooMany => return Driven::Refused(SearchRefusal::TooManyExpansions),
-            Taken::Expand(next) => {
+        match on.take(work, item, frame) {
+            Next::Over(state) => return Driven::Over(state),
+            Next::TooMany => return Driven::Refused(SearchRefusal::TooManyExpansions),
+            Next::Expand(next) => {
                 let k = item[0] as usize;
-                match round(index, steps, item, laid, next, work, result) {
-                    Going::On(s) => {
+                match round(index, steps, item, laid, next, work, result, frame) {
+                    Course::On(s) => {
                         on = s;
                         laid = k;
                     }
-                    Going::Refused(r) => return Driven::Refused(r),
+                    Course::Refused(r) => return Driven::Refused(r),
                 }
             }
         }
@@ -253,7 +325,15 @@ fn attempt(
         work,
         result,
     ) {
-        Going::On(on) => drive(index, &mut steps, &mut item, on, work, result),
+        Going::On(on) => drive(
+            index,
+            &mut steps,
+            &mut item,
+            on.progress(),
+            work,
+            result,
+            on.frame(),
+        ),
         Going::Refused(r) => Driven::Refused(r),
     }
 }

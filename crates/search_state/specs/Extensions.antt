@@ -8,18 +8,17 @@ use Rattle.semantics.specs.Answer.{andThen}
 use Rattle.semantics.specs.Graph.{View}
 use Rattle.semantics.specs.Path.{Path}
 use Rattle.semantics.specs.Enumeration.{State, keep, pushItem}
-use Rattle.words.specs.Slots.{IsSlot, SlotsIn}
-use Rattle.graph_search.specs.Frontier.{Framed}
+use Rattle.words.specs.Slots.{SlotsIn}
 use Rattle.search_state.specs.declared.search.Search as S
 use Rattle.search_state.specs.declared.search.Going.{Going}
-use Rattle.search_state.specs.Reps.{slotOf, Few, frameOf, settingOf, Replayed, Rep, Tells}
+use Rattle.search_state.specs.Searches.{Pushable}
+use Rattle.search_state.specs.Progresses.{frameOf}
+use Rattle.search_state.specs.Reps.{slotOf, Few, settingOf, Replayed, Rep, Tells}
 pub mod Laws
 
 -- the areas have their slots, and one more complete path can be counted
 pub record Extendable (s : S.Search) (ws rs item : List ℕ) : Type 0 where
-  pub framed : Framed (s .frontier) ws
-  pub slot : IsSlot 128 item
-  pub sized : s .frontier .length ≡ 128
+  pub pushable : Pushable s ws item
   pub fits : s .state .kept ≤ s .state .results
   pub room : SlotsIn 128 (s .state .results) rs
   pub few : s .state .budget .complete + 1 < 2 ^ 64

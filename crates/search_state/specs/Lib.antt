@@ -6,3 +6,4 @@ pub mod Reps
 pub mod Extensions
 pub mod Runs
 pub mod Passes
+pub mod Progresses

@@ -1,12 +1,10 @@
 -- What it means that a search held in code and lent words stands for a state of the enumeration.
 -- Document 01, "Answer": result slots, waiting slots, statistics and flags.
-use Prim.Native.Nat.{ℕ, _≤_}
+use Prim.Native.Nat.{ℕ, _<_, _≤_}
 use mathlib.Core.Path.{_≡_}
 use mathlib.Core.Logic.{_⊎_}
 use mathlib.Core.List.{List, List·Memᴰ}
 use lib.ListN.{length}
-use Rattle.semantics.specs.declared.search.SearchOrder.{SearchOrder}
-use Rattle.semantics.specs.declared.search.SearchLimits.{SearchLimits}
 use Rattle.semantics.specs.declared.search.SearchStats.{SearchStats}
 use Rattle.semantics.specs.declared.refusal.SearchRefusal.{SearchRefusal}
 use Rattle.semantics.specs.Limits.{base}
@@ -18,19 +16,26 @@ use Rattle.semantics.specs.Direct.{searchSetting}
 use Rattle.semantics.specs.Recorded.{edgeLists}
 use Rattle.semantics.specs.Words.{encode, area}
 use Rattle.words.specs.Slots.{SlotsIn}
-use Rattle.budget.specs.Budget.{limitsOf}
+use Rattle.graph_search.specs.declared.path_frontier.Frontier.{Frontier}
+use Rattle.graph_search.specs.Frontier.{Wider}
 use Rattle.graph_search.specs.Frontier.Stands.{Stands}
 use Rattle.search_state.specs.declared.state.SearchState.{SearchState}
 use Rattle.search_state.specs.declared.search.Search as S
 use Rattle.search_state.specs.declared.search.Going.{Going}
 use Rattle.search_state.specs.declared.search.Going.the-variants.{On, Refused}
+use Rattle.search_state.specs.declared.progress.Frame.{Frame}
 use Rattle.search_state.specs.States.{statsIn}
+use Rattle.search_state.specs.Progresses.{frameOf}
 pub mod Laws
 pub mod Rounds
 
--- a path waits, and is kept, as the slot of its edges
+-- a path waits as the slot of its edges, of so many words
+abbrev pub slotIn : ℕ → Path → List ℕ
+slotIn L p = encode L (p .edges)
+
+-- and is kept, and expanded, in a slot of full length
 abbrev pub slotOf : Path → List ℕ
-slotOf p = encode 128 (p .edges)
+slotOf p = slotIn 128 p
 
 -- counts, flags and kept paths
 pub record Counts (st : SearchState) (rs : List ℕ) (m : State Path) : Type 0 where
@@ -46,16 +51,6 @@ pub record Few (n : ℕ) (t : SearchStats) : Type 0 where
   pub rejected : t .rejected ≤ n
   pub cycles : t .cycles ≤ n
 
--- what a search never changes: its order, limits, and areas
-pub record Frame : Type 0 where
-  pub order : SearchOrder
-  pub limits : SearchLimits
-  pub waiting : ℕ
-  pub results : ℕ
-
-abbrev pub frameOf : S.Search → Frame
-frameOf s = record { order = s .frontier .order; limits = limitsOf (s .state .budget); waiting = s .frontier .capacity; results = s .state .results }
-
 abbrev pub settingOf : Frame → Setting SearchRefusal
 settingOf f = searchSetting (f .order) (f .limits) (f .waiting) (f .results)
 
@@ -63,10 +58,15 @@ settingOf f = searchSetting (f .order) (f .limits) (f .waiting) (f .results)
 abbrev pub Replayed : View → ℕ → Path → Type 0
 Replayed g r p = replay base g r (p .edges) ≡ ok p
 
+-- waiting slots have a word for the count and each edge of a path that waits, and lie in the area with 128 words as well
+pub record Slotted (f : Frontier) (ws : List ℕ) (rest pending : List Path) : Type 0 where
+  pub wider : Wider f ws 128
+  pub fits : (p : Path) → List·Memᴰ p rest ⊎ List·Memᴰ p pending → length (p .edges) < f .length
+
 -- the search in code, its work area and its result area stand for a state of the enumeration
 pub record Rep (g : View) (r : ℕ) (s : S.Search) (ws rs : List ℕ) (m : State Path) : Type 0 where
-  pub sized : s .frontier .length ≡ 128
-  pub stands : Stands slotOf (s .frontier) ws m
+  pub sized : Slotted (s .frontier) ws (m .rest) (m .pending)
+  pub stands : Stands (slotIn (s .frontier .length)) (s .frontier) ws m
   pub counts : Counts (s .state) rs m
   pub few : Few (m .tally .looked) (m .stats)
   pub replays : (p : Path) → List·Memᴰ p (m .rest) ⊎ List·Memᴰ p (m .pending) → Replayed g r p

@@ -52,17 +52,6 @@ pub record Mid (index edges : List ℕ) (w : Way index edges) (ws : List ℕ) (i
   pub laid : Laid (viewOf (w .graph)) (w .first) ws i
   pub onward : appendAll base (viewOf (w .graph)) path (drop i edges) ≡ ok (w .path)
 
--- the steps of the first i edges are laid out, and there is room for those of the others
-pub record Midway (index ws edges : List ℕ) (i : ℕ) : Type 0 where
-  pub way : Way index edges
-  pub mid : Mid index edges way ws i
-  pub inside : i ≤ length edges
-  pub room : 8 * length edges + 8 ≤ length ws
-
--- a call that lays out the steps of further edges, up to edge r
-abbrev pub LaysOut : List ℕ → List ℕ → List ℕ → ℕ → ℕ → List ℕ → Type 0
-LaysOut index ws edges i r ws′ = (i ≤ r) × (r ≤ length edges) × ((m : Midway index ws edges i) → Mid index edges (m .way) ws′ r)
-
 -- the first c edges stand in the words already
 pub record Shared (ws edges : List ℕ) (n c : ℕ) : Type 0 where
   pub within : c ≤ n

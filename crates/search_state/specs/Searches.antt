@@ -1,9 +1,10 @@
 -- A search on the way, as code holds it: what a push and the top of a round answer.
 -- Document 01, "Answer" and "Budget and frontier"; 31 and 36 of "Turned back".
-use Prim.Native.Nat.{ℕ}
+use Prim.Native.Nat.{ℕ, _+_, _<_, _≤_, _^_}
 use mathlib.Core.Path.{_≡_}
 use mathlib.Core.List.{List}
 use lib.Dec.{leb}
+use lib.ListN.{take, getD}
 use Rattle.semantics.specs.declared.refusal.SearchRefusal.the-variants as Search
 use Rattle.semantics.specs.Lists.{pick}
 use Rattle.graph_search.specs.declared.path_frontier.Frontier.{Frontier}
@@ -12,7 +13,8 @@ use Rattle.graph_search.specs.declared.path_frontier.Pushed.the-variants as Pus
 use Rattle.graph_search.specs.declared.path_frontier.Popped.{Popped}
 use Rattle.graph_search.specs.declared.path_frontier.Popped.the-variants as Popped
 use Rattle.budget.specs.Budget.{expansion}
-use Rattle.graph_search.specs.Frontier.{Pushes, Pops}
+use Rattle.words.specs.Slots.{IsSlot, padded}
+use Rattle.graph_search.specs.Frontier.{Framed, Wider, MakesRoom, Pushes, Pops}
 use Rattle.search_state.specs.declared.state.SearchState.{SearchState}
 use Rattle.search_state.specs.declared.search.Search as S
 use Rattle.search_state.specs.declared.search.Going.{Going}
@@ -20,6 +22,7 @@ use Rattle.search_state.specs.declared.search.Going.the-variants.{On, Re
 use Rattle.search_state.specs.declared.search.Taken.{Taken}
 use Rattle.search_state.specs.declared.search.Taken.the-variants.{Over, Expand, TooMany}
 use Rattle.search_state.specs.States.{withBudget}
+use Rattle.search_state.specs.Items.{Clear}
 pub mod Laws
 
 abbrev pub withState : SearchState → S.Search → S.Search
@@ -29,11 +32,26 @@ abbrev pub goingOf : SearchState → Pushed → Going
 goingOf s (Pushed.Done f) = On (record { frontier = f; state = s })
 goingOf s Pushed.Full = Refused Search.NoWaitingSlot
 
--- a push into the frontier, and the search with it
+-- an item has 128 words and fewer edges; the waiting slots may have fewer words, and lie in the area with 128 as well
+pub record Pushable (s : S.Search) (ws item : List ℕ) : Type 0 where
+  pub framed : Framed (s .frontier) ws
+  pub wider : Wider (s .frontier) ws 128
+  pub slot : IsSlot 128 item
+  pub short : getD item 0 0 < 128
+
+-- room is made for the item's count and edges, and so much of it is pushed into the frontier; the search with it
 pub record Extends (s : S.Search) (ws item : List ℕ) (a : Going) (ws′ : List ℕ) : Type 0 where
+  pub roomy : Frontier
+  pub words : List ℕ
+  pub makes : MakesRoom (s .frontier) ws (getD item 0 0 + 1) roomy words
   pub pushed : Pushed
-  pub pushes : Pushes (s .frontier) ws item pushed ws′
+  pub pushes : Pushes roomy words (take (roomy .length) item) pushed ws′
   pub is : a ≡ goingOf (s .state) pushed
+
+-- a search that goes on finds the item clear behind the words of a slot
+abbrev pub Clears : Going → List ℕ → Type 0
+Clears (On s) item = Clear (s .frontier .length) item
+Clears (Refused x) item = Unit {0}
 
 -- the expansion is put to the budget, then to the bound
 abbrev pub admittedOf : SearchState → Frontier → Taken
@@ -46,8 +64,22 @@ abbrev pub takenOf : SearchState → Popped → Taken
 takenOf s (Popped.Item f) = admittedOf s f
 takenOf s Popped.Empty = Over s
 
--- a pop from the frontier, and the round that it opens
+-- a slot has its place in the front of the item, behind which are zeros, and one more expansion can be counted
+pub record Takeable (s : S.Search) (ws item : List ℕ) : Type 0 where
+  pub framed : Framed (s .frontier) ws
+  pub short : s .frontier .length ≤ 128
+  pub slot : IsSlot 128 item
+  pub clear : Clear (s .frontier .length) item
+  pub few : s .state .budget .expanded + 1 < 2 ^ 64
+
+-- a pop from the frontier, and the item with zeros behind the popped slot
+pub record PopsInto (f : Frontier) (ws : List ℕ) (a : Popped) (item ws′ : List ℕ) : Type 0 where
+  pub words : List ℕ
+  pub pops : Pops f ws a words ws′
+  pub laid : item ≡ padded 128 words
+
+-- the same, and the round that it opens
 pub record Taking (s : S.Search) (ws : List ℕ) (a : Taken) (item ws′ : List ℕ) : Type 0 where
   pub popped : Popped
-  pub pops : Pops (s .frontier) ws popped item ws′
+  pub pops : PopsInto (s .frontier) ws popped item ws′
   pub is : a ≡ takenOf (s .state) popped

@@ -2,6 +2,7 @@
 // Document 01, "Answer".
 pub mod item;
 pub mod passed;
+pub mod progress;
 pub mod retrace;
 pub mod search;
 pub mod state;

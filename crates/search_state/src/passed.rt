@@ -2,10 +2,7 @@
 // copied for each of them, and the processor waited for the copies. Document 01, "Answer": cycle cuts, rejections, the length flag.
 ghost use mathlib.Core.Path.{_≡_};
 ghost use Prim.Native.Nat.{_+_, _<_, _^_};
-ghost use Rattle.search_state.specs.Passes.{nothingPassed, passedCut, passedRejection, passedLength, flaggedIf, passing, passedBy};
-use crate::search::Search;
-use crate::state::SearchState;
-use budget::path_budget::Budget;
+ghost use Rattle.search_state.specs.Passes.{nothingPassed, passedCut, passedRejection, passedLength};
 
 pub struct Passed {
     pub cycles: u64,
@@ -48,44 +45,5 @@ impl Passed {
     {
         self.overlong = true;
         self
-    }
-}
-
-// The budget with its length flag set, if a length was above its limit.
-fn flagged_if(overlong: bool, mut budget: Budget) -> Budget
-    ensures { λ r. ⌜ r ≡ flaggedIf overlong budget ⌝ }
-{
-    if overlong {
-        budget.lengthLimited = true;
-        return budget;
-    }
-    budget
-}
-
-impl SearchState {
-    // All of it is counted.
-    fn passing(self, passed: Passed) -> SearchState
-        requires { ⌜ (self .cycles + passed .cycles < 2 ^ 64) × (self .rejected + passed .rejected < 2 ^ 64) ⌝ }
-        ensures { λ r. ⌜ r ≡ passing passed self ⌝ }
-    {
-        let budget = self.budget;
-        SearchState {
-            budget: flagged_if(passed.overlong, budget),
-            cycles: self.cycles + passed.cycles,
-            rejected: self.rejected + passed.rejected,
-            kept: self.kept,
-            results: self.results,
-        }
-    }
-}
-
-impl Search {
-    // The search behind edges that lead nowhere.
-    pub fn passed_by(self, passed: Passed) -> Search
-        requires { ⌜ (self .state .cycles + passed .cycles < 2 ^ 64) × (self .state .rejected + passed .rejected < 2 ^ 64) ⌝ }
-        ensures { λ r. ⌜ r ≡ passedBy passed self ⌝ }
-    {
-        let state = self.state;
-        self.with_state(state.passing(passed))
     }
 }

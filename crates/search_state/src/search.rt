@@ -1,9 +1,10 @@
 // A search on the way: what waits, and what is counted and kept. Document 01, "Answer" and "Budget and frontier".
 ghost use mathlib.Core.Path.{_≡_};
-ghost use Prim.Native.Nat.{_+_, _<_, _≤_, _^_};
-ghost use Rattle.words.specs.Slots.{IsSlot, SlotsIn};
+ghost use Prim.Native.Nat.{_≤_};
+ghost use Rattle.words.specs.Slots.{IsSlot};
 ghost use Rattle.graph_search.specs.Frontier.{Framed};
-ghost use Rattle.search_state.specs.Searches.{withState, Extends, Taking};
+ghost use Rattle.search_state.specs.Items.{Clear};
+ghost use Rattle.search_state.specs.Searches.{withState, Pushable, Extends, PopsInto, Takeable, Taking};
 ghost use Rattle.search_state.specs.Extensions.{Extendable, ExtendsTo};
 use crate::state::Recorded;
 use crate::state::SearchState;
@@ -31,6 +32,15 @@ pub enum Taken {
     TooMany,
 }
 
+// The next slot is copied into the front of the item. Behind it are zeros already: no path that was there had more words than a slot has.
+fn pop(frontier: Frontier, work: &mut [u32], item: &mut [u32]) -> Popped
+    requires { ⌜ Framed frontier (now work) × (frontier .length ≤ 128) × IsSlot 128 (now item) × Clear (frontier .length) (now item) ⌝ }
+    ensures { λ r. ⌜ PopsInto frontier (now (work .entry)) r (now (item .exit)) (now (work .exit)) ⌝ }
+{
+    let slot = frontier.length;
+    frontier.pop(work, &mut item[0..slot])
+}
+
 impl Search {
     // The same frontier, and what is counted and kept by now.
     pub fn with_state(self, state: SearchState) -> Search
@@ -40,13 +50,15 @@ impl Search {
         Search { frontier, state }
     }
 
-    // The path in the item waits; 31 when all waiting slots are taken.
+    // The path in the item waits, as many of its words as a slot has; 31 when all waiting slots are taken.
     pub fn push(self, work: &mut [u32], item: &[u32]) -> Going
-        requires { ⌜ Framed (self .frontier) (now work) × IsSlot (self .frontier .length) (now item) ⌝ }
+        requires { ⌜ Pushable self (now work) (now item) ⌝ }
         ensures { λ r. ⌜ Extends self (now (work .entry)) (now (item .entry)) r (now (work .exit)) ⌝ }
     {
         let frontier = self.frontier;
-        let pushed = frontier.push(work, item);
+        let roomy = frontier.make_room(work, item[0] as usize + 1);
+        let slot = roomy.length;
+        let pushed = roomy.push(work, &item[0..slot]);
         let Pushed::Done(next) = pushed else {
             return Going::Refused(SearchRefusal::NoWaitingSlot);
         };
@@ -75,12 +87,12 @@ impl Search {
 
     // The next path is taken out of the frontier, and its expansion is put to the budget, then to the bound on expansions.
     pub fn take(self, work: &mut [u32], item: &mut [u32]) -> Taken
-        requires { ⌜ Framed (self .frontier) (now work) × IsSlot (self .frontier .length) (now item) × (self .state .budget .expanded + 1 < 2 ^ 64) ⌝ }
+        requires { ⌜ Takeable self (now work) (now item) ⌝ }
         ensures { λ r. ⌜ Taking self (now (work .entry)) r (now (item .exit)) (now (work .exit)) ⌝ }
     {
         let frontier = self.frontier;
         let state = self.state;
-        let popped = frontier.pop(work, item);
+        let popped = pop(frontier, work, item);
         let Popped::Item(next) = popped else {
             return Taken::Over(state);
         };

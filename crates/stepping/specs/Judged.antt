@@ -45,9 +45,13 @@ module _ (nodes : ℕ → Node) where
   unfolding followed
   judgedOf ws k e x = followed e (k + 1) (stepAt ws k) (makerIn ws (stepAt ws k .symbols)) (makerIn ws (stepAt ws k .scopes)) x
 
-  -- the step behind k edges that leads to node t by edge e, where it was made once
+  -- step k behind `last` that leads to node t by edge e, where it was made once
+  abbrev pub remadeBehind : List ℕ → Step → ℕ → ℕ → ℕ → Step
+  remadeBehind ws last k e t = remadeOf (nodes t) t e k last (makerIn ws (last .symbols)) (makerIn ws (last .scopes))
+
+  -- the same behind the k edges whose steps stand there
   abbrev pub remadeIn : List ℕ → ℕ → ℕ → ℕ → Step
-  remadeIn ws k e t = remadeOf (nodes t) t e (k + 1) (stepAt ws k) (makerIn ws (stepAt ws k .symbols)) (makerIn ws (stepAt ws k .scopes))
+  remadeIn ws k e t = remadeBehind ws (stepAt ws k) (k + 1) e t
 
   -- at a definition with both stacks empty; the path starts at a reference
   abbrev pub completeStep : Step → Bool
@@ -59,6 +63,13 @@ pub record Ready (ws : List ℕ) (k : ℕ) : Type 0 where
   pub room : 8 * k + 8 ≤ length ws
   pub symbols : stepAt ws k .symbols ≤ k + 1
   pub scopes : stepAt ws k .scopes ≤ k + 1
+
+-- there is room for step k, and those that made the tops of the stacks of the step before are in the words
+pub record Behind (ws : List ℕ) (last : Step) (k : ℕ) : Type 0 where
+  pub few : k < 4294967295
+  pub room : 8 * k + 8 ≤ length ws
+  pub symbols : 8 * last .symbols ≤ length ws
+  pub scopes : 8 * last .scopes ≤ length ws
 
 -- the words behind a judgement: the step is added
 unfoldable pub wordsAfter : List ℕ → ℕ → Effect → List ℕ

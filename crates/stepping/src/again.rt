@@ -4,73 +4,86 @@ ghost use mathlib.Core.Path.{_≡_};
 ghost use Prim.Native.Nat.{_+_, _*_, _<_, _≤_};
 ghost use lib.ListN.{length};
 ghost use Rattle.storage.specs.Rows.{BLOCK, Blocks, nodeRow, targetRow};
-ghost use Rattle.stepping.specs.Steps.{remadeOf};
-ghost use Rattle.stepping.specs.StepWords.{makerIn, withStep};
-ghost use Rattle.stepping.specs.Judged.{Ready, remadeIn};
+ghost use Rattle.stepping.specs.StepWords.{withStep};
+ghost use Rattle.stepping.specs.Judged.{Behind, remadeBehind};
 use crate::step;
 use crate::step::Step;
 use crate::steps;
 use semantics::graph::EdgeId;
-use semantics::graph::Node;
-use semantics::graph::NodeId;
+use storage::rows;
 use storage::store;
 
-// What a node does behind `last`, as step k. The steps that made the tops of the stacks are looked up only where the node takes one.
-fn remade(steps: &[u32], node: Node, target: u32, edge: u32, k: u32, last: Step) -> Step
-    requires { ⌜ (k < 4294967295) × (8 * last .symbols ≤ length (now steps)) × (8 * last .scopes ≤ length (now steps)) × (8 ≤ length (now steps)) ⌝ }
-    ensures { λ r. ⌜ r ≡ remadeOf node target edge k last (makerIn (now (steps .entry)) (last .symbols)) (makerIn (now (steps .entry)) (last .scopes)) ⌝ }
+// The kinds of the nodes that change a stack.
+const JUMP: u32 = 2;
+
+const PUSH: u32 = 4;
+
+const POP: u32 = 5;
+
+const PUSH_SCOPED: u32 = 6;
+
+const POP_SCOPED: u32 = 7;
+
+const DROP_SCOPES: u32 = 8;
+
+// Writes step k, and hands it on.
+fn lay(steps: &mut [u32], k: usize, step: Step) -> Step
+    requires { ⌜ 8 * k + 8 ≤ length (now steps) ⌝ }
+    ensures { λ r. ⌜ (r ≡ step) × (now (steps .exit) ≡ withStep (now (steps .entry)) k r) ⌝ }
 {
-    match node {
-        Node::Removed => step::plain(edge, target, last.symbols, last.scopes),
-        Node::Root => step::plain(edge, target, last.symbols, last.scopes),
-        Node::JumpToScope => {
+    steps::put_step(steps, k, step);
+    step
+}
+
+// Step k at node `target`, by its kind, which says what is read of the node and of the step that made a top. Each kind writes its step by
+// itself: most leave words of it 0, and a step that all of them hand to one write is carried there word by word.
+fn by_kind(index: &[u32], steps: &mut [u32], k: usize, target: u32, edge: u32, last: Step) -> Step
+    requires { ⌜ Blocks (now index) × (BLOCK * target < length (now index)) × Behind (now steps) last k ⌝ }
+    ensures { λ r. ⌜ (r ≡ remadeBehind (nodeRow (now (index .entry))) (now (steps .entry)) last k edge target) × (now (steps .exit) ≡ withStep (now (steps .entry)) k r) ⌝ }
+{
+    let at = rows::BLOCK * target as usize;
+    match index[at + rows::KIND] {
+        JUMP => {
             let over = steps::maker(steps, last.scopes);
-            step::plain(edge, over.scope, last.symbols, over.scopes)
+            let step = step::plain(edge, over.scope, last.symbols, over.scopes);
+            lay(steps, k, step)
         }
-        Node::Scope {
-            file: _,
-            exported: _,
-        } => step::plain(edge, target, last.symbols, last.scopes),
-        Node::Push {
-            file: _,
-            symbol,
-            reference: _,
-        } => step::push(symbol, target, edge, k, last),
-        Node::Pop {
-            file: _,
-            symbol: _,
-            definition: _,
-        } => {
+        PUSH => {
+            let symbol = index[at + rows::SYMBOL];
+            lay(steps, k, step::push(symbol, target, edge, k as u32, last))
+        }
+        POP => {
             let top = steps::maker(steps, last.symbols);
-            step::plain(edge, target, top.below, last.scopes)
+            lay(steps, k, step::plain(edge, target, top.below, last.scopes))
         }
-        Node::PushScoped {
-            file: _,
-            symbol,
-            scope,
-            reference: _,
-        } => step::pushed_scoped(symbol, scope.0, target, edge, k, last),
-        Node::PopScoped {
-            file: _,
-            symbol: _,
-            definition: _,
-        } => {
+        PUSH_SCOPED => {
+            let symbol = index[at + rows::SYMBOL];
+            let scope = index[at + rows::SCOPE];
+            let step = step::pushed_scoped(symbol, scope, target, edge, k as u32, last);
+            lay(steps, k, step)
+        }
+        POP_SCOPED => {
             let top = steps::maker(steps, last.symbols);
-            step::plain(edge, target, top.below, top.attached)
+            lay(steps, k, step::plain(edge, target, top.below, top.attached))
         }
-        Node::DropScopes { file: _ } => step::plain(edge, target, last.symbols, 0),
+        DROP_SCOPES => lay(steps, k, step::plain(edge, target, last.symbols, 0)),
+        _ => {
+            let step = step::plain(edge, target, last.symbols, last.scopes);
+            lay(steps, k, step)
+        }
     }
 }
 
-// The step of an edge behind the k edges whose steps stand there.
-pub fn remake(index: &[u32], steps: &mut [u32], k: u32, edge: u32)
-    requires { ⌜ Blocks (now index) × (BLOCK * edge < length (now index)) ⌝ }
-    requires { ⌜ Ready (now steps) k × (8 * (k + 1) + 8 ≤ length (now steps)) ⌝ }
-    ensures { λ _. ⌜ now (steps .exit) ≡ withStep (now (steps .entry)) (k + 1) (remadeIn (nodeRow (now (index .entry))) (now (steps .entry)) k edge (targetRow (now (index .entry)) edge)) ⌝ }
+// Step k, of an edge behind `last`. It is handed on, so that a run of steps keeps the tops of both stacks in registers and reads no step back.
+// Root and scopes, the commonest, change neither stack, and are told from the other kinds before these are told apart.
+pub fn remake(index: &[u32], steps: &mut [u32], k: usize, edge: u32, last: Step) -> Step
+    requires { ⌜ Blocks (now index) × (BLOCK * edge < length (now index)) × (BLOCK * targetRow (now index) edge < length (now index)) × Behind (now steps) last k ⌝ }
+    ensures { λ r. ⌜ (r ≡ remadeBehind (nodeRow (now (index .entry))) (now (steps .entry)) last k edge (targetRow (now (index .entry)) edge)) × (now (steps .exit) ≡ withStep (now (steps .entry)) k r) ⌝ }
 {
-    let last = steps::get_step(steps, k as usize);
     let target = store::target(index, EdgeId(edge));
-    let node = store::node(index, target);
-    let step = remade(steps, node, target.0, edge, k + 1, last);
-    steps::put_step(steps, k as usize + 1, step);
+    if store::is_plain(index, target) {
+        let step = step::plain(edge, target.0, last.symbols, last.scopes);
+        return lay(steps, k, step);
+    }
+    by_kind(index, steps, k, target.0, edge, last)
 }

@@ -1,7 +1,7 @@
 // The steps of a path in a word area that is lent, 8 words for each. Document 01, "Path".
 // Truncation is free, and nothing is copied when a path grows.
 ghost use mathlib.Core.Path.{_≡_};
-ghost use Prim.Native.Nat.{_+_, _*_, _≤_};
+ghost use Prim.Native.Nat.{_+_, _-_, _*_, _≤_};
 ghost use lib.ListN.{length};
 ghost use Rattle.storage.specs.Rows.{Blocks, nodeRow, edgeRow};
 ghost use Rattle.stepping.specs.StepWords.{stepAt, withStep, makerIn};
@@ -42,15 +42,22 @@ pub fn put_step(steps: &mut [u32], k: usize, s: Step)
     steps[at + 7] = s.scope;
 }
 
-// The step that made a cell; step 0 for none.
+// The number of the step that made a cell; step 0 for none.
+fn made_by(cell: u32) -> usize
+    ensures { λ r. ⌜ r ≡ cell - 1 ⌝ }
+{
+    if 0 < cell {
+        return (cell - 1) as usize;
+    }
+    0
+}
+
+// The step that made a cell. Only its number is chosen by a test, so that of its words none is read but those that are asked for.
 pub fn maker(steps: &[u32], cell: u32) -> Step
     requires { ⌜ (8 * cell ≤ length (now steps)) × (8 ≤ length (now steps)) ⌝ }
     ensures { λ r. ⌜ r ≡ makerIn (now (steps .entry)) cell ⌝ }
 {
-    if 0 < cell {
-        return get_step(steps, (cell - 1) as usize);
-    }
-    get_step(steps, 0)
+    get_step(steps, made_by(cell))
 }
 
 // Judges an edge on the path of k edges that stands in the steps.

@@ -15,7 +15,10 @@ use Rattle.storage.specs.Rows.{Loaded}
 use Rattle.stepping.specs.Judged.{Stepped}
 use Rattle.search_state.specs.declared.search.Search as S
 use Rattle.search_state.specs.declared.search.Going.{Going}
-use Rattle.search_state.specs.Reps.{frameOf, settingOf, Replayed, Rep, Tells}
+use Rattle.search_state.specs.Items.{Clear}
+use Rattle.search_state.specs.Searches.{Clears}
+use Rattle.search_state.specs.Progresses.{frameOf}
+use Rattle.search_state.specs.Reps.{settingOf, Replayed, Rep, Tells}
 use Rattle.database.specs.Records.{edgeWords}
 use Rattle.stitching_trial.specs.Trials.{KeptTo}
 use Rattle.stitching.specs.Requests.{triesIn}
@@ -34,6 +37,7 @@ pub record Given (most : ℕ) (index steps item : List ℕ) (k : ℕ) (s : S.Sea
   pub long : 1024 ≤ length steps
   pub slot : length item ≡ 128
   pub held : take k (drop 1 item) ≡ path .edges
+  pub clear : Clear (s .frontier .length) item
   pub good : Replayed (viewOf graph) reference path
   pub model : State Path
   pub rep : Rep (viewOf graph) reference s ws rs model
@@ -47,6 +51,7 @@ module _ (words : List ℕ) (most : ℕ) (index steps item : List ℕ) (k : ℕ)
   pub record Tried (i : ℕ) (a : Going) (steps′ item′ ws′ rs′ : List ℕ) : Type 0 where
     pub tells : Tells (viewOf (v .graph)) (v .reference) (frameOf s) a ws′ rs′ (tryOf i)
     pub held : take k (drop 1 item′) ≡ v .path .edges
+    pub clears : Clears a item′
     pub kept : KeptTo k steps steps′
 
   -- the answer to all of them

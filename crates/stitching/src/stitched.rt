@@ -15,6 +15,7 @@ ghost use Rattle.recorded.specs.Beatable.{HoldsGraph};
 ghost use Rattle.recorded.specs.Replies.{replyOf};
 ghost use Rattle.stitching_trial.specs.Links.{Readable, Linked, Tryable};
 ghost use Rattle.stitching.specs.Expansions.{Given, Tried, Expanded};
+ghost use Rattle.search_state.specs.Searches.{Clears};
 ghost use Rattle.rounds.specs.Drives.{Rounding, Rounded, Driving, Ends, DrivenTo};
 ghost use Rattle.rounds.specs.Requests.{requestOf, Does};
 ghost use Rattle.stitching.specs.Requests.{triesIn, stitchedOf, foundOf, Sized};
@@ -89,6 +90,7 @@ fn expand(
 ) -> Going
     requires { ⌜ Linked (now words) (now links) × Given 549755813888 (now index) (now steps) (now item) k search (now work) (now result) ⌝ }
     ensures { λ r. ⌜ ((v : Given 549755813888 (now (index .entry)) (now (steps .entry)) (now (item .entry)) k search (now (work .entry)) (now (result .entry))) → Expanded (now (words .entry)) 549755813888 (now (index .entry)) (now (steps .entry)) (now (item .entry)) k search (now (work .entry)) (now (result .entry)) v r (now (steps .exit)) (now (work .exit)) (now (result .exit))) ⌝ }
+    ensures { λ r. ⌜ (Given 549755813888 (now (index .entry)) (now (steps .entry)) (now (item .entry)) k search (now (work .entry)) (now (result .entry)) → Clears r (now (item .exit))) ⌝ }
 {
     let mut on = search;
     let mut link = links::first(links, steps::get_step(steps, k).end);
@@ -118,6 +120,7 @@ fn round(
 ) -> Going
     requires { ⌜ Linked (now words) (now links) × Rounding 549755813888 (now index) (now steps) (now item) laid search (now work) (now result) ⌝ }
     ensures { λ r. ⌜ ((v : Rounding 549755813888 (now (index .entry)) (now (steps .entry)) (now (item .entry)) laid search (now (work .entry)) (now (result .entry))) → Rounded (triesIn (now (words .entry))) 549755813888 (now (index .entry)) (now (steps .entry)) (now (item .entry)) laid search (now (work .entry)) (now (result .entry)) v r (now (steps .exit)) (now (work .exit)) (now (result .exit))) ⌝ }
+    ensures { λ r. ⌜ (Rounding 549755813888 (now (index .entry)) (now (steps .entry)) (now (item .entry)) laid search (now (work .entry)) (now (result .entry)) → Clears r (now (item .exit))) ⌝ }
 {
     let k = item[0] as usize;
     retrace(index, steps, &item[1..k + 1], laid);

@@ -17,9 +17,11 @@ use Rattle.search_state.specs.declared.search.Search as S
 use Rattle.search_state.specs.declared.search.Going.{Going}
 use Rattle.search_state.specs.declared.search.Going.the-variants.{On, Refused}
 use Rattle.search_state.specs.States.{cutOne, rejectedOne, overlongBy}
-use Rattle.search_state.specs.Searches.{withState}
-use Rattle.search_state.specs.Reps.{slotOf, Few, frameOf, settingOf, Replayed, Rep, Tells}
+use Rattle.search_state.specs.Searches.{withState, Clears}
+use Rattle.search_state.specs.Progresses.{frameOf}
+use Rattle.search_state.specs.Reps.{slotOf, Few, settingOf, Replayed, Rep, Tells}
 use Rattle.search_state.specs.Extensions.{ExtendsTo}
+use Rattle.search_state.specs.Extensions.Laws.{extend-clears}
 
 module _ (g : View) (r : ℕ) (s : S.Search) (ws rs : List ℕ) (m : State Path) (rep : Rep g r s ws rs m) where
   abbrev lookedAt : State Path
@@ -93,3 +95,7 @@ module _ (g : View) (r : ℕ) (s : S.Search) (ws rs : List ℕ) (m : State Path)
   pub look-extended : (b : Bool) (q : Path) → Replayed g r q → (item : List ℕ) → item ≡ slotOf q → (a : Going) (ws′ rs′ : List ℕ) → ExtendsTo s b ws rs item a ws′ rs′ → Tells g r (frameOf s) a ws′ rs′ (one (settingOf (frameOf s)) m (go b q))
   unfolding one judged
   look-extended b q good item e a ws′ rs′ x = x g r lookedAt q (m .tally .looked) rep-looked (rep .few) refl good e
+
+  -- and leaves the item clear behind the words of a slot
+  pub look-clears : (b : Bool) (q : Path) → Replayed g r q → (item : List ℕ) → item ≡ slotOf q → (a : Going) (ws′ rs′ : List ℕ) → ExtendsTo s b ws rs item a ws′ rs′ → Clears a item
+  look-clears b q good item e a ws′ rs′ x = extend-clears g r (frameOf s) b a ws′ rs′ lookedAt q item e (x g r lookedAt q (m .tally .looked) rep-looked (rep .few) refl good e)

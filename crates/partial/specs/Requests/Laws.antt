@@ -45,7 +45,8 @@ use Rattle.partial_state.specs.declared.extraction.Frame.{Frame}
 use Rattle.partial_state.specs.Routes.{held}
 use Rattle.partial_state.specs.Filings.{Fits, filedIn}
 use Rattle.partial_state.specs.Filings.Laws.{take-all, filed-none, filed-nowhere}
-use Rattle.partial_state.specs.Extractions.{shortSlot, Computation, Course, goes, stops, newComputation}
+use Rattle.graph_search.specs.Frontier.{shortSlot}
+use Rattle.partial_state.specs.Extractions.{Computation, Course, goes, stops, newComputation}
 use Rattle.partial_state.specs.Reps.{frameOf, settingOf, Rep, Untouched, Tells}
 use Rattle.partial_state.specs.Reps.Laws.{tells-on, tells-refused}
 use Rattle.partial.specs.declared.compute.Computed.{Computed}

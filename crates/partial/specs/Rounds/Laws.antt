@@ -2,14 +2,12 @@
 -- Serves document 01, "Partial paths" and "Budget and frontier"; 36 of "Turned back".
 use Prim.Native.Nat.{ℕ, zero, suc, _+_, _-_, _*_, _<_, _≤_}
 use native.Mathlib.Omega.{arith}
-use native.Mathlib.Nat.{le-trans, mul-le-mul-right}
 use mathlib.Core.Path.{_≡_, refl, sym, ap, subst, _∙_}
 use mathlib.Core.Logic.{_⊎_, inl, inr, ⊎-elim}
 use mathlib.Core.Bool.{Bool, true, false}
-use mathlib.Core.List.{List, [], _∷_, _++_, append-nil}
-use borrow.Rule.Slice.PartMut.{putMid, post-is}
-use lib.ListN.{length, take, drop, getD, length-map, length-drop, length-append, drop-of-length-le}
-use lib.Seq.{take-at, take-append-le, length-take-le}
+use mathlib.Core.List.{List, [], _∷_, _++_}
+use lib.ListN.{length, take, drop, getD, length-map, length-append}
+use lib.Seq.{take-at, take-append-le}
 use Rattle.semantics.specs.declared.graph.Edge.{Edge}
 use Rattle.semantics.specs.declared.search.SearchStats.{SearchStats}
 use Rattle.semantics.specs.declared.search.PartialPathStats.{PartialPathStats}
@@ -18,7 +16,7 @@ use Rattle.semantics.specs.declared.refusal.PartialPathRefusal.the-variants.{To
 use Rattle.semantics.specs.Lists.{consIf, select}
 use Rattle.semantics.specs.Limits.{base}
 use Rattle.semantics.specs.Words.{zeros}
-use Rattle.words.specs.Slots.Wider.{padded-is, part-front}
+use Rattle.words.specs.Slots.Wider.{padded-is}
 use Rattle.graph_search.specs.declared.path_frontier.Frontier.{Frontier}
 use Rattle.graph_search.specs.Frontier.{Framed, widened, Wider}
 use Rattle.semantics.specs.Answer.{Answer, ok, refuse}
@@ -101,19 +99,9 @@ front-count zero item h = absurd (omega (arith, h))
 front-count (suc m) [] h = refl
 front-count (suc m) (w ∷ item) h = refl
 
--- the front of the item as it is lent, and when it is back
+-- the front of the item as it is lent
 pub front-lent : (L : ℕ) (item : List ℕ) → take (L - 0) (drop 0 item) ≡ take L item
 front-lent L item = ap (λ (n : ℕ). take n item) (let z : L - 0 ≡ L = omega arith in z)
-
-pub front-back : (L : ℕ) (s item : List ℕ) → length s ≡ L → s ≡ take L (putMid 0 (L - 0) item s)
-front-back L s item e = sym (ap (take L) (part-front L s item) ∙ take-at s (drop L item) L e)
-
--- the rest of it, when it is back as zeros
-pub rest-back : (L : ℕ) (s item : List ℕ) → length item ≡ 128 → L ≤ 128 → s ≡ zeros (length (take (128 - L) (drop L item))) → putMid L (128 - L) item s ≡ take L item ++ zeros (128 - L)
-rest-back L s item e h z =
-    let n : length (take (128 - L) (drop L item)) ≡ 128 - L = length-take-le (128 - L) (drop L item) (simp length-drop (omega (arith, e))) in
-    let b : length item ≤ 128 = omega (arith, e) in
-    rw (post-is L 128 item h) (ap (λ (l : List ℕ). take L item ++ (l ++ drop 128 item)) (z ∙ ap zeros n) ∙ ap (λ (l : List ℕ). take L item ++ (zeros (128 - L) ++ l)) (drop-of-length-le item b) ∙ ap (λ (l : List ℕ). take L item ++ l) (append-nil (zeros (128 - L))))
 
 -- a round's route in other words that are the same
 unfoldable pub round-same : (most : ℕ) (index : List ℕ) (f : Filing) (item item′ : List ℕ) (x : Computation) (ws db : List ℕ) → item′ ≡ item → Rounding most index f item x ws db → Rounding most index f item′ x ws db
@@ -130,10 +118,6 @@ round-same most index f item item′ x ws db e v = record {
   rep = v .rep;
   small = v .small;
 }
-
--- longer slots lie in the area if slots of full length do
-pub wider-yet : (f : Frontier) (ws : List ℕ) (L : ℕ) → f .length < L → L ≤ 128 → Wider f ws 128 → Wider f ws L
-wider-yet f ws L h most w = record { longer = omega (arith, h); room = le-trans (mul-le-mul-right (f .capacity) most) (w .room) }
 
 module _ (x : Computation) (item ws : List ℕ) (y : Computation) (item′ ws′ : List ℕ) (made : MadeRoom x item ws y item′ ws′) where
   wider-is : (m : Grown x item ws y item′ ws′) → y ≡ withFrontier (widened (x .frontier) (m .words)) x

@@ -24,7 +24,7 @@ use Rattle.words.specs.Area.{encode-room}
 use Rattle.words.specs.Slots.{padded}
 use Rattle.words.specs.Slots.Wider.{padded-is}
 use Rattle.search_state.specs.Items.{Carries}
-use Rattle.search_state.specs.Items.Laws.{carries-slot}
+use Rattle.search_state.specs.Items.Laws.{carries-slot, encode-longer}
 use Rattle.partial_state.specs.declared.route.Ends.{Ends}
 use Rattle.partial_state.specs.Routes.{heldBy, held, sourceOf, endsIn, endsOf, Traced}
 
@@ -88,10 +88,10 @@ held-padded L S r h k room = sym (padded-is L S (held S r) (held-long S r)) ∙ 
         ∙ ap (λ (w : List ℕ). set w 1 (r .start)) (zeros-append S (L - S) ∙ ap zeros (let z : S + (L - S) ≡ L = omega (arith, k) in z))
         ∙ begun L (r .start) (omega (arith, h, k))
     on (e ∷ es) l =
-        let room : (M : ℕ) → length (e ∷ es) < M → heldBy M (r .start) (e ∷ es) ≡ length (e ∷ es) ∷ (e ∷ es ++ zeros (M - suc (length (e ∷ es)))) = λ M b. some M e es ∙ encode-room M (e ∷ es) b in
-        ap (λ (w : List ℕ). w ++ zeros (L - S)) (room S l)
-        ∙ ap (λ (w : List ℕ). length (e ∷ es) ∷ w) (append-assoc (e ∷ es) (zeros (S - suc (length (e ∷ es)))) (zeros (L - S)) ∙ ap (λ (w : List ℕ). e ∷ es ++ w) (zeros-append (S - suc (length (e ∷ es))) (L - S) ∙ ap zeros (let z : S - suc (length (e ∷ es)) + (L - S) ≡ L - suc (length (e ∷ es)) = omega (arith, k, l) in z)))
-        ∙ sym (room L (omega (arith, k, l)))
+        ap (λ (w : List ℕ). w ++ zeros (L - S)) (some S e es)
+        ∙ padded-is L S (encode S (e ∷ es)) (length-encode S (e ∷ es))
+        ∙ encode-longer S L (e ∷ es) l k
+        ∙ sym (some L e es)
 
 -- ---- ends
 

@@ -27,10 +27,13 @@ use Rattle.search_state.specs.declared.search.Going.the-variants as Going
 use Rattle.search_state.specs.declared.state.SearchState.{SearchState}
 use Rattle.search_state.specs.declared.search.Taken.{Taken}
 use Rattle.search_state.specs.declared.search.Taken.the-variants as Taken
-use Rattle.search_state.specs.Items.Laws.{carries-slot}
+use Rattle.search_state.specs.Items.{Clear}
+use Rattle.search_state.specs.Items.Laws.{carries-slot, clear-slot}
 use Rattle.search_state.specs.Retraces.{Laid, Retraces, Retraced}
-use Rattle.search_state.specs.Searches.{Taking}
-use Rattle.search_state.specs.Reps.{Frame, frameOf, settingOf, Rep, Tells}
+use Rattle.search_state.specs.Searches.{Clears, Taking}
+use Rattle.search_state.specs.declared.progress.Frame.{Frame}
+use Rattle.search_state.specs.Progresses.{frameOf}
+use Rattle.search_state.specs.Reps.{settingOf, Rep, Tells}
 use Rattle.search_state.specs.Reps.Laws.{tells-on, tells-refused}
 use Rattle.search_state.specs.Reps.Rounds.{Opened, round-over, round-expand, round-many}
 use Rattle.search_state.specs.Runs.{run-over, run-many, run-round, run-refused}
@@ -45,6 +48,9 @@ module _ (most : ℕ) (index steps item : List ℕ) (n : ℕ) (s : S.Search) (ws
 
   pub round-long : length item ≡ 128
   round-long = ap length (v .words) ∙ length-encode 128 (v .path .edges)
+
+  pub round-clear : Clear (s .frontier .length) item
+  round-clear = subst (Clear (s .frontier .length)) (sym (v .words)) (clear-slot (s .frontier .length) (v .path .edges) (v .fits) (v .rep .sized .wider .longer))
 
   module _ (k : ℕ) (at : k ≡ getD item 0 0) where
     pub round-count : length (v .path .edges) ≡ k
@@ -90,6 +96,7 @@ module _ (tries : Tries) (index steps₀ item₀ : List ℕ) (s : S.Search) (ws�
   pub record Turning (on : S.Search) (steps item ws rs : List ℕ) (n : ℕ) : Type 0 where
     pub state : State Path
     pub stood : Rep (viewOf (v .graph)) (v .reference) on ws rs state
+    pub clear : Clear (on .frontier .length) item
     pub begun : Stepped steps 0 (v .first)
     pub laid : Laid (viewOf (v .graph)) (v .first) steps n
     pub looked : state .tally .looked ≤ 4096 * on .state .budget .expanded
@@ -105,7 +112,7 @@ module _ (tries : Tries) (index steps₀ item₀ : List ℕ) (s : S.Search) (ws�
       (v .first, subst (λ (i : ℕ). Stepped steps₀ i (v .first)) z (v .begun), subst (λ (l : List ℕ). appendAll base (viewOf (v .graph)) (v .first) l ≡ ok (v .first)) (sym (b .edges)) refl)
 
   pub turn-start : Turning s steps₀ item₀ ws₀ rs₀ 0
-  turn-start = record { state = v .model; stood = v .rep; begun = v .begun; laid = laid-none; looked = v .looked; expanded = v .expanded; same = refl }
+  turn-start = record { state = v .model; stood = v .rep; clear = v .clear; begun = v .begun; laid = laid-none; looked = v .looked; expanded = v .expanded; same = refl }
 
   module _ (on : S.Search) (steps item ws rs : List ℕ) (n : ℕ) (long : length steps ≡ length steps₀) (t : Turning on steps item ws rs n) (a : Taken) (item′ ws′ : List ℕ) (x : Taking on ws a item′ ws′) where
     pub turn-over : (st : SearchState) → a ≡ Taken.Over st → DrivenTo tries index steps₀ item₀ s ws₀ rs₀ v (Over st) rs
@@ -141,6 +148,7 @@ module _ (tries : Tries) (index steps₀ item₀ : List ℕ) (s : S.Search) (ws�
             path = o .path;
             words = o .words;
             good = o .good;
+            fits = o .fits;
             model = o .model;
             rep = o .rep;
             small = omega (arith, l, t .looked, t .expanded);
@@ -175,9 +183,9 @@ module _ (tries : Tries) (index steps₀ item₀ : List ℕ) (s : S.Search) (ws�
               let q : next .state .budget .expanded ≡ o .model .stats .expanded = ap (λ (z : SearchStats). z .expanded) (o .rep .counts .stats) in
               (p ∙ m .expansions ∙ sym q ∙ o .expanded, o .before)
 
-          pub turn-again : (item″ : List ℕ) (k : ℕ) → k ≡ getD item′ 0 0 → Turning m′ steps′ item″ ws″ rs′ k
+          pub turn-again : (item″ : List ℕ) → Clears b item″ → (k : ℕ) → k ≡ getD item′ 0 0 → Turning m′ steps′ item″ ws″ rs′ k
           unfolding turn-given
-          turn-again item″ k at =
+          turn-again item″ clears k at =
               let o = opened in
               let u = going in
               let c = turn-counts in
@@ -189,6 +197,7 @@ module _ (tries : Tries) (index steps₀ item₀ : List ℕ) (s : S.Search) (ws�
               record {
                 state = u .0;
                 stood = u .3;
+                clear = subst (λ (z : Going). Clears z item″) d clears;
                 begun = r .begun;
                 laid = subst (λ (j : ℕ). Laid (viewOf (v .graph)) (v .first) steps′ j) (round-count 549755813888 index steps item′ n next ws′ rs turn-given k at) (r .laid);
                 looked = omega (arith, m .looks, h, l, t .looked, c .0);

@@ -3,7 +3,7 @@
 use Prim.Native.Nat.{ℕ, suc, _+_, _-_, _<_, _≤_}
 use native.Mathlib.Omega.{arith}
 use mathlib.Core.Path.{_≡_, refl, sym, ap, subst, _∙_}
-use mathlib.Core.List.{List, map}
+use mathlib.Core.List.{List, map, List·Memᴰ, List·Memᴰ·tail}
 use lib.ListN.{length}
 use Rattle.semantics.specs.declared.refusal.SearchRefusal.{SearchRefusal}
 use Rattle.semantics.specs.declared.refusal.SearchRefusal.the-variants as Search
@@ -20,8 +20,11 @@ use Rattle.stepping.specs.StepWords.{stepAt}
 use Rattle.search_state.specs.declared.search.Search as S
 use Rattle.search_state.specs.declared.search.Going.{Going}
 use Rattle.search_state.specs.declared.search.Going.the-variants.{On, Refused}
-use Rattle.search_state.specs.Items.{Carries}
-use Rattle.search_state.specs.Reps.{Frame, frameOf, settingOf, Rep, Tells}
+use Rattle.search_state.specs.Items.{Clear, Carries}
+use Rattle.search_state.specs.Searches.{Clears}
+use Rattle.search_state.specs.declared.progress.Frame.{Frame}
+use Rattle.search_state.specs.Progresses.{frameOf}
+use Rattle.search_state.specs.Reps.{settingOf, Rep, Tells}
 use Rattle.search_state.specs.Reps.Laws.{tells-on, tells-refused}
 use Rattle.search_state.specs.Runs.{each-one, each-stop}
 use Rattle.search.specs.Expansions.{Given, Tried, Expanded}
@@ -36,8 +39,10 @@ module _ (most : ℕ) (index steps item₀ : List ℕ) (k : ℕ) (s : S.Search) 
     pub frame : frameOf on ≡ frameOf s
     pub stood : Rep (viewOf (v .graph)) (v .reference) on ws rs state
     pub carried : Carries 128 item (v .path .edges)
+    pub clear : Clear (on .frontier .length) item
     pub rest : List ℕ
     pub runs : Runs index link rest
+    pub leaving : (e : ℕ) → List·Memᴰ e rest → List·Memᴰ e (viewOf (v .graph) .out (v .path .end))
     pub fewer : length rest ≤ 4096
     pub looked : state .tally .looked + length rest ≤ most + 4096
     pub same : each (settingOf (frameOf s)) state (map judgeOf rest) ≡ each (settingOf (frameOf s)) (v .model) (tries Search.TooLong base (frameOf s .limits .length) (viewOf (v .graph)) (v .path))
@@ -51,8 +56,10 @@ module _ (most : ℕ) (index steps item₀ : List ℕ) (k : ℕ) (s : S.Search) 
         frame = refl;
         stood = v .rep;
         carried = v .carries;
+        clear = v .clear;
         rest = viewOf (v .graph) .out (v .path .end);
         runs = subst (λ (x : ℕ). Runs index x (viewOf (v .graph) .out (v .path .end))) (sym (q ∙ ap (firstRow index) (e ∙ v .stepped .end))) (v .loaded .runs (v .path .end));
+        leaving = λ e m. m;
         fewer = h;
         looked = omega (arith, v .small, h);
         same = refl;
@@ -70,6 +77,7 @@ module _ (most : ℕ) (index steps item₀ : List ℕ) (k : ℕ) (s : S.Search) 
       stepped = v .stepped;
       long = v .long;
       carries = mid .carried;
+      clear = mid .clear;
       good = v .good;
       model = mid .state;
       rep = mid .stood;
@@ -96,8 +104,10 @@ module _ (most : ℕ) (index steps item₀ : List ℕ) (k : ℕ) (s : S.Search) 
             frame = u .2;
             stood = u .3;
             carried = t .carries;
+            clear = subst (λ (z : Going). Clears z item′) e (t .clears);
             rest = r .0;
             runs = subst (λ (x : ℕ). Runs index x (r .0)) (sym q) (r .2);
+            leaving = λ e m. mid .leaving e (subst (List·Memᴰ e) (sym (r .1)) (List·Memᴰ·tail m));
             fewer = omega (arith, l, mid .fewer);
             looked = omega (arith, o, l, mid .looked);
             same = sym (each-one (settingOf (frameOf s)) (mid .state) (u .0) (judgeOf (link - 1)) (map judgeOf (r .0)) (u .1)) ∙ ap (λ (x : List ℕ). each (settingOf (frameOf s)) (mid .state) (map judgeOf x)) (sym (r .1)) ∙ mid .same;

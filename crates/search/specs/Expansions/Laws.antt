@@ -26,13 +26,17 @@ use Rattle.budget.specs.Budget.Laws.{lengthening-limits, lengthening-refused}
 use Rattle.search_state.specs.declared.search.Search as S
 use Rattle.search_state.specs.declared.search.Going.{Going}
 use Rattle.search_state.specs.declared.search.Going.the-variants.{On, Refused}
-use Rattle.search_state.specs.Items.{withEdge, Carries}
+use Rattle.search_state.specs.Items.{withEdge, Clear, Carries}
 use Rattle.search_state.specs.Items.Laws.{carries-edge}
 use Rattle.search_state.specs.Retraces.Laws.{ready-of}
 use Rattle.search_state.specs.States.{cutOne, rejectedOne, overlongBy}
-use Rattle.search_state.specs.Searches.{withState}
-use Rattle.search_state.specs.Reps.{slotOf, frameOf, Replayed, Rep, Tells}
+use Rattle.search_state.specs.declared.state.SearchState.{SearchState}
+use Rattle.search_state.specs.Searches.{withState, Clears}
+use Rattle.search_state.specs.Progresses.{frameOf}
+use Rattle.search_state.specs.Reps.{slotOf, Replayed, Rep, Tells}
+use Rattle.search_state.specs.Reps.Laws.{rep-pushable}
 use Rattle.search_state.specs.Extensions.{Extendable, ExtendsTo}
+use Rattle.search_state.specs.Extensions.Laws.{extend-clears}
 use Rattle.edge_trial.specs.declared.trial.Trial.{Trial}
 use Rattle.edge_trial.specs.declared.trial.Trial.the-variants.{Cut, Overlong, Rejected, TooLong, Extended}
 use Rattle.edge_trial.specs.Trials.{trialBy}
@@ -119,12 +123,17 @@ module _ (most : ℕ) (index steps item : List ℕ) (k : ℕ) (s : S.Search) (ws
 
     -- ---- by what the trial says
 
+    -- the item and the words of a slot stay as they are
+    still-clear : (w : S.Search) (st : SearchState) → w ≡ withState st s → Clears (On w) item
+    still-clear w st q = subst (λ (x : S.Search). Clear (x .frontier .length) item) (sym q) (v .clear)
+
     pub tried-cut : Says Cut → (w : S.Search) → w ≡ withState (cutOne (s .state)) s → Tried most index steps item k s ws rs v e (On w) item ws rs
     unfolding one judged
     tried-cut j w q = record {
       tells = subst (λ (x : S.Search). Tells (viewOf (v .graph)) (v .reference) (frameOf s) (On x) ws rs (tryOf most index steps item k s ws rs v e)) (sym q)
           (rw j (refl, cut-rep (viewOf (v .graph)) (v .reference) s ws rs (v .model) (v .rep)));
       carries = v .carries;
+      clears = still-clear w (cutOne (s .state)) q;
     }
 
     pub tried-rejected : Says Rejected → (w : S.Search) → w ≡ withState (rejectedOne (s .state)) s → Tried most index steps item k s ws rs v e (On w) item ws rs
@@ -133,6 +142,7 @@ module _ (most : ℕ) (index steps item : List ℕ) (k : ℕ) (s : S.Search) (ws
       tells = subst (λ (x : S.Search). Tells (viewOf (v .graph)) (v .reference) (frameOf s) (On x) ws rs (tryOf most index steps item k s ws rs v e)) (sym q)
           (rw j (refl, reject-rep (viewOf (v .graph)) (v .reference) s ws rs (v .model) (v .rep)));
       carries = v .carries;
+      clears = still-clear w (rejectedOne (s .state)) q;
     }
 
     pub tried-overlong : Says Overlong → (w : S.Search) → w ≡ withState (overlongBy (k + 1) (s .state)) s → Tried most index steps item k s ws rs v e (On w) item ws rs
@@ -144,11 +154,12 @@ module _ (most : ℕ) (index steps item : List ℕ) (k : ℕ) (s : S.Search) (ws
           tells = subst (λ (x : S.Search). Tells (viewOf (v .graph)) (v .reference) (frameOf s) (On x) ws rs (tryOf most index steps item k s ws rs v e)) (sym q)
               (rw (j .0) (λ i. record { order = s .frontier .order; limits = lengthening-limits (k + 1) (s .state .budget) i; waiting = s .frontier .capacity; results = s .state .results }, overlong-rep (viewOf (v .graph)) (v .reference) s ws rs (v .model) (v .rep) (k + 1) h));
           carries = v .carries;
+          clears = still-clear w (overlongBy (k + 1) (s .state)) q;
         }
 
     pub tried-bound : Says TooLong → Tried most index steps item k s ws rs v e (Refused Search.TooLong) item ws rs
     unfolding one judged
-    tried-bound j = record { tells = rw j refl; carries = v .carries }
+    tried-bound j = record { tells = rw j refl; carries = v .carries; clears = tt }
 
     -- ---- the path with one edge more
     module _ (b : Bool) (j : Says (Extended b)) where
@@ -168,16 +179,15 @@ module _ (most : ℕ) (index steps item : List ℕ) (k : ℕ) (s : S.Search) (ws
 
       pub tried-extended : (item′ : List ℕ) → item′ ≡ withEdge item k e → (a : Going) (ws′ rs′ : List ℕ) → ExtendsTo s b ws rs item′ a ws′ rs′ → Tried most index steps item k s ws rs v e a item′ ws′ rs′
       unfolding one judged
-      tried-extended item′ q a ws′ rs′ x = record {
-        tells = rw (j .1) (x (viewOf (v .graph)) (v .reference) (lookedAt (viewOf (v .graph)) (v .reference) s ws rs (v .model) (v .rep)) (j .0) (v .model .tally .looked) (rep-looked (viewOf (v .graph)) (v .reference) s ws rs (v .model) (v .rep)) (v .rep .few) refl good-grown (q ∙ grown));
+      tried-extended item′ q a ws′ rs′ x = let told = x (viewOf (v .graph)) (v .reference) (lookedAt (viewOf (v .graph)) (v .reference) s ws rs (v .model) (v .rep)) (j .0) (v .model .tally .looked) (rep-looked (viewOf (v .graph)) (v .reference) s ws rs (v .model) (v .rep)) (v .rep .few) refl good-grown (q ∙ grown) in record {
+        tells = rw (j .1) told;
         carries = subst (λ (l : List ℕ). Carries 128 l (v .path .edges)) (sym (q ∙ ap (λ (n : ℕ). withEdge item n e) (sym (v .count)))) (carries-edge 128 item (v .path .edges) e (v .carries));
+        clears = extend-clears (viewOf (v .graph)) (v .reference) (frameOf s) b a ws′ rs′ (lookedAt (viewOf (v .graph)) (v .reference) s ws rs (v .model) (v .rep)) (j .0) item′ (q ∙ grown) told;
       }
 
-      pub extended-given : most + 1 < 2 ^ 64 → (item′ : List ℕ) → length item′ ≡ length item → Extendable s ws rs item′
-      extended-given h item′ l = record {
-        framed = v .rep .stands .framed;
-        slot = l ∙ v .carries .long;
-        sized = v .rep .sized;
+      pub extended-given : most + 1 < 2 ^ 64 → (item′ : List ℕ) → item′ ≡ withEdge item k e → Extendable s ws rs item′
+      extended-given h item′ q = record {
+        pushable = rep-pushable (viewOf (v .graph)) (v .reference) s ws rs (v .model) (v .rep) (j .0) good-grown item′ (q ∙ grown);
         fits = v .rep .counts .fits;
         room = v .rep .counts .room;
         few = let c = given-complete in omega (arith, c, h);

@@ -20,7 +20,7 @@ use Rattle.search_state.specs.Items.{Carries}
 use Rattle.search_state.specs.Items.Laws.{carries-slot}
 use Rattle.search_state.specs.Retraces.{Retraces, Retraced}
 use Rattle.rounds.specs.Drives.{Rounding, Rounded}
-use Rattle.rounds.specs.Drives.Laws.{round-count, round-traced}
+use Rattle.rounds.specs.Drives.Laws.{round-clear, round-count, round-traced}
 use Rattle.search.specs.Requests.{edgeTries}
 use Rattle.search.specs.Expansions.{Given, Expanded}
 
@@ -47,6 +47,7 @@ module _ (most : ℕ) (index steps item : List ℕ) (n : ℕ) (s : S.Search) (ws
     stepped = round-traced most index steps item n s ws rs v k at steps′ t .0;
     long = omega (arith, long, v .long);
     carries = carried;
+    clear = round-clear most index steps item n s ws rs v;
     good = v .good;
     model = v .model;
     rep = v .rep;

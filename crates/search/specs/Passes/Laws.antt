@@ -23,7 +23,7 @@ use Rattle.search_state.specs.declared.search.Going.{Going}
 use Rattle.search_state.specs.declared.search.Going.the-variants as Going
 use Rattle.search_state.specs.declared.passed.Passed.{Passed}
 use Rattle.search_state.specs.Items.{withEdge}
-use Rattle.search_state.specs.Reps.{Frame}
+use Rattle.search_state.specs.declared.progress.Frame.{Frame}
 use Rattle.search_state.specs.Extensions.{Extendable, ExtendsTo}
 use Rattle.search_state.specs.Passes.{nothingPassed, passedCut, passedRejection, passedLength, passedBy}
 use Rattle.search_state.specs.Passes.Laws.{nothing-passed, one-cut, one-rejection, one-length}
@@ -226,7 +226,7 @@ module _ (r : Pass) (item : List ℕ) (k : ℕ) (on : S.Search) (ws rs : List �
     pub turn-long : length item ≡ 128
     turn-long = x .mid .carried .long
 
-    pub turn-extends : (item′ : List ℕ) → length item′ ≡ length item → (w : S.Search) → w ≡ behind → Extendable w ws rs item′
+    pub turn-extends : (item′ : List ℕ) → item′ ≡ withEdge item k (r .link - 1) → (w : S.Search) → w ≡ behind → Extendable w ws rs item′
     unfolding mid-given
     turn-extends item′ l w q = subst (λ (u : S.Search). Extendable u ws rs item′) (sym q) (extended-given Most (x .index) (x .steps) item k behind ws rs givenˣ (r .link - 1) b judgedˣ (omega arith) item′ l)
 

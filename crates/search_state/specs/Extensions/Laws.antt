@@ -3,25 +3,30 @@
 use Prim.Native.Nat.{ℕ, _+_}
 use mathlib.Core.Path.{_≡_, refl, sym, ap, subst, _∙_}
 use mathlib.Core.Logic.{inl, inr, ⊎-elim}
-use mathlib.Core.Bool.{true, false}
-use mathlib.Core.List.{List, map, List·Memᴰ}
+use mathlib.Core.Bool.{Bool, true, false}
+use mathlib.Core.List.{List, map, List·Memᴰ, List·Memᴰ·head, Memᴰ·append-right}
 use Rattle.semantics.specs.declared.refusal.SearchRefusal.{SearchRefusal}
 use Rattle.semantics.specs.declared.refusal.SearchRefusal.the-variants as Search
-use Rattle.semantics.specs.Answer.{Answer, ok, refuse}
+use Rattle.semantics.specs.Answer.{Answer, ok, refuse, andThen}
+use Rattle.semantics.specs.Answer.Laws.{andThen-ok}
 use Rattle.semantics.specs.Graph.{View}
 use Rattle.semantics.specs.Path.{Path}
-use Rattle.semantics.specs.Enumeration.{State, Tally, keep, pushItem}
-use Rattle.words.specs.Slots.{IsSlot}
-use Rattle.graph_search.specs.Frontier.{Framed, Waits}
+use Rattle.semantics.specs.Enumeration.{State, Setting, Tally, keep, withPending, pushItem}
+use Rattle.semantics.specs.Enumeration.Laws.{place-ok}
+use Rattle.graph_search.specs.Frontier.{Waits}
 use Rattle.search_state.specs.declared.state.SearchState.{SearchState}
 use Rattle.search_state.specs.declared.state.Recorded.{Recorded}
 use Rattle.search_state.specs.declared.state.Recorded.the-variants.{Done, Full}
 use Rattle.search_state.specs.declared.search.Search as S
 use Rattle.search_state.specs.declared.search.Going.{Going}
-use Rattle.search_state.specs.declared.search.Going.the-variants.{Refused}
+use Rattle.search_state.specs.declared.search.Going.the-variants.{On, Refused}
 use Rattle.search_state.specs.States.{recordedBy, resultAfter}
-use Rattle.search_state.specs.Searches.{withState, Extends}
-use Rattle.search_state.specs.Reps.{slotOf, Few, Frame, frameOf, settingOf, Rep, Tells}
+use Rattle.search_state.specs.Items.{Clear}
+use Rattle.search_state.specs.Items.Laws.{clear-slot}
+use Rattle.search_state.specs.Searches.{withState, Pushable, Extends, Clears}
+use Rattle.search_state.specs.declared.progress.Frame.{Frame}
+use Rattle.search_state.specs.Progresses.{frameOf}
+use Rattle.search_state.specs.Reps.{slotIn, slotOf, Slotted, Few, settingOf, Rep, Tells}
 use Rattle.search_state.specs.Reps.Laws.{Kept, Records, record-tells, push-tells}
 use Rattle.search_state.specs.Extensions.{Extendable, ExtendsTo}
 
@@ -52,9 +57,9 @@ module _ (s : S.Search) (ws rs item : List ℕ) (b : Recorded) (rs′ : List ℕ
         on (refuse y) h = ap (λ (x : SearchRefusal). refuse x) h
 
     kept-rep : (n : SearchState) (u : State Path) (k : ℕ) → Kept (s .state) n rs′ m u → Few k (m .stats) → k + 1 ≡ m .tally .looked → Rep g r (withState n s) ws rs′ u
-    kept-rep n u k h f l = record {
-      sized = rep .sized;
-      stands = subst (λ (x : List Path). Waits (s .frontier) ws (map slotOf x) (map slotOf (u .pending))) (sym (h .same .rest)) (subst (λ (x : List Path). Waits (s .frontier) ws (map slotOf (m .rest)) (map slotOf x)) (sym (h .same .pending)) (rep .stands));
+    kept-rep n u k h f l = let L = s .frontier .length in record {
+      sized = subst (λ (x : List Path). Slotted (s .frontier) ws x (u .pending)) (sym (h .same .rest)) (subst (λ (x : List Path). Slotted (s .frontier) ws (m .rest) x) (sym (h .same .pending)) (rep .sized));
+      stands = subst (λ (x : List Path). Waits (s .frontier) ws (map (slotIn L) x) (map (slotIn L) (u .pending))) (sym (h .same .rest)) (subst (λ (x : List Path). Waits (s .frontier) ws (map (slotIn L) (m .rest)) (map (slotIn L) x)) (sym (h .same .pending)) (rep .stands));
       counts = h .counts;
       few = subst (λ (x : ℕ). Few x (u .stats)) (l ∙ ap (λ (t : Tally). t .looked) (sym (h .same .tally))) (h .few k f);
       replays = λ p k. ⊎-elim (λ (x : List·Memᴰ p (u .rest)). rep .replays p (inl (subst (λ (y : List Path). List·Memᴰ p y) (h .same .rest) x))) (λ (x : List·Memᴰ p (u .pending)). rep .replays p (inr (subst (λ (y : List Path). List·Memᴰ p y) (h .same .pending) x))) k;
@@ -75,5 +80,24 @@ module _ (s : S.Search) (ws rs item : List ℕ) (b : Recorded) (rs′ : List ℕ
       rw (h .1) (subst (λ (f : Frame). Tells g r f a ws′ rs′ (pushItem (settingOf f) q u)) (kept-frame g r m q rep e n u (h .2)) v)
 
 -- what the push behind it is given
-pub extend-push : (s t : S.Search) (n : SearchState) (ws rs item : List ℕ) → Extendable s ws rs item → t ≡ withState n s → Framed (t .frontier) ws × IsSlot (t .frontier .length) item
-extend-push s t n ws rs item x e = subst (λ (y : S.Search). Framed (y .frontier) ws × IsSlot (y .frontier .length) item) (sym e) (x .framed, x .slot ∙ sym (x .sized))
+pub extend-push : (s t : S.Search) (n : SearchState) (ws rs item : List ℕ) → Extendable s ws rs item → t ≡ withState n s → Pushable t ws item
+extend-push s t n ws rs item x e = subst (λ (y : S.Search). Pushable y ws item) (sym e) (record { framed = x .pushable .framed; wider = x .pushable .wider; slot = x .pushable .slot; short = x .pushable .short })
+
+-- ---- the item behind it
+
+pushed-is : (c : Setting SearchRefusal) (q : Path) (m u : State Path) → pushItem c q m ≡ ok u → withPending q m ≡ u
+unfolding pushItem
+pushed-is c q m u e = place-ok (c .waiting) _ _ u e
+
+-- the path waits, so that its words have a place in a slot
+pub extend-clears : (g : View) (r : ℕ) (f : Frame) (c : Bool) (a : Going) (ws rs : List ℕ) (m : State Path) (q : Path) (item : List ℕ) → item ≡ slotOf q → Tells g r f a ws rs (andThen (keep c (settingOf f) m q) (pushItem (settingOf f) q)) → Clears a item
+extend-clears g r f c (Refused x) ws rs m q item e h = tt
+extend-clears g r f c (On s) ws rs m q item e h = on (andThen (keep c (settingOf f) m q) (pushItem (settingOf f) q)) refl h
+  where
+    on : (t : Answer SearchRefusal (State Path)) → andThen (keep c (settingOf f) m q) (pushItem (settingOf f) q) ≡ t → Tells g r f (On s) ws rs t → Clears (On s) item
+    on (refuse y) k h = absurd h
+    on (ok u) k h =
+        let p = andThen-ok (keep c (settingOf f) m q) (pushItem (settingOf f) q) u k in
+        let v : withPending q (p .0) ≡ u = pushed-is (settingOf f) q (p .0) u (p .2) in
+        let i : List·Memᴰ q (u .pending) = subst (λ (x : State Path). List·Memᴰ q (x .pending)) v (Memᴰ·append-right (p .0 .pending) (List·Memᴰ·head refl)) in
+        subst (Clear (s .frontier .length)) (sym e) (clear-slot (s .frontier .length) (q .edges) (h .1 .sized .fits q (inr i)) (h .1 .sized .wider .longer))

@@ -1,18 +1,22 @@
 -- Laws of the path under expansion: the scan for an edge, the words of a popped path, and one more edge behind them.
 -- Serves document 01, "Answer".
-use Prim.Native.Nat.{ℕ, zero, suc, _+_, _<_, _≤_}
+use Prim.Native.Nat.{ℕ, zero, suc, _+_, _-_, _<_, _≤_}
 use native.Mathlib.Omega.{arith}
 use native.Mathlib.Numerals.{add-one}
-use mathlib.Core.Path.{_≡_, refl, ap, ap₂, _∙_}
+use mathlib.Core.Path.{_≡_, refl, sym, ap, ap₂, _∙_}
 use mathlib.Core.Bool.{Bool, true, false}
-use mathlib.Core.List.{List, [], _∷_, _++_}
+use mathlib.Core.List.{List, [], _∷_, _++_, append-assoc, append-nil}
 use lib.Dec.{eqb}
-use lib.ListN.{length, take, drop, set, getD, length-set, drop-of-length-le}
-use lib.Seq.{drop-cons, set-set, take-set-le}
+use borrow.Rule.Slice.PartMut.{putMid, post-is}
+use lib.ListN.{length, take, drop, set, getD, length-set, length-drop, drop-of-length-le, replicate-append-replicate}
+use lib.Seq.{drop-cons, set-set, take-set-le, take-at, drop-at, length-take-le}
 use Rattle.semantics.specs.Lists.{or, has}
 use Rattle.semantics.specs.Words.{zeros, encode}
 use Rattle.semantics.specs.Words.Laws.{length-encode}
-use Rattle.search_state.specs.Items.{withEdge, Carries}
+use Rattle.words.specs.Area.{encode-room}
+use Rattle.words.specs.Slots.{padded}
+use Rattle.words.specs.Slots.Wider.{padded-is, part-front}
+use Rattle.search_state.specs.Items.{withEdge, Clear, Carries}
 
 -- ---- the scan
 
@@ -75,3 +79,42 @@ carries-edge L (w ∷ item) es e c = record {
   edges = rw add-one (take-set-le (length es) item (length es) e (omega arith) ∙ c .edges);
   grows = λ x l. let g = c .grows x l in rw add-one (ap (λ (t : List ℕ). suc (length es) ∷ t) (set-set item (length es) e x) ∙ (rw add-one at g));
 }
+
+-- ---- in a longer slot
+
+-- the words of a path in a longer slot are the same with zeros behind
+pub encode-longer : (L M : ℕ) (es : List ℕ) → length es < L → L ≤ M → padded M (encode L es) ≡ encode M es
+encode-longer L M es h k =
+    let n = length es in
+    sym (padded-is M L (encode L es) (length-encode L es))
+    ∙ ap (λ (w : List ℕ). w ++ zeros (M - L)) (encode-room L es h)
+    ∙ ap (λ (w : List ℕ). n ∷ w) (append-assoc es (zeros (L - suc n)) (zeros (M - L)) ∙ ap (λ (w : List ℕ). es ++ w) (replicate-append-replicate (L - suc n) (M - L) 0 ∙ ap zeros (let z : L - suc n + (M - L) ≡ M - suc n = omega (arith, h, k) in z)))
+    ∙ sym (encode-room M es (omega (arith, h, k)))
+
+-- the front of a longer slot is the shorter one
+pub encode-front : (L M : ℕ) (es : List ℕ) → length es < L → L ≤ M → take L (encode M es) ≡ encode L es
+encode-front L M es h k = ap (take L) (sym (encode-longer L M es h k)) ∙ take-at (encode L es) (zeros (M - length (encode L es))) L (length-encode L es)
+
+-- ---- a slot in the front of the item
+
+-- the front, when it is back
+pub front-back : (L : ℕ) (s item : List ℕ) → length s ≡ L → s ≡ take L (putMid 0 (L - 0) item s)
+front-back L s item e = sym (ap (take L) (part-front L s item) ∙ take-at s (drop L item) L e)
+
+-- the rest of it, when it is back as zeros
+pub rest-back : (L : ℕ) (s item : List ℕ) → length item ≡ 128 → L ≤ 128 → s ≡ zeros (length (take (128 - L) (drop L item))) → putMid L (128 - L) item s ≡ take L item ++ zeros (128 - L)
+rest-back L s item e h z =
+    let n : length (take (128 - L) (drop L item)) ≡ 128 - L = length-take-le (128 - L) (drop L item) (simp length-drop (omega (arith, e))) in
+    let b : length item ≤ 128 = omega (arith, e) in
+    rw (post-is L 128 item h) (ap (λ (l : List ℕ). take L item ++ (l ++ drop 128 item)) (z ∙ ap zeros n) ∙ ap (λ (l : List ℕ). take L item ++ (zeros (128 - L) ++ l)) (drop-of-length-le item b) ∙ ap (λ (l : List ℕ). take L item ++ l) (append-nil (zeros (128 - L))))
+
+-- the front of an item that is clear behind it
+pub clear-back : (L : ℕ) (s item : List ℕ) → length s ≡ L → Clear L item → putMid 0 (L - 0) item s ≡ padded 128 s
+clear-back L s item e c = part-front L s item ∙ ap (λ (l : List ℕ). s ++ l) c ∙ padded-is 128 L s e
+
+-- a path that fits in a shorter slot leaves the rest of a longer one clear
+pub clear-slot : (L : ℕ) (es : List ℕ) → length es < L → L ≤ 128 → Clear L (encode 128 es)
+clear-slot L es h k =
+    ap (drop L) (sym (encode-longer L 128 es h k))
+    ∙ drop-at (encode L es) (zeros (128 - length (encode L es))) L (length-encode L es)
+    ∙ ap (λ (n : ℕ). zeros (128 - n)) (length-encode L es)

@@ -6,9 +6,9 @@ use native.Mathlib.Nat.{mul-suc}
 use mathlib.Core.Path.{_≡_, refl, sym, ap, ap₂, subst, _∙_}
 use mathlib.Core.Logic.{_⊎_, inl, inr, ⊎-elim}
 use mathlib.Core.Bool.{Bool, true, false}
-use mathlib.Core.List.{List, [], _∷_, _++_, append-assoc, List·Memᴰ, List·Memᴰ·append-cases, List·Memᴰ·eq-of-singleton}
+use mathlib.Core.List.{List, [], _∷_, _++_, map, append-assoc, List·Memᴰ, List·Memᴰ·head, List·Memᴰ·tail, List·Memᴰ·append-cases, List·Memᴰ·eq-of-singleton}
 use lib.Dec.{T, ltb, ltb→lt}
-use lib.ListN.{length, length-append, length-replicate}
+use lib.ListN.{length, getD, length-append, length-replicate}
 use Rattle.semantics.specs.declared.search.SearchStats.{SearchStats}
 use Rattle.semantics.specs.declared.refusal.SearchRefusal.{SearchRefusal}
 use Rattle.semantics.specs.declared.refusal.SearchRefusal.the-variants as Search
@@ -17,19 +17,22 @@ use Rattle.semantics.specs.Limits.{below}
 use Rattle.semantics.specs.Answer.{Answer, ok, refuse}
 use Rattle.semantics.specs.Graph.{View}
 use Rattle.semantics.specs.Path.{Path}
-use Rattle.semantics.specs.Enumeration.{State, Setting, Area, slots, keep, keepIf, place, placeIf, pushItem, withKept, withStats, addComplete, flagComplete}
+use Rattle.semantics.specs.Enumeration.{State, Setting, Area, slots, keep, keepIf, place, placeIf, pushItem, withPending, withKept, withStats, addComplete, flagComplete}
 use Rattle.semantics.specs.Recorded.{edgeLists}
 use Rattle.semantics.specs.Words.{zeros, encode, flat, area}
 use Rattle.semantics.specs.Words.Laws.{length-encode, length-flat}
-use Rattle.words.specs.Slots.{putSlot}
+use Rattle.words.specs.Area.{encode-count}
+use Rattle.words.specs.Slots.{putSlot, padded}
 use Rattle.words.specs.Slots.Laws.{within, length-put, put-at}
 use Rattle.graph_search.specs.declared.path_frontier.Frontier.{Frontier}
 use Rattle.graph_search.specs.declared.path_frontier.Pushed.{Pushed}
 use Rattle.graph_search.specs.declared.path_frontier.Pushed.the-variants as Pushed
 use Rattle.budget.specs.Budget.{completion, limitsOf}
 use Rattle.budget.specs.Budget.Laws.{completion-allowed, completion-limits, completion-granted, completion-refused}
+use Rattle.graph_search.specs.Frontier.{pushed, Waits, Pushes, MakesRoom}
 use Rattle.graph_search.specs.Frontier.Laws.{push-frame}
-use Rattle.graph_search.specs.Frontier.Stands.{stands-done, stands-full}
+use Rattle.graph_search.specs.Frontier.Stands.{Stands, stands-done, stands-full}
+use Rattle.path.specs.Replays.Calls.{few-edges}
 use Rattle.search_state.specs.declared.state.SearchState.{SearchState}
 use Rattle.search_state.specs.declared.state.Recorded.{Recorded}
 use Rattle.search_state.specs.declared.state.Recorded.the-variants.{Done, Full}
@@ -37,8 +40,11 @@ use Rattle.search_state.specs.declared.search.Search as S
 use Rattle.search_state.specs.declared.search.Going.{Going}
 use Rattle.search_state.specs.declared.search.Going.the-variants.{On, Refused}
 use Rattle.search_state.specs.States.{keptOne, asked, recordedBy, resultAfter}
-use Rattle.search_state.specs.Searches.{goingOf, Extends}
-use Rattle.search_state.specs.Reps.{slotOf, Counts, Few, Frame, frameOf, settingOf, Replayed, Rep, Tells}
+use Rattle.search_state.specs.Searches.{goingOf, Pushable, Extends}
+use Rattle.search_state.specs.Items.Laws.{encode-longer, encode-front}
+use Rattle.search_state.specs.declared.progress.Frame.{Frame}
+use Rattle.search_state.specs.Progresses.{frameOf}
+use Rattle.search_state.specs.Reps.{slotIn, slotOf, Counts, Few, settingOf, Replayed, Rep, Tells}
 
 -- ---- the result area with one more slot
 
@@ -165,30 +171,88 @@ module _ {R : Type 0} (c : Setting R) (full : R) (st : SearchState) (lent : c .r
 
 -- ---- a push
 
-module _ (g : View) (r : ℕ) (s : S.Search) (ws rs : List ℕ) (m : State Path) (rep : Rep g r s ws rs m) (q : Path) (good : Replayed g r q) where
-  in-snoc : (p : Path) → List·Memᴰ p (m .rest) ⊎ List·Memᴰ p (m .pending ++ (q ∷ [])) → Replayed g r p
-  in-snoc p (inl a) = rep .replays p (inl a)
-  in-snoc p (inr a) = ⊎-elim (λ (b : List·Memᴰ p (m .pending)). rep .replays p (inr b)) (λ (b : List·Memᴰ p (q ∷ [])). subst (Replayed g r) (sym (List·Memᴰ·eq-of-singleton b)) good) (List·Memᴰ·append-cases (m .pending) a)
+abbrev withFrontier : Frontier → S.Search → S.Search
+withFrontier f s = record { frontier = f; state = s .state }
 
-  pub push-tells : (a : Going) (ws′ : List ℕ) → Extends s ws (slotOf q) a ws′ → Tells g r (frameOf s) a ws′ rs (pushItem (settingOf (frameOf s)) q m)
-  push-tells a ws′ x = subst (λ (y : Going). Tells g r (frameOf s) y ws′ rs (pushItem (settingOf (frameOf s)) q m)) (sym (x .is)) (on (x .pushed) refl)
-    where
-      on : (p : Pushed) → x .pushed ≡ p → Tells g r (frameOf s) (goingOf (s .state) p) ws′ rs (pushItem (settingOf (frameOf s)) q m)
-      on (Pushed.Done f) e =
-          let d = stands-done slotOf (settingOf (frameOf s)) Search.NoWaitingSlot (s .frontier) refl ws m q (x .pushed) ws′ (x .pushes) (rep .stands) f e in
-          let h = push-frame (s .frontier) ws (slotOf q) (x .pushed) ws′ (x .pushes) f e in
-          subst (λ (y : Answer SearchRefusal (State Path)). Tells g r (frameOf s) (On (record { frontier = f; state = s .state })) ws′ rs y) (sym (d .0)) (
-            ap (λ (z : Frontier). frameOf (record { frontier = z; state = s .state })) (h .1),
-            record {
-              sized = ap (λ (z : Frontier). z .length) (h .1) ∙ rep .sized;
-              stands = d .1;
-              counts = record { stats = rep .counts .stats; kept = rep .counts .kept; fits = rep .counts .fits; room = rep .counts .room; words = rep .counts .words };
-              few = rep .few;
-              replays = in-snoc;
-            },
-          )
-      on Pushed.Full e =
-          subst (λ (y : Answer SearchRefusal (State Path)). Tells g r (frameOf s) (Refused Search.NoWaitingSlot) ws′ rs y) (sym (stands-full slotOf (settingOf (frameOf s)) Search.NoWaitingSlot (s .frontier) refl ws m q (x .pushed) ws′ (x .pushes) (rep .stands) e)) refl
+-- the words of waiting paths in longer slots
+all-longer : (L M : ℕ) → L ≤ M → (l : List Path) → ((p : Path) → List·Memᴰ p l → length (p .edges) < L) → map (padded M) (map (slotIn L) l) ≡ map (slotIn M) l
+all-longer L M h [] k = refl
+all-longer L M h (p ∷ l) k = ap₂ (λ (s : List ℕ) (t : List (List ℕ)). s ∷ t) (encode-longer L M (p .edges) (k p (List·Memᴰ·head refl)) h) (all-longer L M h l (λ q i. k q (List·Memᴰ·tail i)))
+
+module _ (g : View) (r : ℕ) (s : S.Search) (ws rs : List ℕ) (m : State Path) (rep : Rep g r s ws rs m) where
+  -- longer slots stand for the same state
+  module _ (words : ℕ) (f : Frontier) (ws₁ : List ℕ) (room : MakesRoom (s .frontier) ws words f ws₁) where
+    roomy-frame : frameOf (withFrontier f s) ≡ frameOf s
+    roomy-frame = ap (λ (z : Frontier). frameOf (withFrontier z s)) (room .widens .is)
+
+    roomy-rep : Rep g r (withFrontier f s) ws₁ rs m
+    roomy-rep =
+        let L = s .frontier .length in
+        let c : f .capacity ≡ s .frontier .capacity = ap (λ (z : Frontier). z .capacity) (room .widens .is) in
+        let v = room .widens .waits (map (slotIn L) (m .rest)) (map (slotIn L) (m .pending)) (rep .stands) in
+        let a = all-longer L (f .length) (room .longer) (m .rest) (λ p i. rep .sized .fits p (inl i)) in
+        let b = all-longer L (f .length) (room .longer) (m .pending) (λ p i. rep .sized .fits p (inr i)) in
+        record {
+          sized = record { wider = record { longer = room .most; room = omega (arith, rep .sized .wider .room, room .widens .same-length, c) }; fits = λ p k. let h = rep .sized .fits p k in omega (arith, h, room .longer) };
+          stands =
+              subst (λ (l : List (List ℕ)). Waits f ws₁ (map (slotIn (f .length)) (m .rest)) l) b
+              (subst (λ (l : List (List ℕ)). Waits f ws₁ l (map (padded (f .length)) (map (slotIn L) (m .pending)))) a v);
+          counts = record { stats = rep .counts .stats; kept = rep .counts .kept; fits = rep .counts .fits; room = rep .counts .room; words = rep .counts .words };
+          few = rep .few;
+          replays = rep .replays;
+        }
+
+  -- a path whose edges have room in a slot
+  module _ (q : Path) (good : Replayed g r q) (short : length (q .edges) < s .frontier .length) where
+    in-snoc : (p : Path) → List·Memᴰ p (m .rest) ⊎ List·Memᴰ p (m .pending ++ (q ∷ [])) → Replayed g r p × (length (p .edges) < s .frontier .length)
+    in-snoc p (inl a) = (rep .replays p (inl a), rep .sized .fits p (inl a))
+    in-snoc p (inr a) = ⊎-elim
+        (λ (b : List·Memᴰ p (m .pending)). (rep .replays p (inr b), rep .sized .fits p (inr b)))
+        (λ (b : List·Memᴰ p (q ∷ [])). subst (λ (z : Path). Replayed g r z × (length (z .edges) < s .frontier .length)) (sym (List·Memᴰ·eq-of-singleton b)) (good, short))
+        (List·Memᴰ·append-cases (m .pending) a)
+
+    slot-tells : (a : Pushed) (ws′ : List ℕ) → Pushes (s .frontier) ws (slotIn (s .frontier .length) q) a ws′ → Tells g r (frameOf s) (goingOf (s .state) a) ws′ rs (pushItem (settingOf (frameOf s)) q m)
+    slot-tells a ws′ x = on a refl
+      where
+        on : (p : Pushed) → a ≡ p → Tells g r (frameOf s) (goingOf (s .state) p) ws′ rs (pushItem (settingOf (frameOf s)) q m)
+        on (Pushed.Done f) e =
+            let L = s .frontier .length in
+            let d = stands-done (slotIn L) (settingOf (frameOf s)) Search.NoWaitingSlot (s .frontier) refl ws m q a ws′ x (rep .stands) f e in
+            let h = push-frame (s .frontier) ws (slotIn L q) a ws′ x f e in
+            subst (λ (z : Frontier). Tells g r (frameOf s) (On (withFrontier z s)) ws′ rs (pushItem (settingOf (frameOf s)) q m)) (sym (h .1))
+            (subst (λ (y : Answer SearchRefusal (State Path)). Tells g r (frameOf s) (On (withFrontier (pushed (s .frontier)) s)) ws′ rs y) (sym (d .0)) (
+              refl,
+              record {
+                sized = record { wider = record { longer = rep .sized .wider .longer; room = omega (arith, rep .sized .wider .room, x .same-length) }; fits = λ p k. in-snoc p k .1 };
+                stands = subst (λ (z : Frontier). Stands (slotIn L) z ws′ (withPending q m)) (h .1) (d .1);
+                counts = record { stats = rep .counts .stats; kept = rep .counts .kept; fits = rep .counts .fits; room = rep .counts .room; words = rep .counts .words };
+                few = rep .few;
+                replays = λ p k. in-snoc p k .0;
+              },
+            ))
+        on Pushed.Full e =
+            subst (λ (y : Answer SearchRefusal (State Path)). Tells g r (frameOf s) (Refused Search.NoWaitingSlot) ws′ rs y) (sym (stands-full (slotIn (s .frontier .length)) (settingOf (frameOf s)) Search.NoWaitingSlot (s .frontier) refl ws m q a ws′ x (rep .stands) e)) refl
+
+-- the words of a path can be pushed
+pub rep-pushable : (g : View) (r : ℕ) (s : S.Search) (ws rs : List ℕ) (m : State Path) → Rep g r s ws rs m → (q : Path) → Replayed g r q → (item : List ℕ) → item ≡ slotOf q → Pushable s ws item
+rep-pushable g r s ws rs m rep q good item e =
+    let n = few-edges g r (q .edges) q good in
+    let k = encode-count 128 (q .edges) (omega (arith, n)) in
+    let c : getD item 0 0 ≡ length (q .edges) = ap (λ (l : List ℕ). getD l 0 0) e ∙ k in
+    record { framed = rep .stands .framed; wider = rep .sized .wider; slot = ap length e ∙ length-encode 128 (q .edges); short = omega (arith, c, n) }
+
+-- room is made for the path, then it is pushed
+pub push-tells : (g : View) (r : ℕ) (s : S.Search) (ws rs : List ℕ) (m : State Path) → Rep g r s ws rs m → (q : Path) → Replayed g r q → (a : Going) (ws′ : List ℕ) → Extends s ws (slotOf q) a ws′ → Tells g r (frameOf s) a ws′ rs (pushItem (settingOf (frameOf s)) q m)
+push-tells g r s ws rs m rep q good a ws′ x =
+    let L = x .roomy .length in
+    let words = getD (slotOf q) 0 0 + 1 in
+    let n = few-edges g r (q .edges) q good in
+    let k = encode-count 128 (q .edges) (omega (arith, n)) in
+    let h : length (q .edges) < L = omega (arith, x .makes .enough, k) in
+    let p = subst (λ (w : List ℕ). Pushes (x .roomy) (x .words) w (x .pushed) ws′) (encode-front L 128 (q .edges) h (x .makes .most)) (x .pushes) in
+    let t = slot-tells g r (withFrontier (x .roomy) s) (x .words) rs m (roomy-rep g r s ws rs m rep words (x .roomy) (x .words) (x .makes)) q good h (x .pushed) ws′ p in
+    subst (λ (y : Going). Tells g r (frameOf s) y ws′ rs (pushItem (settingOf (frameOf s)) q m)) (sym (x .is))
+    (subst (λ (z : Frame). Tells g r z (goingOf (s .state) (x .pushed)) ws′ rs (pushItem (settingOf z) q m)) (roomy-frame g r s ws rs m rep words (x .roomy) (x .words) (x .makes)) t)
 
 -- ---- what a caller draws from an answer
 

@@ -5,7 +5,9 @@ use mathlib.Core.Path.{_≡_, refl, sym, ap, subst, _∙_}
 use mathlib.Core.Logic.{_⊎_, inl, inr, ⊎-elim}
 use mathlib.Core.Bool.{Bool, true, false, not}
 use mathlib.Core.List.{List, [], _∷_, map, List·Memᴰ, List·Memᴰ·head, List·Memᴰ·tail, List·Memᴰ·append-cases, List·Memᴰ·not-nil}
+use native.Mathlib.Omega.{arith}
 use lib.Dec.{T, leb, leb→le, nleb→lt}
+use lib.ListN.{length}
 use Rattle.semantics.specs.declared.search.SearchOrder.{SearchOrder}
 use Rattle.semantics.specs.declared.search.SearchOrder.the-variants.{BreadthFirst, DepthFirst}
 use Rattle.semantics.specs.declared.search.SearchStats.{SearchStats}
@@ -14,6 +16,7 @@ use Rattle.semantics.specs.Limits.{below}
 use Rattle.semantics.specs.Graph.{View}
 use Rattle.semantics.specs.Path.{Path}
 use Rattle.semantics.specs.Enumeration.{State, Turn, over, expand, turn, popped, admit, merge, addExpanded, flagCount}
+use Rattle.words.specs.Slots.{padded}
 use Rattle.graph_search.specs.declared.path_frontier.Frontier.{Frontier}
 use Rattle.graph_search.specs.declared.path_frontier.Popped.{Popped}
 use Rattle.graph_search.specs.declared.path_frontier.Popped.the-variants as Popped
@@ -28,7 +31,9 @@ use Rattle.search_state.specs.declared.search.Taken.{Taken}
 use Rattle.search_state.specs.declared.search.Taken.the-variants.{Over, Expand, TooMany}
 use Rattle.search_state.specs.States.{withBudget}
 use Rattle.search_state.specs.Searches.{takenOf, Taking}
-use Rattle.search_state.specs.Reps.{slotOf, Counts, frameOf, settingOf, Replayed, Rep}
+use Rattle.search_state.specs.Items.Laws.{encode-longer}
+use Rattle.search_state.specs.Progresses.{frameOf}
+use Rattle.search_state.specs.Reps.{slotIn, slotOf, Counts, settingOf, Replayed, Rep}
 
 mem-merged : (o : SearchOrder) (xs ys : List Path) (p : Path) → List·Memᴰ p (merged o xs ys) → List·Memᴰ p xs ⊎ List·Memᴰ p ys
 mem-merged BreadthFirst xs ys p h = List·Memᴰ·append-cases xs h
@@ -45,6 +50,7 @@ module _ (g : View) (r : ℕ) (s : S.Search) (ws rs : List ℕ) (m : State Path)
     pub round : roundOf ≡ expand path model
     pub words : item ≡ slotOf path
     pub good : Replayed g r path
+    pub fits : length (path .edges) < n .frontier .length
     pub frame : frameOf n ≡ frameOf s
     pub rep : Rep g r n ws′ rs model
     pub tally : model .tally ≡ m .tally
@@ -89,26 +95,33 @@ module _ (g : View) (r : ℕ) (s : S.Search) (ws rs : List ℕ) (m : State Path)
     is-below : (b : Bool) → expansion (s .state .budget) .allowed ≡ b → below (s .state .budget .expanded) (s .state .budget .maxPaths) ≡ b
     is-below b e = sym (expansion-allowed (s .state .budget)) ∙ e
 
+    its : List·Memᴰ w (m .rest) ⊎ List·Memᴰ w (m .pending)
+    its = mem-merged (s .frontier .order) (m .rest) (m .pending) w (subst (λ (l : List Path). List·Memᴰ w l) (sym first) (List·Memᴰ·head refl))
+
     good-first : Replayed g r w
-    good-first = was .replays w (mem-merged (s .frontier .order) (m .rest) (m .pending) w (subst (λ (l : List Path). List·Memᴰ w l) (sym first) (List·Memᴰ·head refl)))
+    good-first = was .replays w its
 
-    good-others : (p : Path) → List·Memᴰ p us → Replayed g r p
-    good-others p h = was .replays p (mem-merged (s .frontier .order) (m .rest) (m .pending) p (subst (λ (l : List Path). List·Memᴰ p l) (sym first) (List·Memᴰ·tail h)))
+    fits-first : length (w .edges) < s .frontier .length
+    fits-first = was .sized .fits w its
 
-    onward : (f : Frontier) (item ws′ : List ℕ) → f .order ≡ s .frontier .order → f .capacity ≡ s .frontier .capacity → f .length ≡ s .frontier .length → slotOf w ≡ item → Waits f ws′ (map slotOf us) []
+    others : (p : Path) → List·Memᴰ p us → List·Memᴰ p (m .rest) ⊎ List·Memᴰ p (m .pending)
+    others p h = mem-merged (s .frontier .order) (m .rest) (m .pending) p (subst (λ (l : List Path). List·Memᴰ p l) (sym first) (List·Memᴰ·tail h))
+
+    onward : (f : Frontier) (item ws′ : List ℕ) → f .order ≡ s .frontier .order → f .capacity ≡ s .frontier .capacity → f .length ≡ s .frontier .length → length ws′ ≡ length ws → slotOf w ≡ item → Waits f ws′ (map (slotIn (s .frontier .length)) us) []
         → expansion (s .state .budget) .allowed ≡ true → s .state .budget .expanded < 16777216
         → Opened item ws′ (record { frontier = f; state = withBudget (expansion (s .state .budget) .budget) (s .state) })
     unfolding admit expansion
-    onward f item ws′ o c l e v a h = record {
+    onward f item ws′ o c l n e v a h = record {
       path = w;
       model = record { rest = us; pending = []; kept = m .kept; stats = addExpanded (m .stats); tally = m .tally };
       round = asked-is true a;
       words = sym e;
       good = good-first;
+      fits = let h = fits-first in omega (arith, h, l);
       frame = λ i. record { order = o i; limits = expansion-limits (s .state .budget) i; waiting = c i; results = s .state .results };
       rep = record {
-        sized = l ∙ was .sized;
-        stands = v;
+        sized = record { wider = record { longer = omega (arith, l, was .sized .wider .longer); room = omega (arith, c, n, was .sized .wider .room) }; fits = λ p k. let q = was .sized .fits p (only p k) in omega (arith, q, l) };
+        stands = subst (λ (L : ℕ). Waits f ws′ (map (slotIn L) us) []) (sym l) v;
         counts = record {
           stats = expansion-granted (s .state .budget) (s .state .rejected) (s .state .cycles) (is-below true a) ∙ ap addExpanded (was .counts .stats);
           kept = was .counts .kept;
@@ -117,15 +130,15 @@ module _ (g : View) (r : ℕ) (s : S.Search) (ws rs : List ℕ) (m : State Path)
           words = was .counts .words;
         };
         few = record { complete = was .few .complete; rejected = was .few .rejected; cycles = was .few .cycles };
-        replays = λ p k. ⊎-elim (λ (x : List·Memᴰ p us). good-others p x) (λ (x : List·Memᴰ p []). absurd (not-nil x)) k;
+        replays = λ p k. was .replays p (only p k);
       };
       tally = refl;
       expanded = ap (λ (t : SearchStats). t .expanded) (expansion-granted (s .state .budget) 0 0 (is-below true a));
       before = h;
     }
       where
-        not-nil : {p : Path} → List·Memᴰ p [] → ⊥
-        not-nil h = List·Memᴰ·not-nil h
+        only : (p : Path) → List·Memᴰ p us ⊎ List·Memᴰ p [] → List·Memᴰ p (m .rest) ⊎ List·Memᴰ p (m .pending)
+        only p k = ⊎-elim (λ (x : List·Memᴰ p us). others p x) (λ (x : List·Memᴰ p []). absurd (List·Memᴰ·not-nil x)) k
 
     ended : expansion (s .state .budget) .allowed ≡ false → Ended (withBudget (expansion (s .state .budget) .budget) (s .state))
     unfolding admit
@@ -152,24 +165,28 @@ module _ (g : View) (r : ℕ) (s : S.Search) (ws rs : List ℕ) (m : State Path)
       on : (p : Popped) → x .popped ≡ p → Rounds (takenOf (s .state) p) item ws′
       on Popped.Empty e = record {
         model = opened;
-        round = ap (turn (settingOf (frameOf s))) (merge-is (s .frontier .order) m) ∙ ap (popped (settingOf (frameOf s)) opened) (ap (λ (u : State Path). u .rest) (sym (merge-is (s .frontier .order) m)) ∙ stands-empty slotOf (s .frontier) ws m (x .popped) item ws′ (x .pops) (was .stands) e);
+        round = ap (turn (settingOf (frameOf s))) (merge-is (s .frontier .order) m) ∙ ap (popped (settingOf (frameOf s)) opened) (ap (λ (u : State Path). u .rest) (sym (merge-is (s .frontier .order) m)) ∙ stands-empty (slotIn (s .frontier .length)) (s .frontier) ws m (x .popped) (x .pops .words) ws′ (x .pops .pops) (was .stands) e);
         counts = record { stats = was .counts .stats; kept = was .counts .kept; fits = was .counts .fits; room = was .counts .room; words = was .counts .words };
       }
       on (Popped.Item f) e = told (expansion (s .state .budget) .allowed) (leb 16777216 (s .state .budget .expanded)) refl refl
         where
+          -- the popped slot with zeros behind
+          whole : (w : Path) (us : List Path) → merge (s .frontier .order) m .rest ≡ w ∷ us → slotIn (s .frontier .length) w ≡ x .pops .words → slotOf w ≡ item
+          whole w us t i = sym (encode-longer (s .frontier .length) 128 (w .edges) (fits-first w us t) (was .sized .wider .longer)) ∙ ap (padded 128) i ∙ sym (x .pops .laid)
+
           told : (b d : Bool) → expansion (s .state .budget) .allowed ≡ b → leb 16777216 (s .state .budget .expanded) ≡ d
               → Rounds (pick b (pick d TooMany (Expand (record { frontier = f; state = withBudget (expansion (s .state .budget) .budget) (s .state) }))) (Over (withBudget (expansion (s .state .budget) .budget) (s .state)))) item ws′
           told b d a h =
-              let v = stands-item slotOf (s .frontier) ws m (x .popped) item ws′ (x .pops) (was .stands) f e in
-              let k = pop-frame (s .frontier) ws (x .popped) item ws′ (x .pops) f e .0 .kept in
+              let v = stands-item (slotIn (s .frontier .length)) (s .frontier) ws m (x .popped) (x .pops .words) ws′ (x .pops .pops) (was .stands) f e in
+              let k = pop-frame (s .frontier) ws (x .popped) (x .pops .words) ws′ (x .pops .pops) f e .0 .kept in
               by b d a h (v .0) (v .1) (v .2) (v .3) (v .4) (k .order) (k .capacity) (k .length)
             where
               by : (b d : Bool) → expansion (s .state .budget) .allowed ≡ b → leb 16777216 (s .state .budget .expanded) ≡ d
-                  → (w : Path) (us : List Path) → merge (s .frontier .order) m .rest ≡ w ∷ us → slotOf w ≡ item → Waits f ws′ (map slotOf us) [] → f .order ≡ s .frontier .order → f .capacity ≡ s .frontier .capacity → f .length ≡ s .frontier .length
+                  → (w : Path) (us : List Path) → merge (s .frontier .order) m .rest ≡ w ∷ us → slotIn (s .frontier .length) w ≡ x .pops .words → Waits f ws′ (map (slotIn (s .frontier .length)) us) [] → f .order ≡ s .frontier .order → f .capacity ≡ s .frontier .capacity → f .length ≡ s .frontier .length
                   → Rounds (pick b (pick d TooMany (Expand (record { frontier = f; state = withBudget (expansion (s .state .budget) .budget) (s .state) }))) (Over (withBudget (expansion (s .state .budget) .budget) (s .state)))) item ws′
               by false d a h w us t i v o c l = ended w us t a
               by true true a h w us t i v o c l = exceeded w us t a (leb→le 16777216 (s .state .budget .expanded) (subst T (sym h) tt))
-              by true false a h w us t i v o c l = onward w us t f item ws′ o c l i v a (nleb→lt 16777216 (s .state .budget .expanded) (subst T (sym (ap not h)) tt))
+              by true false a h w us t i v o c l = onward w us t f item ws′ o c l (x .pops .pops .same-length) (whole w us t i) v a (nleb→lt 16777216 (s .state .budget .expanded) (subst T (sym (ap not h)) tt))
 
   -- ---- what a caller draws from the answer
 

@@ -1,10 +1,9 @@
 -- The loop of `retrace`: behind i edges the steps stand for a path from which the others lead on.
 -- Serves document 01, "Answer".
-use Prim.Native.Nat.{ℕ, suc, _+_, _-_, _*_, _<_, _≤_}
+use Prim.Native.Nat.{ℕ, suc, _+_, _*_, _<_, _≤_}
 use native.Mathlib.Omega.{arith}
-use native.Mathlib.Decide.{decLt}
 use native.Mathlib.Numerals.{add-one}
-use mathlib.Core.Path.{_≡_, refl, sym, ap, ap₂, subst, _∙_}
+use mathlib.Core.Path.{_≡_, refl, sym, ap, subst, _∙_}
 use mathlib.Core.Bool.{Bool, true, false}
 use mathlib.Core.List.{List, [], _∷_, _++_}
 use borrow.Author.Tests.{ltb-true, ltb-false}
@@ -20,19 +19,19 @@ use Rattle.semantics.specs.Answer.Laws.{ok-inj, ok-refuse, andThen-ok}
 use Rattle.semantics.specs.Graph.{Graph, View, viewOf}
 use Rattle.semantics.specs.Path.{Path, append, appendAll, appendUnder}
 use Rattle.semantics.specs.Path.Laws.{appendUnder-ok, appendAll-append, appendAll-edges}
-use Rattle.storage.specs.Rows.{BLOCK, nodeRow, edgeRow, targetRow, isPlain, Loaded}
+use Rattle.storage.specs.Rows.{BLOCK, nodeRow, edgeRow, targetRow, Loaded}
 use Rattle.storage.specs.Rows.Laws.{target-row, edge-inside, node-inside}
 use Rattle.stepping.specs.declared.step.Step.{Step}
 use Rattle.stepping.specs.declared.step.Effect.{Effect}
 use Rattle.stepping.specs.declared.step.Effect.the-variants.{Done, Refused}
-use Rattle.stepping.specs.Steps.{plainStep, Low, stacksOf}
-use Rattle.stepping.specs.Steps.Laws.{scopes-kept, symbols-kept, plain-remade}
-use Rattle.stepping.specs.StepWords.{stepAt, makerIn, withStep}
+use Rattle.stepping.specs.Steps.{Low, stacksOf}
+use Rattle.stepping.specs.Steps.Laws.{scopes-kept, symbols-kept}
+use Rattle.stepping.specs.StepWords.{stepAt, withStep}
 use Rattle.stepping.specs.StepWords.Laws.{step-same, step-other}
-use Rattle.stepping.specs.Judged.{Ready, Stepped, judgedOf, remadeIn}
+use Rattle.stepping.specs.Judged.{Ready, Stepped, Behind, judgedOf, remadeBehind, remadeIn}
 use Rattle.stepping.specs.Judged.Laws.{Grown, judged-done, judged-refused, Made, judged-made}
 use Rattle.path.specs.Replays.Laws.{nodes-are, edges-are}
-use Rattle.search_state.specs.Retraces.{Laid, Retraces, Retraced, Way, Mid, Midway, Shared}
+use Rattle.search_state.specs.Retraces.{Laid, Retraces, Retraced, Way, Mid, Shared}
 
 -- ---- steps below a new one stay
 
@@ -134,10 +133,6 @@ mid-start index ws edges n t c h =
       onward = append-split (viewOf (t .graph)) (take c edges) (drop c edges) (t .first) (u .0) (t .path) (subst (λ (x : List ℕ). appendAll base (viewOf (t .graph)) (t .first) x ≡ ok (t .path)) (sym (take-append-drop c edges)) (t .appended)) d;
     }
 
--- on the way, with the room that there was
-abbrev pub midway-of : (index ws₀ edges : List ℕ) (n : ℕ) (t : Retraces index ws₀ edges n) (ws : List ℕ) (i : ℕ) → Mid index edges (way-of index ws₀ edges n t) ws i → i ≤ length edges → length ws ≡ length ws₀ → Midway index ws edges i
-midway-of index ws₀ edges n t ws i mid h e = record { way = way-of index ws₀ edges n t; mid = mid; inside = h; room = omega (arith, t .room, e) }
-
 pub mid-end : (index ws₀ edges : List ℕ) (n : ℕ) (t : Retraces index ws₀ edges n) (ws : List ℕ) (i : ℕ) → Mid index edges (way-of index ws₀ edges n t) ws i → i ≤ length edges → length edges ≤ i → Retraced index ws₀ edges n t ws
 unfolding appendAll way-of
 mid-end index ws₀ edges n t ws i mid a b =
@@ -149,14 +144,6 @@ mid-end index ws₀ edges n t ws i mid a b =
       laid = subst (λ (k : ℕ). Laid (viewOf (t .graph)) (t .first) ws k) m (mid .laid);
     }
 
--- a round ends closer to the last edge
-pub closer : (n i j r : ℕ) → i < n → i ≤ j → j ≤ n → j ≤ r → (j < n → j < r) → n - r < n - i
-closer n i j r a b c d f = on (decLt j n)
-  where
-    on : Dec (j < n) → n - r < n - i
-    on (yes h) = let k = f h in omega (arith, k)
-    on (no h) = omega arith
-
 -- ---- one edge more
 module _ (index edges : List ℕ) (w : Way index edges) (ws : List ℕ) (i : ℕ) (mid : Mid index edges w ws i) (room : 8 * length edges + 8 ≤ length ws) (h : i < length edges) where
   abbrev edge : ℕ
@@ -165,11 +152,16 @@ module _ (index edges : List ℕ) (w : Way index edges) (ws : List ℕ) (i : ℕ
   abbrev view : View
   view = viewOf (w .graph)
 
-  pub mid-ready : Ready ws i
-  mid-ready = ready-of ws i (mid .path) (mid .stepped) (omega (arith, h, w .few)) (omega (arith, h, room))
-
-  pub mid-room : 8 * (i + 1) + 8 ≤ length ws
+  mid-room : 8 * (i + 1) + 8 ≤ length ws
   mid-room = omega (arith, h, room)
+
+  -- its step can be made behind the last one
+  pub mid-behind : (last : Step) → last ≡ stepAt ws i → Behind ws last (i + 1)
+  mid-behind last is =
+      let low = mid .stepped .low i (omega arith) in
+      let a = ap (λ (s : Step). s .symbols) is in
+      let b = ap (λ (s : Step). s .scopes) is in
+      record { few = omega (arith, h, w .few); room = mid-room; symbols = omega (arith, a, low .symbols, h, room); scopes = omega (arith, b, low .scopes, h, room) }
 
   -- it leads to the next path
   parts : (q : Path) × (appendUnder base view (mid .path) edge ≡ ok q) × (append view (mid .path) edge ≡ ok q) × (appendAll base view q (drop (i + 1) edges) ≡ ok (w .path))
@@ -209,12 +201,14 @@ module _ (index edges : List ℕ) (w : Way index edges) (ws : List ℕ) (i : ℕ
   pub mid-node : BLOCK * targetRow index edge < length index
   mid-node = node-inside index (targetRow index edge) (λ e. made .there (ap (nodeRow index) (sym leads) ∙ e))
 
-  pub mid-again : (ws′ : List ℕ) → ws′ ≡ withStep ws (i + 1) (remadeIn (nodeRow index) ws i edge (targetRow index edge)) → Mid index edges w ws′ (i + 1)
-  mid-again ws′ e =
+  -- made again behind the last step, it is the next one
+  pub mid-again : (last : Step) → last ≡ stepAt ws i → (r : Step) → r ≡ remadeBehind (nodeRow index) ws last (i + 1) edge (targetRow index edge) → (ws′ : List ℕ) → ws′ ≡ withStep ws (i + 1) r → Mid index edges w ws′ (i + 1)
+  mid-again last was r is ws′ e =
       let q = parts in
       let s = judged .0 in
       let m = effect-done (w .graph) index (w .loaded) ws i (mid .path) (mid .stepped) mid-room edge (Done s) (sym (judged .1)) s refl in
-      let y : ws′ ≡ withStep ws (i + 1) s = e ∙ ap (λ (n : ℕ). withStep ws (i + 1) (remadeIn (nodeRow index) ws i edge n)) leads ∙ ap (withStep ws (i + 1)) (sym (made .step)) in
+      let x : r ≡ s = is ∙ ap (λ (l : Step). remadeBehind (nodeRow index) ws l (i + 1) edge (targetRow index edge)) was ∙ ap (remadeIn (nodeRow index) ws i edge) leads ∙ sym (made .step) in
+      let y : ws′ ≡ withStep ws (i + 1) s = e ∙ ap (withStep ws (i + 1)) x in
       let z : q .0 ≡ m .path = ok-inj (q .0) (m .path) (sym (q .2) ∙ m .appended) in
       let d : appendAll base view (w .first) (m .path .edges) ≡ ok (m .path) = subst (λ (p : Path). appendAll base view (w .first) (p .edges) ≡ ok p) z more-led in
       record {
@@ -226,24 +220,5 @@ module _ (index edges : List ℕ) (w : Way index edges) (ws : List ℕ) (i : ℕ
         onward = subst (λ (p : Path). appendAll base view p (drop (i + 1) edges) ≡ ok (w .path)) z (q .3);
       }
 
--- ---- a run of plain steps, behind which both tops are what they were
-pub record Plain (index edges : List ℕ) (w : Way index edges) (ws : List ℕ) (i symbols scopes : ℕ) : Type 0 where
-  pub mid : Mid index edges w ws i
-  pub symbols-are : stepAt ws i .symbols ≡ symbols
-  pub scopes-are : stepAt ws i .scopes ≡ scopes
-
-pub plain-again : (index edges : List ℕ) (w : Way index edges) (ws : List ℕ) (i symbols scopes : ℕ) → Plain index edges w ws i symbols scopes → 8 * length edges + 8 ≤ length ws → i < length edges
-    → isPlain (nodeRow index (targetRow index (getD edges i 0))) ≡ true → (ws′ : List ℕ) → ws′ ≡ withStep ws (i + 1) (plainStep (getD edges i 0) (targetRow index (getD edges i 0)) symbols scopes)
-    → Plain index edges w ws′ (i + 1) symbols scopes
-plain-again index edges w ws i symbols scopes r room h p ws′ e =
-    let last = stepAt ws i in
-    let t = targetRow index (getD edges i 0) in
-    let s : Step = plainStep (getD edges i 0) t symbols scopes in
-    let a : plainStep (getD edges i 0) t (last .symbols) (last .scopes) ≡ s = ap₂ (plainStep (getD edges i 0) t) (r .symbols-are) (r .scopes-are) in
-    let b = plain-remade (nodeRow index t) t (getD edges i 0) (i + 1) last (makerIn ws (last .symbols)) (makerIn ws (last .scopes)) p in
-    let k : stepAt ws′ (i + 1) ≡ s = ap (λ (l : List ℕ). stepAt l (i + 1)) e ∙ step-same ws (i + 1) s (omega (arith, h, room)) in
-    record {
-      mid = mid-again index edges w ws i (r .mid) room h ws′ (e ∙ ap (withStep ws (i + 1)) (sym (b ∙ a)));
-      symbols-are = ap (λ (x : Step). x .symbols) k;
-      scopes-are = ap (λ (x : Step). x .scopes) k;
-    }
+  pub mid-last : (r : Step) (ws′ : List ℕ) → ws′ ≡ withStep ws (i + 1) r → r ≡ stepAt ws′ (i + 1)
+  mid-last r ws′ e = sym (ap (λ (l : List ℕ). stepAt l (i + 1)) e ∙ step-same ws (i + 1) r mid-room)

@@ -20,7 +20,8 @@ use Rattle.semantics.specs.Answer.{Answer, ok, refuse, andThen}
 use Rattle.semantics.specs.Graph.{nodeId, View, isExported}
 use Rattle.semantics.specs.Path.{Symbol, Stacks, along, jumped, Path, withoutScopes, withScopes, popEqual, popTop, pushAttached, apply, jumpTo, jumpTop, land, extend}
 use Rattle.semantics.specs.Path as Rules
-use Rattle.storage.specs.Rows.{isPlain}
+use Rattle.storage.specs.Rows.{KIND, cell, nodeRow, isPlain}
+use Rattle.storage.specs.Rows.Laws.{by-kind}
 use Rattle.stepping.specs.declared.step.Step.{Step}
 use Rattle.stepping.specs.declared.step.Effect.{Effect}
 use Rattle.stepping.specs.declared.step.Effect.the-variants.{Done, Refused}
@@ -374,3 +375,12 @@ plain-remade (N.Pop f y d) t e k last top over h = absurd (true≢false (sym h))
 plain-remade (N.PushScoped f y a r) t e k last top over h = absurd (true≢false (sym h))
 plain-remade (N.PopScoped f y d) t e k last top over h = absurd (true≢false (sym h))
 plain-remade (N.DropScopes f) t e k last top over h = absurd (true≢false (sym h))
+
+-- a node whose kind is none of those that change a stack does so too
+pub other-remade : (l : List ℕ) (n e k : ℕ) (last top over : Step) → (cell l KIND n ≡ 2 → ⊥) → (cell l KIND n ≡ 4 → ⊥) → (cell l KIND n ≡ 5 → ⊥) → (cell l KIND n ≡ 6 → ⊥) → (cell l KIND n ≡ 7 → ⊥) → (cell l KIND n ≡ 8 → ⊥)
+    → remadeOf (nodeRow l n) n e k last top over ≡ plainStep e n (last .symbols) (last .scopes)
+unfolding remadeOf
+other-remade l n e k last top over =
+    by-kind (λ kind x. (kind ≡ 2 → ⊥) → (kind ≡ 4 → ⊥) → (kind ≡ 5 → ⊥) → (kind ≡ 6 → ⊥) → (kind ≡ 7 → ⊥) → (kind ≡ 8 → ⊥) → remadeOf x n e k last top over ≡ plainStep e n (last .symbols) (last .scopes)) l n
+    (λ _ _ _ _ _ _. refl) (λ _ _ _ _ _ _. refl) (λ no _ _ _ _ _. absurd (no refl)) (λ _ _ _ _ _ _. refl) (λ _ no _ _ _ _. absurd (no refl)) (λ _ _ no _ _ _. absurd (no refl))
+    (λ _ _ _ no _ _. absurd (no refl)) (λ _ _ _ _ no _. absurd (no refl)) (λ _ _ _ _ _ no. absurd (no refl)) (λ _ _ _ _ _ _ _ _. refl)

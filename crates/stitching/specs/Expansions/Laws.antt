@@ -20,9 +20,13 @@ use Rattle.path.specs.Replays.Calls.{from-a-reference, few-edges}
 use Rattle.search_state.specs.declared.search.Search as S
 use Rattle.search_state.specs.declared.search.Going.{Going}
 use Rattle.search_state.specs.declared.search.Going.the-variants.{On, Refused}
+use Rattle.search_state.specs.declared.state.SearchState.{SearchState}
 use Rattle.search_state.specs.States.{cutOne, rejectedOne, overlongBy}
-use Rattle.search_state.specs.Searches.{withState}
-use Rattle.search_state.specs.Reps.{slotOf, frameOf, settingOf, Replayed, Tells}
+use Rattle.search_state.specs.Items.{Clear}
+use Rattle.search_state.specs.Searches.{withState, Clears}
+use Rattle.search_state.specs.Progresses.{frameOf}
+use Rattle.search_state.specs.Reps.{slotOf, settingOf, Replayed, Tells}
+use Rattle.search_state.specs.Reps.Laws.{rep-pushable}
 use Rattle.search_state.specs.Extensions.{Extendable, ExtendsTo}
 use Rattle.database.specs.Records.{edgeWords}
 use Rattle.database.specs.Records.Laws.{length-edges}
@@ -30,7 +34,7 @@ use Rattle.stitching_trial.specs.declared.trial.Trial.{Trial}
 use Rattle.stitching_trial.specs.declared.trial.Trial.the-variants as Trial
 use Rattle.stitching_trial.specs.Items.{grown-front}
 use Rattle.stitching_trial.specs.Links.{Tryable}
-use Rattle.stitching_trial.specs.Looks.{cycles-few, rejected-few, complete-few, look-cut, look-rejected, look-overlong, look-stopped, look-extended}
+use Rattle.stitching_trial.specs.Looks.{cycles-few, rejected-few, complete-few, look-cut, look-rejected, look-overlong, look-stopped, look-extended, look-clears}
 use Rattle.stitching_trial.specs.Trials.{KeptTo, Judged, Judging, JudgedAs}
 use Rattle.stitching.specs.Expansions.{Given, tryOf, Tried}
 
@@ -98,24 +102,28 @@ module _ (most : ℕ) (index steps item : List ℕ) (k : ℕ) (s : S.Search) (ws
       unfolding given-judging
       kept-steps = subst (λ (n : ℕ). KeptTo n steps steps′) (given-count l lent) (j .kept)
 
+      -- the item and the words of a slot stay as they are
+      still-clear : (w : S.Search) (st : SearchState) → w ≡ withState st s → Clears (On w) item
+      still-clear w st q = subst (λ (x : S.Search). Clear (x .frontier .length) item) (sym q) (v .clear)
+
       pub tried-cut : t ≡ Trial.Cut → (w : S.Search) → w ≡ withState (cutOne (s .state)) s → Tried words most index steps item k s ws rs v i (On w) steps′ item ws rs
       unfolding judgeOf
-      tried-cut e w q = record { tells = tells-as (On w) ws rs _ (says Trial.Cut e) (look-cut (viewOf (v .graph)) (v .reference) s ws rs (v .model) (v .rep) w q); held = v .held; kept = kept-steps }
+      tried-cut e w q = record { tells = tells-as (On w) ws rs _ (says Trial.Cut e) (look-cut (viewOf (v .graph)) (v .reference) s ws rs (v .model) (v .rep) w q); held = v .held; clears = still-clear w (cutOne (s .state)) q; kept = kept-steps }
 
       pub tried-rejected : t ≡ Trial.Rejected → (w : S.Search) → w ≡ withState (rejectedOne (s .state)) s → Tried words most index steps item k s ws rs v i (On w) steps′ item ws rs
       unfolding judgeOf
-      tried-rejected e w q = record { tells = tells-as (On w) ws rs _ (says Trial.Rejected e) (look-rejected (viewOf (v .graph)) (v .reference) s ws rs (v .model) (v .rep) w q); held = v .held; kept = kept-steps }
+      tried-rejected e w q = record { tells = tells-as (On w) ws rs _ (says Trial.Rejected e) (look-rejected (viewOf (v .graph)) (v .reference) s ws rs (v .model) (v .rep) w q); held = v .held; clears = still-clear w (rejectedOne (s .state)) q; kept = kept-steps }
 
       pub tried-overlong : t ≡ Trial.Overlong → (w : S.Search) → w ≡ withState (overlongBy (k + length es) (s .state)) s → Tried words most index steps item k s ws rs v i (On w) steps′ item ws rs
       unfolding judgeOf
       tried-overlong e w q =
           let o = says Trial.Overlong e in
           let h : within (k + length es) (s .state .budget .maxLength) ≡ false = ap (λ (n : ℕ). within (n + length es) (s .state .budget .maxLength)) (sym (v .count)) ∙ o .1 in
-          record { tells = tells-as (On w) ws rs _ (o .0) (look-overlong (viewOf (v .graph)) (v .reference) s ws rs (v .model) (v .rep) (k + length es) h w q); held = v .held; kept = kept-steps }
+          record { tells = tells-as (On w) ws rs _ (o .0) (look-overlong (viewOf (v .graph)) (v .reference) s ws rs (v .model) (v .rep) (k + length es) h w q); held = v .held; clears = still-clear w (overlongBy (k + length es) (s .state)) q; kept = kept-steps }
 
       pub tried-stopped : (x : SearchRefusal) → t ≡ Trial.Refused x → Tried words most index steps item k s ws rs v i (Refused x) steps′ item ws rs
       unfolding judgeOf
-      tried-stopped x e = record { tells = tells-as (Refused x) ws rs _ (says (Trial.Refused x) e) (look-stopped (viewOf (v .graph)) (v .reference) s ws rs (v .model) (v .rep) x); held = v .held; kept = kept-steps }
+      tried-stopped x e = record { tells = tells-as (Refused x) ws rs _ (says (Trial.Refused x) e) (look-stopped (viewOf (v .graph)) (v .reference) s ws rs (v .model) (v .rep) x); held = v .held; clears = tt; kept = kept-steps }
 
       -- ---- the path with the edges behind its own
       module _ (b : Bool) (e : t ≡ Trial.Extended b) where
@@ -138,11 +146,9 @@ module _ (most : ℕ) (index steps item : List ℕ) (k : ℕ) (s : S.Search) (ws
               subst (λ (l : List ℕ). replay base (viewOf (v .graph)) (v .reference) l ≡ ok (longer .0)) (sym (appendAll-edges base (viewOf (v .graph)) es (v .path) (longer .0) (longer .2)))
               (replay-append base (viewOf (v .graph)) (v .reference) (v .path .edges) es (v .path) (longer .0) (v .good) (longer .2))
 
-          pub extended-given : most + 1 < 2 ^ 64 → length item′ ≡ length item → Extendable s ws rs item′
-          extended-given h n = record {
-            framed = v .rep .stands .framed;
-            slot = n ∙ v .slot;
-            sized = v .rep .sized;
+          pub extended-given : most + 1 < 2 ^ 64 → Extendable s ws rs item′
+          extended-given h = record {
+            pushable = rep-pushable (viewOf (v .graph)) (v .reference) s ws rs (v .model) (v .rep) (longer .0) good-longer item′ slot-is;
             fits = v .rep .counts .fits;
             room = v .rep .counts .room;
             few = let c = complete-few (viewOf (v .graph)) (v .reference) s ws rs (v .model) (v .rep) in omega (arith, c, h, v .small);
@@ -153,5 +159,6 @@ module _ (most : ℕ) (index steps item : List ℕ) (k : ℕ) (s : S.Search) (ws
           tried-extended a ws′ rs′ x = record {
             tells = tells-as a ws′ rs′ _ (longer .1) (look-extended (viewOf (v .graph)) (v .reference) s ws rs (v .model) (v .rep) b (longer .0) good-longer item′ slot-is a ws′ rs′ x);
             held = ap (λ (y : List ℕ). take k (drop 1 y)) words-are ∙ grown-front 127 (v .path .edges) es k (v .count) extended-short;
+            clears = look-clears (viewOf (v .graph)) (v .reference) s ws rs (v .model) (v .rep) b (longer .0) good-longer item′ slot-is a ws′ rs′ x;
             kept = kept-steps;
           }

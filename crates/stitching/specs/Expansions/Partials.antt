@@ -18,13 +18,17 @@ use Rattle.stepping.specs.StepWords.{stepAt}
 use Rattle.search_state.specs.declared.search.Search as S
 use Rattle.search_state.specs.declared.search.Going.{Going}
 use Rattle.search_state.specs.declared.search.Going.the-variants.{On, Refused}
-use Rattle.search_state.specs.Reps.{Frame, frameOf, settingOf, Rep, Tells}
+use Rattle.search_state.specs.declared.progress.Frame.{Frame}
+use Rattle.search_state.specs.Progresses.{frameOf}
+use Rattle.search_state.specs.Reps.{settingOf, Rep, Tells}
 use Rattle.search_state.specs.Reps.Laws.{tells-on, tells-refused}
 use Rattle.database.specs.Records.{edgeWords}
 use Rattle.database.specs.Records.Laws.{count-slots}
 use Rattle.stitching_trial.specs.Links.{RECORDS, firstLink, nextLink, Passes, startingAt, Linked, Tryable, Each}
 use Rattle.stitching_trial.specs.Links.Laws.{readable-used, starting-length, starting-tryable, tries-are, passes-end, passes-next, left, left-less}
 use Rattle.stitching_trial.specs.Trials.{KeptTo}
+use Rattle.search_state.specs.Items.{Clear}
+use Rattle.search_state.specs.Searches.{Clears}
 use Rattle.search_state.specs.Runs.{each-one, each-stop}
 use Rattle.stitching.specs.Requests.{triesIn}
 use Rattle.stitching.specs.Expansions.{Given, Tried, Expanded}
@@ -43,6 +47,7 @@ module _ (words links : List ℕ) (linked : Linked words links) (most : ℕ) (in
     pub frame : frameOf on ≡ frameOf s
     pub stood : Rep (viewOf (v .graph)) (v .reference) on ws rs state
     pub held : take k (drop 1 item) ≡ v .path .edges
+    pub clear : Clear (on .frontier .length) item
     pub kept : KeptTo k steps₀ steps
     pub rest : List ℕ
     pub passes : Passes links link rest
@@ -61,6 +66,7 @@ module _ (words links : List ℕ) (linked : Linked words links) (most : ℕ) (in
         frame = refl;
         stood = v .rep;
         held = v .held;
+        clear = v .clear;
         kept = λ j p l t. t;
         rest = is;
         passes = subst (λ (x : ℕ). Passes links x is) (sym (q ∙ ap (firstLink links) (e ∙ v .stepped .end))) (linked .passes (v .path .end));
@@ -83,6 +89,7 @@ module _ (words links : List ℕ) (linked : Linked words links) (most : ℕ) (in
       long = omega (arith, long, v .long);
       slot = slot ∙ v .slot;
       held = mid .held;
+      clear = mid .clear;
       good = v .good;
       model = mid .state;
       rep = mid .stood;
@@ -116,6 +123,7 @@ module _ (words links : List ℕ) (linked : Linked words links) (most : ℕ) (in
             frame = u .2;
             stood = u .3;
             held = t .held;
+            clear = subst (λ (z : Going). Clears z item′) e (t .clears);
             kept = kept-on;
             rest = r .0;
             passes = subst (λ (x : ℕ). Passes links x (r .0)) (sym q) (r .2);

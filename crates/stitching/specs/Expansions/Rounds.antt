@@ -19,7 +19,7 @@ use Rattle.database.specs.Records.Laws.{count-slots}
 use Rattle.stitching_trial.specs.Links.{RECORDS, startingAt, Readable}
 use Rattle.stitching_trial.specs.Links.Laws.{readable-used, starting-length, tries-are}
 use Rattle.rounds.specs.Drives.{Rounding, Rounded}
-use Rattle.rounds.specs.Drives.Laws.{round-long, round-count, round-held, round-traced}
+use Rattle.rounds.specs.Drives.Laws.{round-long, round-clear, round-count, round-held, round-traced}
 use Rattle.stitching.specs.Requests.{triesIn}
 use Rattle.stitching.specs.Expansions.{Given, Expanded}
 
@@ -46,6 +46,7 @@ module _ (words : List ℕ) (most : ℕ) (index steps item : List ℕ) (n : ℕ)
     long = omega (arith, long, v .long);
     slot = round-long most index steps item n s ws rs v;
     held = round-held most index steps item n s ws rs v k at;
+    clear = round-clear most index steps item n s ws rs v;
     good = v .good;
     model = v .model;
     rep = v .rep;

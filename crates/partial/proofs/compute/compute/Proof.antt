@@ -2,7 +2,8 @@
 use Prim.Native.Nat.{ℕ, _/_}
 use mathlib.Core.Path.{ap, _∙_}
 use lib.ListN.{length, replicate, length-replicate}
-use Rattle.partial_state.specs.Extractions.{shortSlot, at, goingAt}
+use Rattle.graph_search.specs.Frontier.{shortSlot}
+use Rattle.partial_state.specs.Extractions.{at, goingAt}
 use Rattle.partial_state.specs.Extractions.Laws.{new-is}
 use Rattle.partial.specs.Requests.Laws.{begins, compute-refused, drives, compute-ends}
 use borrow.Author.Needs.{needs}

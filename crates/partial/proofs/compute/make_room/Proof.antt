@@ -3,7 +3,8 @@ use mathlib.Core.Path.{refl}
 use mathlib.Core.Logic.{inl, inr}
 use native.Mathlib.Omega.{arith}
 use Rattle.partial_state.specs.Extractions.{at}
-use Rattle.partial.specs.Rounds.Laws.{rest-back, wider-yet}
+use Rattle.graph_search.specs.Frontier.Widening.{wider-yet}
+use Rattle.search_state.specs.Items.Laws.{rest-back}
 use borrow.Author.Needs.{needs}
 use Rattle.partial.proofs.compute.make_room.Statement.{statement}
 use Rattle.partial.proofs.compute.make_room.Tie as tie
@@ -45,6 +46,9 @@ zero-requires : tie.Need-zero-requires
 zero-requires c κs = search needs
 
 -- src/compute.rt:77:46
+add-longer : tie.Need-add-longer
+add-longer c = search needs
+
 longer-requires : tie.Need-longer-requires
 longer-requires c κs = search needs
 
@@ -54,7 +58,7 @@ widen-requires c κs =
     let a = c .before .before .before .before .before .before .before .before .before .before .before .args in
     let p = c .before .before .before .before .before .before .before .before .before .before .before .pre in
     let n = c .longer .ensures in
-    (p .0, wider-yet (at (a .frame) (a .extraction) .frontier) (a .work .now) (c .longer .result) (n .0) (n .1) (p .1), n .1)
+    (p .0, wider-yet (at (a .frame) (a .extraction) .frontier) (a .work .now) (c .longer .result) 128 (n .0) (n .2) (p .1), n .2)
 
 -- src/compute.rt:77:9
 same-length : tie.Need-same-length
@@ -71,8 +75,8 @@ returns-2 c =
     let n = c .before .before .before .longer .ensures in
     inr (record {
       words = c .before .before .before .longer .result;
-      longer = n .0;
-      most = n .1;
+      longer = omega (arith, n .1);
+      most = n .2;
       grows = c .before .before .widen .ensures;
       rest = rest-back (a .frame .slot) (c .before .before .before .before .before .before .before .zero .last .0) (a .item .now) (c .before .before .before .before .before .before .before .before .before .before .before .before .before .before .pre .2) (omega (arith, c .before .before .before .before .before .before .before .before .before .if2 .taken)) (c .before .before .before .before .before .before .before .zero .ensures);
     })
@@ -94,6 +98,7 @@ make-room-spec =
     part-zero-start
     part-zero-end
     zero-requires
+    add-longer
     longer-requires
     widen-requires
     same-length

@@ -4,7 +4,7 @@ use mathlib.Core.List.{List}
 use Prim.Native.Nat.{ℕ}
 use lib.ListN.{length}
 use Rattle.partial_state.specs.Extractions.{at, takenAt, Taking}
-use Rattle.partial.specs.Rounds.Laws.{front-back}
+use Rattle.search_state.specs.Items.Laws.{front-back}
 use borrow.Author.Needs.{needs}
 use Rattle.partial.proofs.compute.take_front.Statement.{statement}
 use Rattle.partial.proofs.compute.take_front.Tie as tie

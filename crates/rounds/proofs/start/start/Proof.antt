@@ -5,7 +5,7 @@ use mathlib.Core.List.{List}
 use lib.ListN.{length, length-replicate}
 use Rattle.stepping.specs.StepWords.{withStep}
 use Rattle.search_state.specs.States.{newState}
-use Rattle.rounds.specs.Starts.{made-extends, made-framed, begin-refused, begin-started}
+use Rattle.rounds.specs.Starts.{made-extends, made-pushable, begin-refused, begin-started}
 use borrow.Author.Needs.{needs}
 use Rattle.rounds.proofs.start.start.Statement.{statement}
 use Rattle.rounds.proofs.start.start.Tie as tie
@@ -40,7 +40,7 @@ new-requires-2 c κs = search needs
 
 -- src/start.rt:43:13
 push-requires : tie.Need-push-requires
-push-requires c κs = let a = c .before .before .before .before .before .before .before .before .before .before .before .before .before .before .before .before .before .before .before .before .args in let p = c .before .before .before .before .before .before .before .before .before .before .before .before .before .before .before .before .before .before .before .before .pre in made-framed (a .order) (a .limits) (a .work .now) (a .result .now) (c .before .before .new .result) (c .before .new2 .result) (c .before .before .new .ensures) (c .before .new2 .ensures ∙ ap (λ (k : ℕ). newState (a .limits) (k / 128)) (c .before .before .before .before .before .before .before .before .before .before .before .before .before .zero .kept .0)) (a .item .now) (ap length (p .2) ∙ length-replicate {A = ℕ} 128 0)
+push-requires c κs = let a = c .before .before .before .before .before .before .before .before .before .before .before .before .before .before .before .before .before .before .before .before .args in let p = c .before .before .before .before .before .before .before .before .before .before .before .before .before .before .before .before .before .before .before .before .pre in made-pushable (a .order) (a .limits) (a .work .now) (a .result .now) (c .before .before .new .result) (c .before .new2 .result) (c .before .before .new .ensures) (c .before .new2 .ensures ∙ ap (λ (k : ℕ). newState (a .limits) (k / 128)) (c .before .before .before .before .before .before .before .before .before .before .before .before .before .zero .kept .0)) (a .item .now) (p .2)
 
 -- src/start.rt:20:1
 same-length : tie.Need-same-length

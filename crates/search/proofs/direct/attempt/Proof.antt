@@ -1,6 +1,9 @@
-use mathlib.Core.Path.{refl, _∙_}
+use mathlib.Core.Path.{refl, sym, subst, _∙_}
 use lib.ListN.{replicate}
 use Rattle.rounds.specs.declared.driven.Driven.the-variants as Driven
+use Rattle.search_state.specs.declared.search.Search as S
+use Rattle.search_state.specs.Progresses.Laws.{at-is}
+use Rattle.rounds.specs.Drives.{Driving, DrivenTo}
 use Rattle.rounds.specs.Requests.{requestOf}
 use Rattle.rounds.specs.Starts.{started-driving, started-driven, started-refused}
 use Rattle.search.specs.Requests.{edgeTries}
@@ -34,8 +37,14 @@ slice-aggregate-drive-2 : tie.Need-slice-aggregate-drive-2
 slice-aggregate-drive-2 c = search needs
 
 -- src/direct.rt:163:26
+progress-requires : tie.Need-progress-requires
+progress-requires c κs = search needs
+
+frame-requires : tie.Need-frame-requires
+frame-requires c κs = search needs
+
 drive-requires : tie.Need-drive-requires
-drive-requires c κs = let a = c .before .before .before .before .before .before .before .before .before .before .before .before .before .before .before .before .before .before .before .before .args in let p = c .before .before .before .before .before .before .before .before .before .before .before .before .before .before .before .before .before .before .before .before .pre in started-driving edgeTries (a .index .now) (p .graph) (a .order) (a .limits) (a .work .now) (a .result .now) (a .reference) (replicate 128 0) (c .before .before .before .before .before .before .before .before .before .before .before .before .start .result) (c .before .before .before .before .before .before .before .before .before .before .before .before .start .last .1 .1 .1 .1 .0) (c .before .before .before .before .before .before .before .before .before .before .before .before .start .last .1 .1 .1 .1 .1 .1 .0) (c .before .before .before .before .before .before .before .before .before .before .before .before .start .last .1 .1 .1 .1 .1 .1 .1 .0) (c .before .before .before .before .before .before .before .before .before .before .before .before .start .ensures edgeTries (p .graph) (p .loaded)) (c .before .before .before .before .before .on .given .0 .0) (c .before .before .before .before .before .on .given .1)
+drive-requires c κs = let a = c .before .before .before .before .before .before .before .before .before .before .before .before .before .before .before .before .before .before .before .before .before .before .args in let p = c .before .before .before .before .before .before .before .before .before .before .before .before .before .before .before .before .before .before .before .before .before .before .pre in subst (λ (z : S.Search). Driving (a .index .now) (c .before .before .before .before .before .before .before .before .before .before .before .before .before .before .start .last .1 .1 .1 .1 .0) (replicate 128 0) z (c .before .before .before .before .before .before .before .before .before .before .before .before .before .before .start .last .1 .1 .1 .1 .1 .1 .0) (c .before .before .before .before .before .before .before .before .before .before .before .before .before .before .start .last .1 .1 .1 .1 .1 .1 .1 .0)) (sym (at-is (c .frame .result) (c .before .before .before .progress .result) (c .before .before .before .before .before .before .before .on .given .0 .0) (c .frame .ensures) (c .before .before .before .progress .ensures))) (started-driving edgeTries (a .index .now) (p .graph) (a .order) (a .limits) (a .work .now) (a .result .now) (a .reference) (replicate 128 0) (c .before .before .before .before .before .before .before .before .before .before .before .before .before .before .start .result) (c .before .before .before .before .before .before .before .before .before .before .before .before .before .before .start .last .1 .1 .1 .1 .0) (c .before .before .before .before .before .before .before .before .before .before .before .before .before .before .start .last .1 .1 .1 .1 .1 .1 .0) (c .before .before .before .before .before .before .before .before .before .before .before .before .before .before .start .last .1 .1 .1 .1 .1 .1 .1 .0) (c .before .before .before .before .before .before .before .before .before .before .before .before .before .before .start .ensures edgeTries (p .graph) (p .loaded)) (c .before .before .before .before .before .before .before .on .given .0 .0) (c .before .before .before .before .before .before .before .on .given .1))
 
 -- src/direct.rt:164:24
 enum-known-r : tie.Need-enum-known-r
@@ -43,15 +52,15 @@ enum-known-r c = search needs
 
 -- src/direct.rt:149:1
 same-length : tie.Need-same-length
-same-length c = c .before .before .before .before .before .before .drive .kept .1 .1 .1 .1 .0 ∙ c .before .before .before .before .before .before .before .before .before .before .before .before .before .before .before .before .before .before .before .start .kept .1 .1 .1 .1 .1 .1 .0
+same-length c = c .before .before .before .before .before .before .drive .kept .1 .1 .1 .1 .0 ∙ c .before .before .before .before .before .before .before .before .before .before .before .before .before .before .before .before .before .before .before .before .before .start .kept .1 .1 .1 .1 .1 .1 .0
 
 -- src/direct.rt:149:1
 same-length-2 : tie.Need-same-length-2
-same-length-2 c = c .before .before .before .before .before .before .drive .kept .1 .1 .1 .1 .1 .0 ∙ c .before .before .before .before .before .before .before .before .before .before .before .before .before .before .before .before .before .before .before .start .kept .1 .1 .1 .1 .1 .1 .1 .0
+same-length-2 c = c .before .before .before .before .before .before .drive .kept .1 .1 .1 .1 .1 .0 ∙ c .before .before .before .before .before .before .before .before .before .before .before .before .before .before .before .before .before .before .before .before .before .start .kept .1 .1 .1 .1 .1 .1 .1 .0
 
 -- src/direct.rt:149:1
 returns : tie.Need-returns
-returns c = let a = c .before .before .before .before .before .before .before .before .before .before .before .before .before .before .before .before .before .before .before .before .before .before .before .before .before .before .before .args in λ g l. direct-ends g (requestOf (a .order) (a .limits) (a .work .now) (a .result .now) (a .reference)) (c .before .before .before .before .before .before .drive .result) (c .before .before .before .before .before .before .drive .last .1 .1 .1 .1 .1 .0) (started-driven edgeTries (a .index .now) g (a .order) (a .limits) (a .work .now) (a .result .now) (a .reference) (replicate 128 0) (c .before .before .before .before .before .before .before .before .before .before .before .before .before .before .before .before .before .before .before .start .result) (c .before .before .before .before .before .before .before .before .before .before .before .before .before .before .before .before .before .before .before .start .last .1 .1 .1 .1 .0) (c .before .before .before .before .before .before .before .before .before .before .before .before .before .before .before .before .before .before .before .start .last .1 .1 .1 .1 .1 .1 .0) (c .before .before .before .before .before .before .before .before .before .before .before .before .before .before .before .before .before .before .before .start .last .1 .1 .1 .1 .1 .1 .1 .0) (c .before .before .before .before .before .before .before .before .before .before .before .before .before .before .before .before .before .before .before .start .ensures edgeTries g l) (c .before .before .before .before .before .before .before .before .before .before .before .before .on .given .0 .0) (c .before .before .before .before .before .before .before .before .before .before .before .before .on .given .1) (c .before .before .before .before .before .before .drive .result) (c .before .before .before .before .before .before .drive .last .1 .1 .1 .1 .1 .0) (c .before .before .before .before .before .before .drive .ensures (started-driving edgeTries (a .index .now) g (a .order) (a .limits) (a .work .now) (a .result .now) (a .reference) (replicate 128 0) (c .before .before .before .before .before .before .before .before .before .before .before .before .before .before .before .before .before .before .before .start .result) (c .before .before .before .before .before .before .before .before .before .before .before .before .before .before .before .before .before .before .before .start .last .1 .1 .1 .1 .0) (c .before .before .before .before .before .before .before .before .before .before .before .before .before .before .before .before .before .before .before .start .last .1 .1 .1 .1 .1 .1 .0) (c .before .before .before .before .before .before .before .before .before .before .before .before .before .before .before .before .before .before .before .start .last .1 .1 .1 .1 .1 .1 .1 .0) (c .before .before .before .before .before .before .before .before .before .before .before .before .before .before .before .before .before .before .before .start .ensures edgeTries g l) (c .before .before .before .before .before .before .before .before .before .before .before .before .on .given .0 .0) (c .before .before .before .before .before .before .before .before .before .before .before .before .on .given .1))))
+returns c = let a = c .before .before .before .before .before .before .before .before .before .before .before .before .before .before .before .before .before .before .before .before .before .before .before .before .before .before .before .before .before .args in λ g l. direct-ends g (requestOf (a .order) (a .limits) (a .work .now) (a .result .now) (a .reference)) (c .before .before .before .before .before .before .drive .result) (c .before .before .before .before .before .before .drive .last .1 .1 .1 .1 .1 .0) (started-driven edgeTries (a .index .now) g (a .order) (a .limits) (a .work .now) (a .result .now) (a .reference) (replicate 128 0) (c .before .before .before .before .before .before .before .before .before .before .before .before .before .before .before .before .before .before .before .before .before .start .result) (c .before .before .before .before .before .before .before .before .before .before .before .before .before .before .before .before .before .before .before .before .before .start .last .1 .1 .1 .1 .0) (c .before .before .before .before .before .before .before .before .before .before .before .before .before .before .before .before .before .before .before .before .before .start .last .1 .1 .1 .1 .1 .1 .0) (c .before .before .before .before .before .before .before .before .before .before .before .before .before .before .before .before .before .before .before .before .before .start .last .1 .1 .1 .1 .1 .1 .1 .0) (c .before .before .before .before .before .before .before .before .before .before .before .before .before .before .before .before .before .before .before .before .before .start .ensures edgeTries g l) (c .before .before .before .before .before .before .before .before .before .before .before .before .before .before .on .given .0 .0) (c .before .before .before .before .before .before .before .before .before .before .before .before .before .before .on .given .1) (c .before .before .before .before .before .before .drive .result) (c .before .before .before .before .before .before .drive .last .1 .1 .1 .1 .1 .0) (subst (λ (z : S.Search). (v : Driving (a .index .now) (c .before .before .before .before .before .before .before .before .before .before .before .before .before .before .before .before .before .before .before .before .before .start .last .1 .1 .1 .1 .0) (replicate 128 0) z (c .before .before .before .before .before .before .before .before .before .before .before .before .before .before .before .before .before .before .before .before .before .start .last .1 .1 .1 .1 .1 .1 .0) (c .before .before .before .before .before .before .before .before .before .before .before .before .before .before .before .before .before .before .before .before .before .start .last .1 .1 .1 .1 .1 .1 .1 .0)) → DrivenTo edgeTries (a .index .now) (c .before .before .before .before .before .before .before .before .before .before .before .before .before .before .before .before .before .before .before .before .before .start .last .1 .1 .1 .1 .0) (replicate 128 0) z (c .before .before .before .before .before .before .before .before .before .before .before .before .before .before .before .before .before .before .before .before .before .start .last .1 .1 .1 .1 .1 .1 .0) (c .before .before .before .before .before .before .before .before .before .before .before .before .before .before .before .before .before .before .before .before .before .start .last .1 .1 .1 .1 .1 .1 .1 .0) v (c .before .before .before .before .before .before .drive .result) (c .before .before .before .before .before .before .drive .last .1 .1 .1 .1 .1 .0)) (at-is (c .before .before .before .before .before .before .before .frame .result) (c .before .before .before .before .before .before .before .before .before .before .progress .result) (c .before .before .before .before .before .before .before .before .before .before .before .before .before .before .on .given .0 .0) (c .before .before .before .before .before .before .before .frame .ensures) (c .before .before .before .before .before .before .before .before .before .before .progress .ensures)) (c .before .before .before .before .before .before .drive .ensures) (started-driving edgeTries (a .index .now) g (a .order) (a .limits) (a .work .now) (a .result .now) (a .reference) (replicate 128 0) (c .before .before .before .before .before .before .before .before .before .before .before .before .before .before .before .before .before .before .before .before .before .start .result) (c .before .before .before .before .before .before .before .before .before .before .before .before .before .before .before .before .before .before .before .before .before .start .last .1 .1 .1 .1 .0) (c .before .before .before .before .before .before .before .before .before .before .before .before .before .before .before .before .before .before .before .before .before .start .last .1 .1 .1 .1 .1 .1 .0) (c .before .before .before .before .before .before .before .before .before .before .before .before .before .before .before .before .before .before .before .before .before .start .last .1 .1 .1 .1 .1 .1 .1 .0) (c .before .before .before .before .before .before .before .before .before .before .before .before .before .before .before .before .before .before .before .before .before .start .ensures edgeTries g l) (c .before .before .before .before .before .before .before .before .before .before .before .before .before .before .on .given .0 .0) (c .before .before .before .before .before .before .before .before .before .before .before .before .before .before .on .given .1))))
 
 -- src/direct.rt:149:1
 same-length-3 : tie.Need-same-length-3
@@ -75,6 +84,8 @@ attempt-spec =
     enum-known-on
     slice-aggregate-drive
     slice-aggregate-drive-2
+    progress-requires
+    frame-requires
     drive-requires
     enum-known-r
     same-length

@@ -7,32 +7,38 @@ use Rattle.storage.specs.Rows.Use.{left}
 use Rattle.stepping.specs.declared.step.Step.{Step}
 use Rattle.search_state.specs.declared.search.Going.{Going}
 use Rattle.search_state.specs.declared.search.Going.the-variants.{On, Refused}
+use Rattle.search_state.specs.Searches.{Clears}
 use Rattle.search.specs.Expansions.{Given, Expanded}
 use Rattle.search.specs.Expansions.Laws.{given-short}
 use Rattle.search.specs.Expansions.Edges.{Mid, mid-start, mid-end}
 use Rattle.search.specs.Passes.{Turned}
 use Rattle.search.specs.Passes.Laws.{edges-short, passing-of, turning-of, turn-less}
+use Rattle.budget.specs.declared.path_budget.Budget.{Budget}
+use Rattle.search_state.specs.Progresses.{at, courseAt}
 use borrow.Author.Needs.{needs}
 use Rattle.search.proofs.direct.expand.Statement.{statement}
 use Rattle.search.proofs.direct.expand.Tie as tie
 
 abbrev Inv-loop : tie.InvT-loop
-Inv-loop index steps item₀ k work₀ result₀ budget on₀ link₀ item work result on link = (length item ≡ length item₀) × (length work ≡ length work₀) × (length result ≡ length result₀) × (budget .maxLength ≡ on₀ .state .budget .maxLength) × ((v : Given 549755813888 index steps item₀ k on₀ work₀ result₀) → Mid 549755813888 index steps item₀ k on₀ work₀ result₀ v on item work result link)
+Inv-loop index steps item₀ k work₀ result₀ frame budget on₀ link₀ item work result on link = (length item ≡ length item₀) × (length work ≡ length work₀) × (length result ≡ length result₀) × (budget .maxLength ≡ frame .limits .length) × ((v : Given 549755813888 index steps item₀ k (at frame on₀) work₀ result₀) → Mid 549755813888 index steps item₀ k (at frame on₀) work₀ result₀ v (at frame on) item work result link)
 
 abbrev μ-loop : tie.MeasureT-loop
-μ-loop index steps item₀ k work₀ result₀ budget on₀ link₀ item work result on link = left index link
+μ-loop index steps item₀ k work₀ result₀ frame budget on₀ link₀ item work result on link = left index link
+
+budget-requires : tie.Need-budget-requires Inv-loop μ-loop
+budget-requires c κs = search needs
 
 get-step-requires : tie.Need-get-step-requires Inv-loop μ-loop
-get-step-requires c κs = let a = c .before .before .before .before .before .before .before .args in let p = c .before .before .before .before .before .before .before .pre in let h = given-short 549755813888 (a .index .now) (a .steps .now) (a .item .now) (a .k) (a .search) (a .work .now) (a .result .now) p in omega (arith, h, p .long)
+get-step-requires c κs = let a = c .before .before .before .before .before .before .args in let p = c .before .before .before .before .before .before .pre in let h = given-short 549755813888 (a .index .now) (a .steps .now) (a .item .now) (a .k) (at (a .frame) (a .progress)) (a .work .now) (a .result .now) p in omega (arith, h, p .long)
 
 first-requires : tie.Need-first-requires Inv-loop μ-loop
-first-requires c κs = c .before .before .before .before .before .before .before .before .pre .loaded .long
+first-requires c κs = c .before .before .before .before .before .before .before .pre .loaded .long
 
 loop-holds : tie.Need-loop-holds Inv-loop μ-loop
-loop-holds c = let a = c .before .before .before .before .before .before .before .before .before .args in (refl, refl, refl, refl, λ v. mid-start 549755813888 (a .index .now) (a .steps .now) (a .item .now) (a .k) (a .search) (a .work .now) (a .result .now) v (c .before .get-step .result .end) (ap (λ (s : Step). s .end) (c .before .get-step .ensures)) (c .first .result) (c .first .ensures))
+loop-holds c = let a = c .before .before .before .before .before .before .before .before .args in (refl, refl, refl, ap (λ (b : Budget). b .maxLength) (c .before .before .budget .ensures), λ v. mid-start 549755813888 (a .index .now) (a .steps .now) (a .item .now) (a .k) (at (a .frame) (a .progress)) (a .work .now) (a .result .now) v (c .before .get-step .result .end) (ap (λ (s : Step). s .end) (c .before .get-step .ensures)) (c .first .result) (c .first .ensures))
 
 add-pass-over : tie.Need-add-pass-over Inv-loop μ-loop
-add-pass-over c = let a = c .before .before .before .before .before .before .before .before .before .before .before .args in let p = c .before .before .before .before .before .before .before .before .before .before .before .pre in let h = given-short 549755813888 (a .index .now) (a .steps .now) (a .item .now) (a .k) (a .search) (a .work .now) (a .result .now) p in omega (arith, h)
+add-pass-over c = let a = c .before .before .before .before .before .before .before .before .before .before .args in let p = c .before .before .before .before .before .before .before .before .before .before .pre in let h = given-short 549755813888 (a .index .now) (a .steps .now) (a .item .now) (a .k) (at (a .frame) (a .progress)) (a .work .now) (a .result .now) p in omega (arith, h)
 
 sub-pass-over : tie.Need-sub-pass-over Inv-loop μ-loop
 sub-pass-over c = search needs
@@ -41,13 +47,13 @@ part-pass-over-start : tie.Need-part-pass-over-start Inv-loop μ-loop
 part-pass-over-start c = search needs
 
 part-pass-over-end : tie.Need-part-pass-over-end Inv-loop μ-loop
-part-pass-over-end c = let a = c .before .before .before .before .before .before .before .before .before .before .before .before .args in let p = c .before .before .before .before .before .before .before .before .before .before .before .before .pre in let l = c .before .before .loop in let h = given-short 549755813888 (a .index .now) (a .steps .now) (a .item .now) (a .k) (a .search) (a .work .now) (a .result .now) p in omega (arith, h, l .inv .4 p .carried .long)
+part-pass-over-end c = let a = c .before .before .before .before .before .before .before .before .before .before .before .args in let p = c .before .before .before .before .before .before .before .before .before .before .before .pre in let l = c .before .before .loop in let h = given-short 549755813888 (a .index .now) (a .steps .now) (a .item .now) (a .k) (at (a .frame) (a .progress)) (a .work .now) (a .result .now) p in omega (arith, h, l .inv .4 p .carried .long)
 
 pass-over-requires : tie.Need-pass-over-requires Inv-loop μ-loop
-pass-over-requires c κs = let a = c .before .before .before .before .before .before .before .before .before .before .before .before .before .args in let p = c .before .before .before .before .before .before .before .before .before .before .before .before .before .pre in let l = c .before .before .before .loop in passing-of 549755813888 (a .index .now) (a .steps .now) (a .item .now) (a .k) (a .search) (a .work .now) (a .result .now) p (omega arith) (l .on) (l .item) (l .work) (l .result) (l .link) (l .inv .4 p) (a .search .state .budget) (l .inv .3)
+pass-over-requires c κs = let a = c .before .before .before .before .before .before .before .before .before .before .before .before .args in let p = c .before .before .before .before .before .before .before .before .before .before .before .before .pre in let l = c .before .before .before .loop in passing-of 549755813888 (a .index .now) (a .steps .now) (a .item .now) (a .k) (at (a .frame) (a .progress)) (a .work .now) (a .result .now) p (omega arith) (at (a .frame) (l .on)) (l .item) (l .work) (l .result) (l .link) (l .inv .4 p) (c .before .before .before .before .before .before .budget .result) (l .inv .3)
 
 onward-requires : tie.Need-onward-requires Inv-loop μ-loop
-onward-requires c κs = let a = c .before .before .before .before .before .before .before .before .before .before .before .before .before .before .before .before .before .args in let p = c .before .before .before .before .before .before .before .before .before .before .before .before .before .before .before .before .before .pre in let l = c .before .before .before .before .before .before .before .loop in turning-of 549755813888 (a .index .now) (a .steps .now) (a .item .now) (a .k) (a .search) (a .work .now) (a .result .now) p (omega arith) (l .on) (l .item) (l .work) (l .result) (l .link) (l .inv .4 p) (a .search .state .budget) (l .inv .3) (c .before .before .before .pass-over .result) (c .before .before .before .pass-over .ensures (passing-of 549755813888 (a .index .now) (a .steps .now) (a .item .now) (a .k) (a .search) (a .work .now) (a .result .now) p (omega arith) (l .on) (l .item) (l .work) (l .result) (l .link) (l .inv .4 p) (a .search .state .budget) (l .inv .3)))
+onward-requires c κs = let a = c .before .before .before .before .before .before .before .before .before .before .before .before .before .before .before .before .args in let p = c .before .before .before .before .before .before .before .before .before .before .before .before .before .before .before .before .pre in let l = c .before .before .before .before .before .before .before .loop in turning-of 549755813888 (a .index .now) (a .steps .now) (a .item .now) (a .k) (at (a .frame) (a .progress)) (a .work .now) (a .result .now) p (omega arith) (at (a .frame) (l .on)) (l .item) (l .work) (l .result) (l .link) (l .inv .4 p) (c .before .before .before .before .before .before .before .before .before .before .budget .result) (l .inv .3) (c .before .before .before .pass-over .result) (c .before .before .before .pass-over .ensures (passing-of 549755813888 (a .index .now) (a .steps .now) (a .item .now) (a .k) (at (a .frame) (a .progress)) (a .work .now) (a .result .now) p (omega arith) (at (a .frame) (l .on)) (l .item) (l .work) (l .result) (l .link) (l .inv .4 p) (c .before .before .before .before .before .before .before .before .before .before .budget .result) (l .inv .3)))
 
 enum-known-going : tie.Need-enum-known-going Inv-loop μ-loop
 enum-known-going c = search needs
@@ -65,16 +71,16 @@ same-length-3 : tie.Need-same-length-3 Inv-loop μ-loop
 same-length-3 c = c .before .before .before .before .before .before .before .before .onward .kept .1 .1 .1 .1 .1 .0 ∙ c .before .before .before .before .before .before .before .before .before .before .before .before .before .before .before .before .loop .inv .2
 
 returns : tie.Need-returns Inv-loop μ-loop
-returns c = let a = c .before .before .before .before .before .before .before .before .before .before .before .before .before .before .before .before .before .before .before .before .before .before .before .before .before .before .args in let l = c .before .before .before .before .before .before .before .before .before .before .before .before .before .before .before .before .loop in λ v. subst (λ (g : Going). Expanded 549755813888 (a .index .now) (a .steps .now) (a .item .now) (a .k) (a .search) (a .work .now) (a .result .now) v g (c .before .before .before .before .before .before .before .before .onward .last .1 .1 .1 .1 .0) (c .before .before .before .before .before .before .before .before .onward .last .1 .1 .1 .1 .1 .0)) (sym (c .enum-told .given .1)) (subst (λ (g : Going). Turned (c .before .before .before .before .before .before .before .before .before .before .before .before .pass-over .result) (l .item) (a .k) (l .on) (l .work) (l .result) (turning-of 549755813888 (a .index .now) (a .steps .now) (a .item .now) (a .k) (a .search) (a .work .now) (a .result .now) v (omega arith) (l .on) (l .item) (l .work) (l .result) (l .link) (l .inv .4 v) (a .search .state .budget) (l .inv .3) (c .before .before .before .before .before .before .before .before .before .before .before .before .pass-over .result) (c .before .before .before .before .before .before .before .before .before .before .before .before .pass-over .ensures (passing-of 549755813888 (a .index .now) (a .steps .now) (a .item .now) (a .k) (a .search) (a .work .now) (a .result .now) v (omega arith) (l .on) (l .item) (l .work) (l .result) (l .link) (l .inv .4 v) (a .search .state .budget) (l .inv .3)))) g (c .before .before .before .before .before .before .before .before .onward .last .1 .0) (c .before .before .before .before .before .before .before .before .onward .last .1 .1 .1 .1 .0) (c .before .before .before .before .before .before .before .before .onward .last .1 .1 .1 .1 .1 .0)) (c .enum-told .given .1) (c .before .before .before .before .before .before .before .before .onward .ensures (turning-of 549755813888 (a .index .now) (a .steps .now) (a .item .now) (a .k) (a .search) (a .work .now) (a .result .now) v (omega arith) (l .on) (l .item) (l .work) (l .result) (l .link) (l .inv .4 v) (a .search .state .budget) (l .inv .3) (c .before .before .before .before .before .before .before .before .before .before .before .before .pass-over .result) (c .before .before .before .before .before .before .before .before .before .before .before .before .pass-over .ensures (passing-of 549755813888 (a .index .now) (a .steps .now) (a .item .now) (a .k) (a .search) (a .work .now) (a .result .now) v (omega arith) (l .on) (l .item) (l .work) (l .result) (l .link) (l .inv .4 v) (a .search .state .budget) (l .inv .3))))))
+returns c = let a = c .before .before .before .before .before .before .before .before .before .before .before .before .before .before .before .before .before .before .before .before .before .before .before .before .before .args in let l = c .before .before .before .before .before .before .before .before .before .before .before .before .before .before .before .before .loop in (λ v. subst (λ (g : Going). Expanded 549755813888 (a .index .now) (a .steps .now) (a .item .now) (a .k) (at (a .frame) (a .progress)) (a .work .now) (a .result .now) v g (c .before .before .before .before .before .before .before .before .onward .last .1 .1 .1 .1 .0) (c .before .before .before .before .before .before .before .before .onward .last .1 .1 .1 .1 .1 .0)) (sym (ap (courseAt (a .frame)) (c .enum-told .given .1))) (subst (λ (g : Going). Turned (c .before .before .before .before .before .before .before .before .before .before .before .before .pass-over .result) (l .item) (a .k) (at (a .frame) (l .on)) (l .work) (l .result) (turning-of 549755813888 (a .index .now) (a .steps .now) (a .item .now) (a .k) (at (a .frame) (a .progress)) (a .work .now) (a .result .now) v (omega arith) (at (a .frame) (l .on)) (l .item) (l .work) (l .result) (l .link) (l .inv .4 v) (c .before .before .before .before .before .before .before .before .before .before .before .before .before .before .before .before .before .before .before .budget .result) (l .inv .3) (c .before .before .before .before .before .before .before .before .before .before .before .before .pass-over .result) (c .before .before .before .before .before .before .before .before .before .before .before .before .pass-over .ensures (passing-of 549755813888 (a .index .now) (a .steps .now) (a .item .now) (a .k) (at (a .frame) (a .progress)) (a .work .now) (a .result .now) v (omega arith) (at (a .frame) (l .on)) (l .item) (l .work) (l .result) (l .link) (l .inv .4 v) (c .before .before .before .before .before .before .before .before .before .before .before .before .before .before .before .before .before .before .before .budget .result) (l .inv .3)))) g (c .before .before .before .before .before .before .before .before .onward .last .1 .0) (c .before .before .before .before .before .before .before .before .onward .last .1 .1 .1 .1 .0) (c .before .before .before .before .before .before .before .before .onward .last .1 .1 .1 .1 .1 .0)) (ap (courseAt (a .frame)) (c .enum-told .given .1)) (c .before .before .before .before .before .before .before .before .onward .ensures (turning-of 549755813888 (a .index .now) (a .steps .now) (a .item .now) (a .k) (at (a .frame) (a .progress)) (a .work .now) (a .result .now) v (omega arith) (at (a .frame) (l .on)) (l .item) (l .work) (l .result) (l .link) (l .inv .4 v) (c .before .before .before .before .before .before .before .before .before .before .before .before .before .before .before .before .before .before .before .budget .result) (l .inv .3) (c .before .before .before .before .before .before .before .before .before .before .before .before .pass-over .result) (c .before .before .before .before .before .before .before .before .before .before .before .before .pass-over .ensures (passing-of 549755813888 (a .index .now) (a .steps .now) (a .item .now) (a .k) (at (a .frame) (a .progress)) (a .work .now) (a .result .now) v (omega arith) (at (a .frame) (l .on)) (l .item) (l .work) (l .result) (l .link) (l .inv .4 v) (c .before .before .before .before .before .before .before .before .before .before .before .before .before .before .before .before .before .before .before .budget .result) (l .inv .3)))))), λ v. subst (λ (g : Going). Clears g (c .before .before .before .before .before .before .before .before .onward .last .1 .0)) (sym (ap (courseAt (a .frame)) (c .enum-told .given .1))) tt)
 
 beyond-requires : tie.Need-beyond-requires Inv-loop μ-loop
-beyond-requires c κs = c .before .before .before .before .before .before .before .before .before .before .before .before .before .before .before .before .before .before .before .before .before .before .before .before .before .before .before .pre .loaded .long
+beyond-requires c κs = c .before .before .before .before .before .before .before .before .before .before .before .before .before .before .before .before .before .before .before .before .before .before .before .before .before .before .pre .loaded .long
 
 loop-less : tie.Need-loop-less Inv-loop μ-loop
-loop-less c = let a = c .before .before .before .before .before .before .before .before .before .before .before .before .before .before .before .before .before .before .before .before .before .before .before .before .before .before .before .before .args in let p = c .before .before .before .before .before .before .before .before .before .before .before .before .before .before .before .before .before .before .before .before .before .before .before .before .before .before .before .before .pre in let l = c .before .before .before .before .before .before .before .before .before .before .before .before .before .before .before .before .before .before .loop in subst (λ (n : ℕ). left (a .index .now) n < left (a .index .now) (l .link)) (sym (c .beyond .ensures)) (turn-less 549755813888 (a .index .now) (a .steps .now) (a .item .now) (a .k) (a .search) (a .work .now) (a .result .now) p (omega arith) (l .on) (l .item) (l .work) (l .result) (l .link) (l .inv .4 p) (a .search .state .budget) (l .inv .3) (c .before .before .before .before .before .before .before .before .before .before .before .before .before .before .pass-over .result) (c .before .before .before .before .before .before .before .before .before .before .before .before .before .before .pass-over .ensures (passing-of 549755813888 (a .index .now) (a .steps .now) (a .item .now) (a .k) (a .search) (a .work .now) (a .result .now) p (omega arith) (l .on) (l .item) (l .work) (l .result) (l .link) (l .inv .4 p) (a .search .state .budget) (l .inv .3))) (c .before .before .before .before .before .before .before .before .before .before .before .before .before .before .before .before .before .loop-test .taken))
+loop-less c = let a = c .before .before .before .before .before .before .before .before .before .before .before .before .before .before .before .before .before .before .before .before .before .before .before .before .before .before .before .args in let p = c .before .before .before .before .before .before .before .before .before .before .before .before .before .before .before .before .before .before .before .before .before .before .before .before .before .before .before .pre in let l = c .before .before .before .before .before .before .before .before .before .before .before .before .before .before .before .before .before .before .loop in subst (λ (n : ℕ). left (a .index .now) n < left (a .index .now) (l .link)) (sym (c .beyond .ensures)) (turn-less 549755813888 (a .index .now) (a .steps .now) (a .item .now) (a .k) (at (a .frame) (a .progress)) (a .work .now) (a .result .now) p (omega arith) (at (a .frame) (l .on)) (l .item) (l .work) (l .result) (l .link) (l .inv .4 p) (c .before .before .before .before .before .before .before .before .before .before .before .before .before .before .before .before .before .before .before .before .before .budget .result) (l .inv .3) (c .before .before .before .before .before .before .before .before .before .before .before .before .before .before .pass-over .result) (c .before .before .before .before .before .before .before .before .before .before .before .before .before .before .pass-over .ensures (passing-of 549755813888 (a .index .now) (a .steps .now) (a .item .now) (a .k) (at (a .frame) (a .progress)) (a .work .now) (a .result .now) p (omega arith) (at (a .frame) (l .on)) (l .item) (l .work) (l .result) (l .link) (l .inv .4 p) (c .before .before .before .before .before .before .before .before .before .before .before .before .before .before .before .before .before .before .before .before .before .budget .result) (l .inv .3))) (c .before .before .before .before .before .before .before .before .before .before .before .before .before .before .before .before .before .loop-test .taken))
 
 loop-again : tie.Need-loop-again Inv-loop μ-loop
-loop-again c = let a = c .before .before .before .before .before .before .before .before .before .before .before .before .before .before .before .before .before .before .before .before .before .before .before .before .before .before .before .before .args in let l = c .before .before .before .before .before .before .before .before .before .before .before .before .before .before .before .before .before .before .loop in (c .before .before .before .before .before .before .before .before .before .before .onward .kept .1 .0 ∙ l .inv .0, c .before .before .before .before .before .before .before .before .before .before .onward .kept .1 .1 .1 .1 .0 ∙ l .inv .1, c .before .before .before .before .before .before .before .before .before .before .onward .kept .1 .1 .1 .1 .1 .0 ∙ l .inv .2, l .inv .3, λ v. subst (λ (n : ℕ). Mid 549755813888 (a .index .now) (a .steps .now) (a .item .now) (a .k) (a .search) (a .work .now) (a .result .now) v (c .before .before .going .given .0 .0) (c .before .before .before .before .before .before .before .before .before .before .onward .last .1 .0) (c .before .before .before .before .before .before .before .before .before .before .onward .last .1 .1 .1 .1 .0) (c .before .before .before .before .before .before .before .before .before .before .onward .last .1 .1 .1 .1 .1 .0) n) (sym (c .beyond .ensures)) (subst (λ (g : Going). Turned (c .before .before .before .before .before .before .before .before .before .before .before .before .before .before .pass-over .result) (l .item) (a .k) (l .on) (l .work) (l .result) (turning-of 549755813888 (a .index .now) (a .steps .now) (a .item .now) (a .k) (a .search) (a .work .now) (a .result .now) v (omega arith) (l .on) (l .item) (l .work) (l .result) (l .link) (l .inv .4 v) (a .search .state .budget) (l .inv .3) (c .before .before .before .before .before .before .before .before .before .before .before .before .before .before .pass-over .result) (c .before .before .before .before .before .before .before .before .before .before .before .before .before .before .pass-over .ensures (passing-of 549755813888 (a .index .now) (a .steps .now) (a .item .now) (a .k) (a .search) (a .work .now) (a .result .now) v (omega arith) (l .on) (l .item) (l .work) (l .result) (l .link) (l .inv .4 v) (a .search .state .budget) (l .inv .3)))) g (c .before .before .before .before .before .before .before .before .before .before .onward .last .1 .0) (c .before .before .before .before .before .before .before .before .before .before .onward .last .1 .1 .1 .1 .0) (c .before .before .before .before .before .before .before .before .before .before .onward .last .1 .1 .1 .1 .1 .0)) (c .before .before .going .given .1) (c .before .before .before .before .before .before .before .before .before .before .onward .ensures (turning-of 549755813888 (a .index .now) (a .steps .now) (a .item .now) (a .k) (a .search) (a .work .now) (a .result .now) v (omega arith) (l .on) (l .item) (l .work) (l .result) (l .link) (l .inv .4 v) (a .search .state .budget) (l .inv .3) (c .before .before .before .before .before .before .before .before .before .before .before .before .before .before .pass-over .result) (c .before .before .before .before .before .before .before .before .before .before .before .before .before .before .pass-over .ensures (passing-of 549755813888 (a .index .now) (a .steps .now) (a .item .now) (a .k) (a .search) (a .work .now) (a .result .now) v (omega arith) (l .on) (l .item) (l .work) (l .result) (l .link) (l .inv .4 v) (a .search .state .budget) (l .inv .3)))))))
+loop-again c = let a = c .before .before .before .before .before .before .before .before .before .before .before .before .before .before .before .before .before .before .before .before .before .before .before .before .before .before .before .args in let l = c .before .before .before .before .before .before .before .before .before .before .before .before .before .before .before .before .before .before .loop in (c .before .before .before .before .before .before .before .before .before .before .onward .kept .1 .0 ∙ l .inv .0, c .before .before .before .before .before .before .before .before .before .before .onward .kept .1 .1 .1 .1 .0 ∙ l .inv .1, c .before .before .before .before .before .before .before .before .before .before .onward .kept .1 .1 .1 .1 .1 .0 ∙ l .inv .2, l .inv .3, λ v. subst (λ (n : ℕ). Mid 549755813888 (a .index .now) (a .steps .now) (a .item .now) (a .k) (at (a .frame) (a .progress)) (a .work .now) (a .result .now) v (at (a .frame) (c .before .before .going .given .0 .0)) (c .before .before .before .before .before .before .before .before .before .before .onward .last .1 .0) (c .before .before .before .before .before .before .before .before .before .before .onward .last .1 .1 .1 .1 .0) (c .before .before .before .before .before .before .before .before .before .before .onward .last .1 .1 .1 .1 .1 .0) n) (sym (c .beyond .ensures)) (subst (λ (g : Going). Turned (c .before .before .before .before .before .before .before .before .before .before .before .before .before .before .pass-over .result) (l .item) (a .k) (at (a .frame) (l .on)) (l .work) (l .result) (turning-of 549755813888 (a .index .now) (a .steps .now) (a .item .now) (a .k) (at (a .frame) (a .progress)) (a .work .now) (a .result .now) v (omega arith) (at (a .frame) (l .on)) (l .item) (l .work) (l .result) (l .link) (l .inv .4 v) (c .before .before .before .before .before .before .before .before .before .before .before .before .before .before .before .before .before .before .before .before .before .budget .result) (l .inv .3) (c .before .before .before .before .before .before .before .before .before .before .before .before .before .before .pass-over .result) (c .before .before .before .before .before .before .before .before .before .before .before .before .before .before .pass-over .ensures (passing-of 549755813888 (a .index .now) (a .steps .now) (a .item .now) (a .k) (at (a .frame) (a .progress)) (a .work .now) (a .result .now) v (omega arith) (at (a .frame) (l .on)) (l .item) (l .work) (l .result) (l .link) (l .inv .4 v) (c .before .before .before .before .before .before .before .before .before .before .before .before .before .before .before .before .before .before .before .before .before .budget .result) (l .inv .3)))) g (c .before .before .before .before .before .before .before .before .before .before .onward .last .1 .0) (c .before .before .before .before .before .before .before .before .before .before .onward .last .1 .1 .1 .1 .0) (c .before .before .before .before .before .before .before .before .before .before .onward .last .1 .1 .1 .1 .1 .0)) (ap (courseAt (a .frame)) (c .before .before .going .given .1)) (c .before .before .before .before .before .before .before .before .before .before .onward .ensures (turning-of 549755813888 (a .index .now) (a .steps .now) (a .item .now) (a .k) (at (a .frame) (a .progress)) (a .work .now) (a .result .now) v (omega arith) (at (a .frame) (l .on)) (l .item) (l .work) (l .result) (l .link) (l .inv .4 v) (c .before .before .before .before .before .before .before .before .before .before .before .before .before .before .before .before .before .before .before .before .before .budget .result) (l .inv .3) (c .before .before .before .before .before .before .before .before .before .before .before .before .before .before .pass-over .result) (c .before .before .before .before .before .before .before .before .before .before .before .before .before .before .pass-over .ensures (passing-of 549755813888 (a .index .now) (a .steps .now) (a .item .now) (a .k) (at (a .frame) (a .progress)) (a .work .now) (a .result .now) v (omega arith) (at (a .frame) (l .on)) (l .item) (l .work) (l .result) (l .link) (l .inv .4 v) (c .before .before .before .before .before .before .before .before .before .before .before .before .before .before .before .before .before .before .before .before .before .budget .result) (l .inv .3)))))))
 
 same-length-4 : tie.Need-same-length-4 Inv-loop μ-loop
 same-length-4 c = c .before .loop .inv .0
@@ -86,7 +92,7 @@ same-length-6 : tie.Need-same-length-6 Inv-loop μ-loop
 same-length-6 c = c .before .loop .inv .2
 
 returns-2 : tie.Need-returns-2 Inv-loop μ-loop
-returns-2 c = let a = c .before .before .before .before .before .before .before .before .before .before .before .args in let l = c .before .loop in λ v. mid-end 549755813888 (a .index .now) (a .steps .now) (a .item .now) (a .k) (a .search) (a .work .now) (a .result .now) v (l .on) (l .item) (l .work) (l .result) (l .link) (l .inv .4 v) (omega (arith, c .loop-test .left))
+returns-2 c = let a = c .before .before .before .before .before .before .before .before .before .before .args in let l = c .before .loop in (λ v. mid-end 549755813888 (a .index .now) (a .steps .now) (a .item .now) (a .k) (at (a .frame) (a .progress)) (a .work .now) (a .result .now) v (at (a .frame) (l .on)) (l .item) (l .work) (l .result) (l .link) (l .inv .4 v) (omega (arith, c .loop-test .left)), λ v. l .inv .4 v .clear)
 
 pub expand-spec : {M : Type 1} → statement M
 expand-spec =
@@ -94,6 +100,7 @@ expand-spec =
     (tie.spec
     Inv-loop
     μ-loop
+    budget-requires
     get-step-requires
     first-requires
     loop-holds

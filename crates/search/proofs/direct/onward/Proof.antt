@@ -1,12 +1,15 @@
 -- `search::direct::onward`: nothing more, the bound, or the path with one edge more.
+use mathlib.Core.Path.{ap, _∙_}
 use native.Mathlib.Omega.{arith}
 use Rattle.search.specs.Passes.Laws.{turn-cycles, turn-rejected, turned-end, turned-bound, turn-link, turn-short, turn-long, turn-extends, turned-extended}
+use Rattle.search_state.specs.Progresses.{at, courseAt}
+use Rattle.search_state.specs.Progresses.Laws.{at-passed}
 use borrow.Author.Needs.{needs}
 use Rattle.search.proofs.direct.onward.Statement.{statement}
 use Rattle.search.proofs.direct.onward.Tie as tie
 
 passed-by-requires : tie.Need-passed-by-requires
-passed-by-requires c κs = let a = c .before .before .before .args in let p = c .before .before .before .pre in let y = turn-cycles (a .pass) (a .item .now) (a .k) (a .search) (a .work .now) (a .result .now) p in let z = turn-rejected (a .pass) (a .item .now) (a .k) (a .search) (a .work .now) (a .result .now) p in (omega (arith, y), omega (arith, z))
+passed-by-requires c κs = let a = c .before .before .before .args in let p = c .before .before .before .pre in let y = turn-cycles (a .pass) (a .item .now) (a .k) (at (a .frame) (a .progress)) (a .work .now) (a .result .now) p in let z = turn-rejected (a .pass) (a .item .now) (a .k) (at (a .frame) (a .progress)) (a .work .now) (a .result .now) p in (omega (arith, y), omega (arith, z))
 
 enum-told : tie.Need-enum-told
 enum-told c = search needs
@@ -18,19 +21,19 @@ enum-known-led : tie.Need-enum-known-led
 enum-known-led c = search needs
 
 sub-with-edge : tie.Need-sub-with-edge
-sub-with-edge c = let a = c .before .before .before .before .before .before .before .before .before .args in let p = c .before .before .before .before .before .before .before .before .before .pre in let h = turn-link (a .pass) (a .item .now) (a .k) (a .search) (a .work .now) (a .result .now) p (c .before .before .before .led .given .0 .0) (c .before .before .before .led .given .1) in omega (arith, h)
+sub-with-edge c = let a = c .before .before .before .before .before .before .before .before .before .args in let p = c .before .before .before .before .before .before .before .before .before .pre in let h = turn-link (a .pass) (a .item .now) (a .k) (at (a .frame) (a .progress)) (a .work .now) (a .result .now) p (c .before .before .before .led .given .0 .0) (c .before .before .before .led .given .1) in omega (arith, h)
 
 with-edge-requires : tie.Need-with-edge-requires
-with-edge-requires c κs = let a = c .before .before .before .before .before .before .before .before .before .args in let p = c .before .before .before .before .before .before .before .before .before .pre in let h = turn-short (a .pass) (a .item .now) (a .k) (a .search) (a .work .now) (a .result .now) p (c .before .before .before .led .given .0 .0) (c .before .before .before .led .given .1) in let l = turn-long (a .pass) (a .item .now) (a .k) (a .search) (a .work .now) (a .result .now) p (c .before .before .before .led .given .0 .0) (c .before .before .before .led .given .1) in (omega (arith, h, l), omega (arith, l))
+with-edge-requires c κs = let a = c .before .before .before .before .before .before .before .before .before .args in let p = c .before .before .before .before .before .before .before .before .before .pre in let h = turn-short (a .pass) (a .item .now) (a .k) (at (a .frame) (a .progress)) (a .work .now) (a .result .now) p (c .before .before .before .led .given .0 .0) (c .before .before .before .led .given .1) in let l = turn-long (a .pass) (a .item .now) (a .k) (at (a .frame) (a .progress)) (a .work .now) (a .result .now) p (c .before .before .before .led .given .0 .0) (c .before .before .before .led .given .1) in (omega (arith, h, l), omega (arith, l))
 
 extend-requires : tie.Need-extend-requires
-extend-requires c κs = let a = c .before .before .before .before .before .before .before .before .before .before .before .before .before .before .before .args in let p = c .before .before .before .before .before .before .before .before .before .before .before .before .before .before .before .pre in turn-extends (a .pass) (a .item .now) (a .k) (a .search) (a .work .now) (a .result .now) p (c .before .before .before .before .before .before .before .before .before .led .given .0 .0) (c .before .before .before .before .before .before .before .before .before .led .given .1) (c .before .before .before .before .before .with-edge .last .0) (c .before .before .before .before .before .with-edge .kept .0) (c .before .before .before .before .before .before .before .before .before .before .before .passed-by .result) (c .before .before .before .before .before .before .before .before .before .before .before .passed-by .ensures)
+extend-requires c κs = let a = c .before .before .before .before .before .before .before .before .before .before .before .before .before .before .before .args in let p = c .before .before .before .before .before .before .before .before .before .before .before .before .before .before .before .pre in turn-extends (a .pass) (a .item .now) (a .k) (at (a .frame) (a .progress)) (a .work .now) (a .result .now) p (c .before .before .before .before .before .before .before .before .before .led .given .0 .0) (c .before .before .before .before .before .before .before .before .before .led .given .1) (c .before .before .before .before .before .with-edge .last .0) (c .before .before .before .before .before .with-edge .ensures) (at (a .frame) (c .before .before .before .before .before .before .before .before .before .before .before .passed-by .result)) (ap (at (a .frame)) (c .before .before .before .before .before .before .before .before .before .before .before .passed-by .ensures) ∙ at-passed (a .frame) (a .pass .passed) (a .progress))
 
 returns : tie.Need-returns
-returns c = let a = c .before .before .before .before .before .before .args in λ x. turned-end (a .pass) (a .item .now) (a .k) (a .search) (a .work .now) (a .result .now) x (c .enum-told .given .1) (c .before .before .passed-by .result) (c .before .before .passed-by .ensures)
+returns c = let a = c .before .before .before .before .before .before .args in λ x. turned-end (a .pass) (a .item .now) (a .k) (at (a .frame) (a .progress)) (a .work .now) (a .result .now) x (c .enum-told .given .1) (at (a .frame) (c .before .before .passed-by .result)) (ap (at (a .frame)) (c .before .before .passed-by .ensures) ∙ at-passed (a .frame) (a .pass .passed) (a .progress))
 
 returns-2 : tie.Need-returns-2
-returns-2 c = let a = c .before .before .before .before .before .before .args in λ x. turned-bound (a .pass) (a .item .now) (a .k) (a .search) (a .work .now) (a .result .now) x (c .enum-told2 .given .1)
+returns-2 c = let a = c .before .before .before .before .before .before .args in λ x. turned-bound (a .pass) (a .item .now) (a .k) (at (a .frame) (a .progress)) (a .work .now) (a .result .now) x (c .enum-told2 .given .1)
 
 same-length : tie.Need-same-length
 same-length c = search needs
@@ -42,7 +45,7 @@ same-length-3 : tie.Need-same-length-3
 same-length-3 c = search needs
 
 returns-3 : tie.Need-returns-3
-returns-3 c = let a = c .before .before .before .before .before .before .before .before .before .before .before .before .before .before .before .before .before .before .before .before .args in λ x. turned-extended (a .pass) (a .item .now) (a .k) (a .search) (a .work .now) (a .result .now) x (c .before .before .before .before .before .before .before .before .before .before .before .before .before .before .led .given .0 .0) (c .before .before .before .before .before .before .before .before .before .before .before .before .before .before .led .given .1) (c .before .before .before .before .before .before .before .before .before .before .with-edge .last .0) (c .before .before .before .before .before .before .before .before .before .before .with-edge .ensures) (c .before .before .before .before .extend .last .1 .1 .0) (c .before .before .before .before .extend .last .1 .1 .1 .0) (c .before .before .before .before .extend .result) (c .before .before .before .before .before .before .before .before .before .before .before .before .before .before .before .before .passed-by .result) (c .before .before .before .before .before .before .before .before .before .before .before .before .before .before .before .before .passed-by .ensures) (c .before .before .before .before .extend .ensures)
+returns-3 c = let a = c .before .before .before .before .before .before .before .before .before .before .before .before .before .before .before .before .before .before .before .before .args in λ x. turned-extended (a .pass) (a .item .now) (a .k) (at (a .frame) (a .progress)) (a .work .now) (a .result .now) x (c .before .before .before .before .before .before .before .before .before .before .before .before .before .before .led .given .0 .0) (c .before .before .before .before .before .before .before .before .before .before .before .before .before .before .led .given .1) (c .before .before .before .before .before .before .before .before .before .before .with-edge .last .0) (c .before .before .before .before .before .before .before .before .before .before .with-edge .ensures) (c .before .before .before .before .extend .last .1 .1 .0) (c .before .before .before .before .extend .last .1 .1 .1 .0) (courseAt (a .frame) (c .before .before .before .before .extend .result)) (at (a .frame) (c .before .before .before .before .before .before .before .before .before .before .before .before .before .before .before .before .passed-by .result)) (ap (at (a .frame)) (c .before .before .before .before .before .before .before .before .before .before .before .before .before .before .before .before .passed-by .ensures) ∙ at-passed (a .frame) (a .pass .passed) (a .progress)) (c .before .before .before .before .extend .ensures)
 
 pub onward-spec : {M : Type 1} → statement M
 onward-spec =

@@ -4,8 +4,10 @@ use native.Mathlib.Omega.{arith}
 use mathlib.Core.Path.{sym, subst, _∙_}
 use Rattle.storage.specs.Rows.Use.{left}
 use Rattle.search_state.specs.declared.passed.Passed.{Passed}
+use Rattle.search_state.specs.Passes.{nothingPassed}
 use Rattle.search.specs.Passes.{Passing}
 use Rattle.search.specs.Passes.Laws.{Over, over-start, over-ready, over-cycles, over-rejected, over-less, over-more, over-bound, over-extended, over-end}
+use Rattle.search.specs.Passes.TooLong.{passed-all}
 use borrow.Author.Needs.{needs}
 use Rattle.search.proofs.direct.pass_over.Statement.{statement}
 use Rattle.search.proofs.direct.pass_over.Tie as tie
@@ -16,20 +18,34 @@ Inv-loop index steps edges budget first passed₀ link₀ passed link = (left in
 abbrev μ-loop : tie.MeasureT-loop
 μ-loop index steps edges budget first passed₀ link₀ passed link = left index link
 
+all-too-long-requires : tie.Need-all-too-long-requires Inv-loop μ-loop
+all-too-long-requires c κs =
+    let a = c .before .before .before .args in
+    let p = c .before .before .before .pre in
+    (p .v .loaded .long, over-ready (a .index .now) (a .steps .now) (a .edges .now) (a .budget) (a .first) p nothingPassed (a .first) (over-start (a .index .now) (a .steps .now) (a .edges .now) (a .budget) (a .first) p))
+
+pass-all-requires : tie.Need-pass-all-requires Inv-loop μ-loop
+pass-all-requires c κs = search needs
+
+returns : tie.Need-returns Inv-loop μ-loop
+returns c =
+    let a = c .before .before .before .before .before .before .args in
+    λ x. passed-all (a .index .now) (a .steps .now) (a .edges .now) (a .budget) (a .first) x (sym (c .before .before .all-too-long .ensures) ∙ c .before .if1 .taken) (c .pass-all .result) (c .pass-all .ensures)
+
 nothing-requires : tie.Need-nothing-requires Inv-loop μ-loop
 nothing-requires c κs = search needs
 
 loop-holds : tie.Need-loop-holds Inv-loop μ-loop
-loop-holds c = let a = c .before .before .before .before .args in (omega arith, λ x. subst (λ (p : Passed). Over (a .index .now) (a .steps .now) (a .edges .now) (a .budget) (a .first) x p (a .first)) (sym (c .nothing .ensures)) (over-start (a .index .now) (a .steps .now) (a .edges .now) (a .budget) (a .first) x))
+loop-holds c = let a = c .before .before .before .before .before .before .args in (omega arith, λ x. subst (λ (p : Passed). Over (a .index .now) (a .steps .now) (a .edges .now) (a .budget) (a .first) x p (a .first)) (sym (c .nothing .ensures)) (over-start (a .index .now) (a .steps .now) (a .edges .now) (a .budget) (a .first) x))
 
 sub-judge : tie.Need-sub-judge Inv-loop μ-loop
 sub-judge c = search needs
 
 judge-requires : tie.Need-judge-requires Inv-loop μ-loop
-judge-requires c κs = let a = c .before .before .before .before .before .before .args in let p = c .before .before .before .before .before .before .pre in let l = c .before .loop in (p .v .loaded .long, over-ready (a .index .now) (a .steps .now) (a .edges .now) (a .budget) (a .first) p (l .passed) (l .link) (l .inv .1 p))
+judge-requires c κs = let a = c .before .before .before .before .before .before .before .before .args in let p = c .before .before .before .before .before .before .before .before .pre in let l = c .before .loop in (p .v .loaded .long, over-ready (a .index .now) (a .steps .now) (a .edges .now) (a .budget) (a .first) p (l .passed) (l .link) (l .inv .1 p))
 
 count-requires : tie.Need-count-requires Inv-loop μ-loop
-count-requires c κs = let a = c .before .before .before .before .before .before .before .args in let p = c .before .before .before .before .before .before .before .pre in let l = c .before .before .loop in let y = over-cycles (a .index .now) (a .steps .now) (a .edges .now) (a .budget) (a .first) p (l .passed) (l .link) (l .inv .1 p) in let z = over-rejected (a .index .now) (a .steps .now) (a .edges .now) (a .budget) (a .first) p (l .passed) (l .link) (l .inv .1 p) in (omega (arith, y), omega (arith, z))
+count-requires c κs = let a = c .before .before .before .before .before .before .before .before .before .args in let p = c .before .before .before .before .before .before .before .before .before .pre in let l = c .before .before .loop in let y = over-cycles (a .index .now) (a .steps .now) (a .edges .now) (a .budget) (a .first) p (l .passed) (l .link) (l .inv .1 p) in let z = over-rejected (a .index .now) (a .steps .now) (a .edges .now) (a .budget) (a .first) p (l .passed) (l .link) (l .inv .1 p) in (omega (arith, y), omega (arith, z))
 
 enum-known-next : tie.Need-enum-known-next Inv-loop μ-loop
 enum-known-next c = search needs
@@ -37,29 +53,29 @@ enum-known-next c = search needs
 enum-told : tie.Need-enum-told Inv-loop μ-loop
 enum-told c = search needs
 
-returns : tie.Need-returns Inv-loop μ-loop
-returns c = let a = c .before .before .before .before .before .before .before .before .before .before .args in let l = c .before .before .before .before .before .loop in λ x. over-bound (a .index .now) (a .steps .now) (a .edges .now) (a .budget) (a .first) x (l .passed) (l .link) (l .inv .1 x) (c .before .before .before .before .loop-test .taken) (c .before .before .before .judge .result) (c .before .before .before .judge .ensures) (sym (c .enum-told .given .1) ∙ c .before .before .count .ensures) (l .inv .0)
+returns-2 : tie.Need-returns-2 Inv-loop μ-loop
+returns-2 c = let a = c .before .before .before .before .before .before .before .before .before .before .before .before .args in let l = c .before .before .before .before .before .loop in λ x. over-bound (a .index .now) (a .steps .now) (a .edges .now) (a .budget) (a .first) x (l .passed) (l .link) (l .inv .1 x) (c .before .before .before .before .loop-test .taken) (c .before .before .before .judge .result) (c .before .before .before .judge .ensures) (sym (c .enum-told .given .1) ∙ c .before .before .count .ensures) (l .inv .0)
 
 enum-known-complete : tie.Need-enum-known-complete Inv-loop μ-loop
 enum-known-complete c = search needs
 
-returns-2 : tie.Need-returns-2 Inv-loop μ-loop
-returns-2 c = let a = c .before .before .before .before .before .before .before .before .before .before .before .args in let l = c .before .before .before .before .before .before .loop in λ x. over-extended (a .index .now) (a .steps .now) (a .edges .now) (a .budget) (a .first) x (l .passed) (l .link) (l .inv .1 x) (c .before .before .before .before .before .loop-test .taken) (c .before .before .before .before .judge .result) (c .before .before .before .before .judge .ensures) (c .before .complete .given .0 .0) (sym (c .before .complete .given .1) ∙ c .before .before .before .count .ensures) (l .inv .0)
+returns-3 : tie.Need-returns-3 Inv-loop μ-loop
+returns-3 c = let a = c .before .before .before .before .before .before .before .before .before .before .before .before .before .args in let l = c .before .before .before .before .before .before .loop in λ x. over-extended (a .index .now) (a .steps .now) (a .edges .now) (a .budget) (a .first) x (l .passed) (l .link) (l .inv .1 x) (c .before .before .before .before .before .loop-test .taken) (c .before .before .before .before .judge .result) (c .before .before .before .before .judge .ensures) (c .before .complete .given .0 .0) (sym (c .before .complete .given .1) ∙ c .before .before .before .count .ensures) (l .inv .0)
 
-sub-t12 : tie.Need-sub-t12 Inv-loop μ-loop
-sub-t12 c = search needs
+sub-t13 : tie.Need-sub-t13 Inv-loop μ-loop
+sub-t13 c = search needs
 
 next-requires : tie.Need-next-requires Inv-loop μ-loop
-next-requires c κs = c .before .before .before .before .before .before .before .before .before .before .before .pre .v .loaded .long
+next-requires c κs = c .before .before .before .before .before .before .before .before .before .before .before .before .before .pre .v .loaded .long
 
 loop-less : tie.Need-loop-less Inv-loop μ-loop
-loop-less c = let a = c .before .before .before .before .before .before .before .before .before .before .before .before .args in let p = c .before .before .before .before .before .before .before .before .before .before .before .before .pre in let l = c .before .before .before .before .before .before .before .loop in subst (λ (n : ℕ). left (a .index .now) n < left (a .index .now) (l .link)) (sym (c .next2 .ensures)) (over-less (a .index .now) (a .steps .now) (a .edges .now) (a .budget) (a .first) p (l .passed) (l .link) (l .inv .1 p) (c .before .before .before .before .before .before .loop-test .taken))
+loop-less c = let a = c .before .before .before .before .before .before .before .before .before .before .before .before .before .before .args in let p = c .before .before .before .before .before .before .before .before .before .before .before .before .before .before .pre in let l = c .before .before .before .before .before .before .before .loop in subst (λ (n : ℕ). left (a .index .now) n < left (a .index .now) (l .link)) (sym (c .next2 .ensures)) (over-less (a .index .now) (a .steps .now) (a .edges .now) (a .budget) (a .first) p (l .passed) (l .link) (l .inv .1 p) (c .before .before .before .before .before .before .loop-test .taken))
 
 loop-again : tie.Need-loop-again Inv-loop μ-loop
-loop-again c = let a = c .before .before .before .before .before .before .before .before .before .before .before .before .args in let p = c .before .before .before .before .before .before .before .before .before .before .before .before .pre in let l = c .before .before .before .before .before .before .before .loop in let d = subst (λ (n : ℕ). left (a .index .now) n < left (a .index .now) (l .link)) (sym (c .next2 .ensures)) (over-less (a .index .now) (a .steps .now) (a .edges .now) (a .budget) (a .first) p (l .passed) (l .link) (l .inv .1 p) (c .before .before .before .before .before .before .loop-test .taken)) in (omega (arith, d, l .inv .0), λ x. over-more (a .index .now) (a .steps .now) (a .edges .now) (a .budget) (a .first) x (l .passed) (l .link) (l .inv .1 x) (c .before .before .before .before .before .before .loop-test .taken) (c .before .before .before .before .before .judge .result) (c .before .before .before .before .before .judge .ensures) (c .before .before .next .given .0 .0) (sym (c .before .before .next .given .1) ∙ c .before .before .before .before .count .ensures) (c .next2 .result) (c .next2 .ensures))
+loop-again c = let a = c .before .before .before .before .before .before .before .before .before .before .before .before .before .before .args in let p = c .before .before .before .before .before .before .before .before .before .before .before .before .before .before .pre in let l = c .before .before .before .before .before .before .before .loop in let d = subst (λ (n : ℕ). left (a .index .now) n < left (a .index .now) (l .link)) (sym (c .next2 .ensures)) (over-less (a .index .now) (a .steps .now) (a .edges .now) (a .budget) (a .first) p (l .passed) (l .link) (l .inv .1 p) (c .before .before .before .before .before .before .loop-test .taken)) in (omega (arith, d, l .inv .0), λ x. over-more (a .index .now) (a .steps .now) (a .edges .now) (a .budget) (a .first) x (l .passed) (l .link) (l .inv .1 x) (c .before .before .before .before .before .before .loop-test .taken) (c .before .before .before .before .before .judge .result) (c .before .before .before .before .before .judge .ensures) (c .before .before .next .given .0 .0) (sym (c .before .before .next .given .1) ∙ c .before .before .before .before .count .ensures) (c .next2 .result) (c .next2 .ensures))
 
-returns-3 : tie.Need-returns-3 Inv-loop μ-loop
-returns-3 c = let a = c .before .before .before .before .before .before .args in let l = c .before .loop in λ x. over-end (a .index .now) (a .steps .now) (a .edges .now) (a .budget) (a .first) x (l .passed) (l .link) (l .inv .1 x) (omega (arith, c .loop-test .left)) (l .inv .0)
+returns-4 : tie.Need-returns-4 Inv-loop μ-loop
+returns-4 c = let a = c .before .before .before .before .before .before .before .before .args in let l = c .before .loop in λ x. over-end (a .index .now) (a .steps .now) (a .edges .now) (a .budget) (a .first) x (l .passed) (l .link) (l .inv .1 x) (omega (arith, c .loop-test .left)) (l .inv .0)
 
 pub pass-over-spec : {M : Type 1} → statement M
 pass-over-spec =
@@ -67,6 +83,9 @@ pass-over-spec =
     (tie.spec
     Inv-loop
     μ-loop
+    all-too-long-requires
+    pass-all-requires
+    returns
     nothing-requires
     loop-holds
     sub-judge
@@ -74,11 +93,11 @@ pass-over-spec =
     count-requires
     enum-known-next
     enum-told
-    returns
-    enum-known-complete
     returns-2
-    sub-t12
+    enum-known-complete
+    returns-3
+    sub-t13
     next-requires
     loop-less
     loop-again
-    returns-3)
+    returns-4)

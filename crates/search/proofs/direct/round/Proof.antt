@@ -3,21 +3,22 @@ use mathlib.Core.Path.{refl}
 use lib.ListN.{getD}
 use Rattle.rounds.specs.Drives.Laws.{round-long, round-short, round-retraces}
 use Rattle.search.specs.Expansions.Rounds.{round-given, rounded}
+use Rattle.search_state.specs.Progresses.{at, courseAt}
 use borrow.Author.Needs.{needs}
 use Rattle.search.proofs.direct.round.Statement.{statement}
 use Rattle.search.proofs.direct.round.Tie as tie
 
 -- src/direct.rt:114:13
 slice-read-k : tie.Need-slice-read-k
-slice-read-k c = let a = c .before .before .before .before .before .before .args in let p = c .before .before .before .before .before .before .pre in let h = round-long 549755813888 (a .index .now) (a .steps .now) (a .item .now) (a .laid) (a .search) (a .work .now) (a .result .now) p in omega (arith, h)
+slice-read-k c = let a = c .before .before .before .before .before .before .args in let p = c .before .before .before .before .before .before .pre in let h = round-long 549755813888 (a .index .now) (a .steps .now) (a .item .now) (a .laid) (at (a .frame) (a .progress)) (a .work .now) (a .result .now) p in omega (arith, h)
 
 -- src/direct.rt:114:13
 cast-k : tie.Need-cast-k
-cast-k c = let a = c .before .before .before .before .before .before .args in let p = c .before .before .before .before .before .before .pre in let h = round-short 549755813888 (a .index .now) (a .steps .now) (a .item .now) (a .laid) (a .search) (a .work .now) (a .result .now) p (getD (a .item .now) 0 0) refl in omega (arith, h)
+cast-k c = let a = c .before .before .before .before .before .before .args in let p = c .before .before .before .before .before .before .pre in let h = round-short 549755813888 (a .index .now) (a .steps .now) (a .item .now) (a .laid) (at (a .frame) (a .progress)) (a .work .now) (a .result .now) p (getD (a .item .now) 0 0) refl in omega (arith, h)
 
 -- src/direct.rt:115:36
 add-retrace : tie.Need-add-retrace
-add-retrace c = let a = c .before .before .before .before .before .before .before .args in let p = c .before .before .before .before .before .before .before .pre in let h = round-short 549755813888 (a .index .now) (a .steps .now) (a .item .now) (a .laid) (a .search) (a .work .now) (a .result .now) p (getD (a .item .now) 0 0) refl in omega (arith, h)
+add-retrace c = let a = c .before .before .before .before .before .before .before .args in let p = c .before .before .before .before .before .before .before .pre in let h = round-short 549755813888 (a .index .now) (a .steps .now) (a .item .now) (a .laid) (at (a .frame) (a .progress)) (a .work .now) (a .result .now) p (getD (a .item .now) 0 0) refl in omega (arith, h)
 
 -- src/direct.rt:115:27
 sub-retrace : tie.Need-sub-retrace
@@ -29,15 +30,15 @@ part-retrace-start c = search needs
 
 -- src/direct.rt:115:27
 part-retrace-end : tie.Need-part-retrace-end
-part-retrace-end c = let a = c .before .before .before .before .before .before .before .before .args in let p = c .before .before .before .before .before .before .before .before .pre in let h = round-short 549755813888 (a .index .now) (a .steps .now) (a .item .now) (a .laid) (a .search) (a .work .now) (a .result .now) p (getD (a .item .now) 0 0) refl in let n = round-long 549755813888 (a .index .now) (a .steps .now) (a .item .now) (a .laid) (a .search) (a .work .now) (a .result .now) p in omega (arith, h, n)
+part-retrace-end c = let a = c .before .before .before .before .before .before .before .before .args in let p = c .before .before .before .before .before .before .before .before .pre in let h = round-short 549755813888 (a .index .now) (a .steps .now) (a .item .now) (a .laid) (at (a .frame) (a .progress)) (a .work .now) (a .result .now) p (getD (a .item .now) 0 0) refl in let n = round-long 549755813888 (a .index .now) (a .steps .now) (a .item .now) (a .laid) (at (a .frame) (a .progress)) (a .work .now) (a .result .now) p in omega (arith, h, n)
 
 -- src/direct.rt:115:5
 retrace-requires : tie.Need-retrace-requires
-retrace-requires c κs = let a = c .before .before .before .before .before .before .before .before .before .args in let p = c .before .before .before .before .before .before .before .before .before .pre in round-retraces 549755813888 (a .index .now) (a .steps .now) (a .item .now) (a .laid) (a .search) (a .work .now) (a .result .now) p (getD (a .item .now) 0 0) refl
+retrace-requires c κs = let a = c .before .before .before .before .before .before .before .before .before .args in let p = c .before .before .before .before .before .before .before .before .before .pre in round-retraces 549755813888 (a .index .now) (a .steps .now) (a .item .now) (a .laid) (at (a .frame) (a .progress)) (a .work .now) (a .result .now) p (getD (a .item .now) 0 0) refl
 
 -- src/direct.rt:116:5
 expand-requires : tie.Need-expand-requires
-expand-requires c κs = let a = c .before .before .before .before .before .before .before .before .before .before .before .before .before .before .before .before .args in let p = c .before .before .before .before .before .before .before .before .before .before .before .before .before .before .before .before .pre in round-given 549755813888 (a .index .now) (a .steps .now) (a .item .now) (a .laid) (a .search) (a .work .now) (a .result .now) p (getD (a .item .now) 0 0) refl (c .before .before .before .before .before .before .retrace .last .1 .0) (c .before .before .before .before .before .before .retrace .kept .1 .0) (c .before .before .before .before .before .before .retrace .ensures)
+expand-requires c κs = let a = c .before .before .before .before .before .before .before .before .before .before .before .before .before .before .before .before .args in let p = c .before .before .before .before .before .before .before .before .before .before .before .before .before .before .before .before .pre in round-given 549755813888 (a .index .now) (a .steps .now) (a .item .now) (a .laid) (at (a .frame) (a .progress)) (a .work .now) (a .result .now) p (getD (a .item .now) 0 0) refl (c .before .before .before .before .before .before .retrace .last .1 .0) (c .before .before .before .before .before .before .retrace .kept .1 .0) (c .before .before .before .before .before .before .retrace .ensures)
 
 -- src/direct.rt:102:1
 same-length : tie.Need-same-length
@@ -57,7 +58,7 @@ same-length-4 c = search needs
 
 -- src/direct.rt:102:1
 returns : tie.Need-returns
-returns c = let a = c .before .before .before .before .before .before .before .before .before .before .before .before .before .before .before .before .before .before .before .before .before .before .before .args in let p = c .before .before .before .before .before .before .before .before .before .before .before .before .before .before .before .before .before .before .before .before .before .before .before .pre in λ v. rounded 549755813888 (a .index .now) (a .steps .now) (a .item .now) (a .laid) (a .search) (a .work .now) (a .result .now) v (getD (a .item .now) 0 0) refl (c .before .before .before .before .before .before .before .before .before .before .before .before .before .retrace .last .1 .0) (c .before .before .before .before .before .before .before .before .before .before .before .before .before .retrace .kept .1 .0) (c .before .before .before .before .before .before .before .before .before .before .before .before .before .retrace .ensures) (c .before .before .before .before .before .before .expand .result) (c .before .before .before .before .before .before .expand .last .1 .1 .1 .1 .1 .0) (c .before .before .before .before .before .before .expand .last .1 .1 .1 .1 .1 .1 .0) (c .before .before .before .before .before .before .expand .ensures (round-given 549755813888 (a .index .now) (a .steps .now) (a .item .now) (a .laid) (a .search) (a .work .now) (a .result .now) v (getD (a .item .now) 0 0) refl (c .before .before .before .before .before .before .before .before .before .before .before .before .before .retrace .last .1 .0) (c .before .before .before .before .before .before .before .before .before .before .before .before .before .retrace .kept .1 .0) (c .before .before .before .before .before .before .before .before .before .before .before .before .before .retrace .ensures)))
+returns c = let a = c .before .before .before .before .before .before .before .before .before .before .before .before .before .before .before .before .before .before .before .before .before .before .before .args in let p = c .before .before .before .before .before .before .before .before .before .before .before .before .before .before .before .before .before .before .before .before .before .before .before .pre in (λ v. rounded 549755813888 (a .index .now) (a .steps .now) (a .item .now) (a .laid) (at (a .frame) (a .progress)) (a .work .now) (a .result .now) v (getD (a .item .now) 0 0) refl (c .before .before .before .before .before .before .before .before .before .before .before .before .before .retrace .last .1 .0) (c .before .before .before .before .before .before .before .before .before .before .before .before .before .retrace .kept .1 .0) (c .before .before .before .before .before .before .before .before .before .before .before .before .before .retrace .ensures) (courseAt (a .frame) (c .before .before .before .before .before .before .expand .result)) (c .before .before .before .before .before .before .expand .last .1 .1 .1 .1 .1 .0) (c .before .before .before .before .before .before .expand .last .1 .1 .1 .1 .1 .1 .0) (c .before .before .before .before .before .before .expand .ensures .0 (round-given 549755813888 (a .index .now) (a .steps .now) (a .item .now) (a .laid) (at (a .frame) (a .progress)) (a .work .now) (a .result .now) v (getD (a .item .now) 0 0) refl (c .before .before .before .before .before .before .before .before .before .before .before .before .before .retrace .last .1 .0) (c .before .before .before .before .before .before .before .before .before .before .before .before .before .retrace .kept .1 .0) (c .before .before .before .before .before .before .before .before .before .before .before .before .before .retrace .ensures))), λ v. c .before .before .before .before .before .before .expand .ensures .1 (round-given 549755813888 (a .index .now) (a .steps .now) (a .item .now) (a .laid) (at (a .frame) (a .progress)) (a .work .now) (a .result .now) v (getD (a .item .now) 0 0) refl (c .before .before .before .before .before .before .before .before .before .before .before .before .before .retrace .last .1 .0) (c .before .before .before .before .before .before .before .before .before .before .before .before .before .retrace .kept .1 .0) (c .before .before .before .before .before .before .before .before .before .before .before .before .before .retrace .ensures)))
 
 pub round-spec : {M : Type 1} → statement M
 round-spec =

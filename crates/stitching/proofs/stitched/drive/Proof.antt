@@ -24,7 +24,7 @@ loop-holds c = let a = c .before .before .before .before .before .before .before
 
 -- src/stitched.rt:147:15
 take-requires : tie.Need-take-requires Inv-loop μ-loop
-take-requires c κs = let a = c .before .before .before .before .before .before .before .before .before .before .args in let p = c .before .before .before .before .before .before .before .before .before .before .pre in let l = c .before .before .loop in let t = l .inv .4 (p .0) (p .1) in (t .stood .stands .framed, l .inv .1 ∙ (p .1) .slot ∙ sym (t .stood .sized), omega (arith, t .expanded))
+take-requires c κs = let a = c .before .before .before .before .before .before .before .before .before .before .args in let p = c .before .before .before .before .before .before .before .before .before .before .pre in let l = c .before .before .loop in let t = l .inv .4 (p .0) (p .1) in record { framed = t .stood .stands .framed; short = t .stood .sized .wider .longer; slot = l .inv .1 ∙ (p .1) .slot; clear = t .clear; few = omega (arith, t .expanded) }
 
 -- src/stitched.rt:148:25
 enum-known-state : tie.Need-enum-known-state Inv-loop μ-loop
@@ -96,11 +96,11 @@ enum-known-s c = search needs
 
 -- src/stitched.rt:146:5
 loop-less : tie.Need-loop-less Inv-loop μ-loop
-loop-less c = let a = c .before .before .before .before .before .before .before .before .before .before .before .before .before .before .before .before .before .before .before .before .before .before .before .before .before .before .before .before .before .before .before .before .before .before .before .args in let p = c .before .before .before .before .before .before .before .before .before .before .before .before .before .before .before .before .before .before .before .before .before .before .before .before .before .before .before .before .before .before .before .before .before .before .before .pre in let l = c .before .before .before .before .before .before .before .before .before .before .before .before .before .before .before .before .before .before .before .before .before .before .before .before .before .before .before .loop in let h = turn-counts (triesIn (a .words .now)) (a .index .now) (a .steps .now) (a .item .now) (a .search) (a .work .now) (a .result .now) (p .1) (λ lim q. tries-few (a .words .now) ((p .0) .readable) lim (viewOf ((p .1) .graph)) q) (l .on) (l .steps) (l .item) (l .work) (l .result) (l .laid) (l .inv .0) (l .inv .4 (p .0) (p .1)) (c .before .before .before .before .before .before .before .before .before .before .before .before .before .before .before .before .before .before .before .before .before .before .before .before .take .result) (c .before .before .before .before .before .before .before .before .before .before .before .before .before .before .before .before .before .before .before .before .before .before .before .before .take .last .1 .1 .0) (c .before .before .before .before .before .before .before .before .before .before .before .before .before .before .before .before .before .before .before .before .before .before .before .before .take .last .1 .0) (c .before .before .before .before .before .before .before .before .before .before .before .before .before .before .before .before .before .before .before .before .before .before .before .before .take .ensures) (c .before .before .before .before .before .before .before .before .before .before .before .before .before .before .before .before .before .before .next .given .0 .0) (c .before .before .before .before .before .before .before .before .before .before .before .before .before .before .before .before .before .before .next .given .1) (c .before .before .before .before .before .before .before .before .before .before .before .round .result) (c .before .before .before .before .before .before .before .before .before .before .before .round .last .1 .1 .1 .0) (c .before .before .before .before .before .before .before .before .before .before .before .round .last .1 .1 .1 .1 .1 .1 .1 .0) (c .before .before .before .before .before .before .before .before .before .before .before .round .last .1 .1 .1 .1 .1 .1 .1 .1 .0) (c .before .before .before .before .before .before .before .before .before .before .before .round .ensures (turn-given (triesIn (a .words .now)) (a .index .now) (a .steps .now) (a .item .now) (a .search) (a .work .now) (a .result .now) (p .1) (λ lim q. tries-few (a .words .now) ((p .0) .readable) lim (viewOf ((p .1) .graph)) q) (l .on) (l .steps) (l .item) (l .work) (l .result) (l .laid) (l .inv .0) (l .inv .4 (p .0) (p .1)) (c .before .before .before .before .before .before .before .before .before .before .before .before .before .before .before .before .before .before .before .before .before .before .before .before .take .result) (c .before .before .before .before .before .before .before .before .before .before .before .before .before .before .before .before .before .before .before .before .before .before .before .before .take .last .1 .1 .0) (c .before .before .before .before .before .before .before .before .before .before .before .before .before .before .before .before .before .before .before .before .before .before .before .before .take .last .1 .0) (c .before .before .before .before .before .before .before .before .before .before .before .before .before .before .before .before .before .before .before .before .before .before .before .before .take .ensures) (c .before .before .before .before .before .before .before .before .before .before .before .before .before .before .before .before .before .before .next .given .0 .0) (c .before .before .before .before .before .before .before .before .before .before .before .before .before .before .before .before .before .before .next .given .1))) (c .before .s .given .0 .0) (c .before .s .given .1) in omega (arith, h .0, h .1)
+loop-less c = let a = c .before .before .before .before .before .before .before .before .before .before .before .before .before .before .before .before .before .before .before .before .before .before .before .before .before .before .before .before .before .before .before .before .before .before .before .args in let p = c .before .before .before .before .before .before .before .before .before .before .before .before .before .before .before .before .before .before .before .before .before .before .before .before .before .before .before .before .before .before .before .before .before .before .before .pre in let l = c .before .before .before .before .before .before .before .before .before .before .before .before .before .before .before .before .before .before .before .before .before .before .before .before .before .before .before .loop in let h = turn-counts (triesIn (a .words .now)) (a .index .now) (a .steps .now) (a .item .now) (a .search) (a .work .now) (a .result .now) (p .1) (λ lim q. tries-few (a .words .now) ((p .0) .readable) lim (viewOf ((p .1) .graph)) q) (l .on) (l .steps) (l .item) (l .work) (l .result) (l .laid) (l .inv .0) (l .inv .4 (p .0) (p .1)) (c .before .before .before .before .before .before .before .before .before .before .before .before .before .before .before .before .before .before .before .before .before .before .before .before .take .result) (c .before .before .before .before .before .before .before .before .before .before .before .before .before .before .before .before .before .before .before .before .before .before .before .before .take .last .1 .1 .0) (c .before .before .before .before .before .before .before .before .before .before .before .before .before .before .before .before .before .before .before .before .before .before .before .before .take .last .1 .0) (c .before .before .before .before .before .before .before .before .before .before .before .before .before .before .before .before .before .before .before .before .before .before .before .before .take .ensures) (c .before .before .before .before .before .before .before .before .before .before .before .before .before .before .before .before .before .before .next .given .0 .0) (c .before .before .before .before .before .before .before .before .before .before .before .before .before .before .before .before .before .before .next .given .1) (c .before .before .before .before .before .before .before .before .before .before .before .round .result) (c .before .before .before .before .before .before .before .before .before .before .before .round .last .1 .1 .1 .0) (c .before .before .before .before .before .before .before .before .before .before .before .round .last .1 .1 .1 .1 .1 .1 .1 .0) (c .before .before .before .before .before .before .before .before .before .before .before .round .last .1 .1 .1 .1 .1 .1 .1 .1 .0) (c .before .before .before .before .before .before .before .before .before .before .before .round .ensures .0 (turn-given (triesIn (a .words .now)) (a .index .now) (a .steps .now) (a .item .now) (a .search) (a .work .now) (a .result .now) (p .1) (λ lim q. tries-few (a .words .now) ((p .0) .readable) lim (viewOf ((p .1) .graph)) q) (l .on) (l .steps) (l .item) (l .work) (l .result) (l .laid) (l .inv .0) (l .inv .4 (p .0) (p .1)) (c .before .before .before .before .before .before .before .before .before .before .before .before .before .before .before .before .before .before .before .before .before .before .before .before .take .result) (c .before .before .before .before .before .before .before .before .before .before .before .before .before .before .before .before .before .before .before .before .before .before .before .before .take .last .1 .1 .0) (c .before .before .before .before .before .before .before .before .before .before .before .before .before .before .before .before .before .before .before .before .before .before .before .before .take .last .1 .0) (c .before .before .before .before .before .before .before .before .before .before .before .before .before .before .before .before .before .before .before .before .before .before .before .before .take .ensures) (c .before .before .before .before .before .before .before .before .before .before .before .before .before .before .before .before .before .before .next .given .0 .0) (c .before .before .before .before .before .before .before .before .before .before .before .before .before .before .before .before .before .before .next .given .1))) (c .before .s .given .0 .0) (c .before .s .given .1) in omega (arith, h .0, h .1)
 
 -- src/stitched.rt:146:5
 loop-again : tie.Need-loop-again Inv-loop μ-loop
-loop-again c = let a = c .before .before .before .before .before .before .before .before .before .before .before .before .before .before .before .before .before .before .before .before .before .before .before .before .before .before .before .before .before .before .before .before .before .before .before .args in let p = c .before .before .before .before .before .before .before .before .before .before .before .before .before .before .before .before .before .before .before .before .before .before .before .before .before .before .before .before .before .before .before .before .before .before .before .pre in let l = c .before .before .before .before .before .before .before .before .before .before .before .before .before .before .before .before .before .before .before .before .before .before .before .before .before .before .before .loop in (c .before .before .before .before .before .before .before .before .before .before .before .round .kept .1 .1 .1 .0 ∙ l .inv .0, c .before .before .before .before .before .before .before .before .before .before .before .round .kept .1 .1 .1 .1 .0 ∙ c .before .before .before .before .before .before .before .before .before .before .before .before .before .before .before .before .before .before .before .before .before .before .before .before .take .kept .1 .1 .0 ∙ l .inv .1, c .before .before .before .before .before .before .before .before .before .before .before .round .kept .1 .1 .1 .1 .1 .1 .1 .0 ∙ c .before .before .before .before .before .before .before .before .before .before .before .before .before .before .before .before .before .before .before .before .before .before .before .before .take .kept .1 .0 ∙ l .inv .2, c .before .before .before .before .before .before .before .before .before .before .before .round .kept .1 .1 .1 .1 .1 .1 .1 .1 .0 ∙ l .inv .3, λ d v. turn-again (triesIn (a .words .now)) (a .index .now) (a .steps .now) (a .item .now) (a .search) (a .work .now) (a .result .now) v (λ lim q. tries-few (a .words .now) (d .readable) lim (viewOf (v .graph)) q) (l .on) (l .steps) (l .item) (l .work) (l .result) (l .laid) (l .inv .0) (l .inv .4 d v) (c .before .before .before .before .before .before .before .before .before .before .before .before .before .before .before .before .before .before .before .before .before .before .before .before .take .result) (c .before .before .before .before .before .before .before .before .before .before .before .before .before .before .before .before .before .before .before .before .before .before .before .before .take .last .1 .1 .0) (c .before .before .before .before .before .before .before .before .before .before .before .before .before .before .before .before .before .before .before .before .before .before .before .before .take .last .1 .0) (c .before .before .before .before .before .before .before .before .before .before .before .before .before .before .before .before .before .before .before .before .before .before .before .before .take .ensures) (c .before .before .before .before .before .before .before .before .before .before .before .before .before .before .before .before .before .before .next .given .0 .0) (c .before .before .before .before .before .before .before .before .before .before .before .before .before .before .before .before .before .before .next .given .1) (c .before .before .before .before .before .before .before .before .before .before .before .round .result) (c .before .before .before .before .before .before .before .before .before .before .before .round .last .1 .1 .1 .0) (c .before .before .before .before .before .before .before .before .before .before .before .round .last .1 .1 .1 .1 .1 .1 .1 .0) (c .before .before .before .before .before .before .before .before .before .before .before .round .last .1 .1 .1 .1 .1 .1 .1 .1 .0) (c .before .before .before .before .before .before .before .before .before .before .before .round .ensures (turn-given (triesIn (a .words .now)) (a .index .now) (a .steps .now) (a .item .now) (a .search) (a .work .now) (a .result .now) v (λ lim q. tries-few (a .words .now) (d .readable) lim (viewOf (v .graph)) q) (l .on) (l .steps) (l .item) (l .work) (l .result) (l .laid) (l .inv .0) (l .inv .4 d v) (c .before .before .before .before .before .before .before .before .before .before .before .before .before .before .before .before .before .before .before .before .before .before .before .before .take .result) (c .before .before .before .before .before .before .before .before .before .before .before .before .before .before .before .before .before .before .before .before .before .before .before .before .take .last .1 .1 .0) (c .before .before .before .before .before .before .before .before .before .before .before .before .before .before .before .before .before .before .before .before .before .before .before .before .take .last .1 .0) (c .before .before .before .before .before .before .before .before .before .before .before .before .before .before .before .before .before .before .before .before .before .before .before .before .take .ensures) (c .before .before .before .before .before .before .before .before .before .before .before .before .before .before .before .before .before .before .next .given .0 .0) (c .before .before .before .before .before .before .before .before .before .before .before .before .before .before .before .before .before .before .next .given .1))) (c .before .s .given .0 .0) (c .before .s .given .1) (c .before .before .before .before .before .before .before .before .before .before .before .round .last .1 .1 .1 .1 .0) (getD (c .before .before .before .before .before .before .before .before .before .before .before .before .before .before .before .before .before .before .before .before .before .before .before .before .take .last .1 .1 .0) 0 0) refl)
+loop-again c = let a = c .before .before .before .before .before .before .before .before .before .before .before .before .before .before .before .before .before .before .before .before .before .before .before .before .before .before .before .before .before .before .before .before .before .before .before .args in let p = c .before .before .before .before .before .before .before .before .before .before .before .before .before .before .before .before .before .before .before .before .before .before .before .before .before .before .before .before .before .before .before .before .before .before .before .pre in let l = c .before .before .before .before .before .before .before .before .before .before .before .before .before .before .before .before .before .before .before .before .before .before .before .before .before .before .before .loop in (c .before .before .before .before .before .before .before .before .before .before .before .round .kept .1 .1 .1 .0 ∙ l .inv .0, c .before .before .before .before .before .before .before .before .before .before .before .round .kept .1 .1 .1 .1 .0 ∙ c .before .before .before .before .before .before .before .before .before .before .before .before .before .before .before .before .before .before .before .before .before .before .before .before .take .kept .1 .1 .0 ∙ l .inv .1, c .before .before .before .before .before .before .before .before .before .before .before .round .kept .1 .1 .1 .1 .1 .1 .1 .0 ∙ c .before .before .before .before .before .before .before .before .before .before .before .before .before .before .before .before .before .before .before .before .before .before .before .before .take .kept .1 .0 ∙ l .inv .2, c .before .before .before .before .before .before .before .before .before .before .before .round .kept .1 .1 .1 .1 .1 .1 .1 .1 .0 ∙ l .inv .3, λ d v. turn-again (triesIn (a .words .now)) (a .index .now) (a .steps .now) (a .item .now) (a .search) (a .work .now) (a .result .now) v (λ lim q. tries-few (a .words .now) (d .readable) lim (viewOf (v .graph)) q) (l .on) (l .steps) (l .item) (l .work) (l .result) (l .laid) (l .inv .0) (l .inv .4 d v) (c .before .before .before .before .before .before .before .before .before .before .before .before .before .before .before .before .before .before .before .before .before .before .before .before .take .result) (c .before .before .before .before .before .before .before .before .before .before .before .before .before .before .before .before .before .before .before .before .before .before .before .before .take .last .1 .1 .0) (c .before .before .before .before .before .before .before .before .before .before .before .before .before .before .before .before .before .before .before .before .before .before .before .before .take .last .1 .0) (c .before .before .before .before .before .before .before .before .before .before .before .before .before .before .before .before .before .before .before .before .before .before .before .before .take .ensures) (c .before .before .before .before .before .before .before .before .before .before .before .before .before .before .before .before .before .before .next .given .0 .0) (c .before .before .before .before .before .before .before .before .before .before .before .before .before .before .before .before .before .before .next .given .1) (c .before .before .before .before .before .before .before .before .before .before .before .round .result) (c .before .before .before .before .before .before .before .before .before .before .before .round .last .1 .1 .1 .0) (c .before .before .before .before .before .before .before .before .before .before .before .round .last .1 .1 .1 .1 .1 .1 .1 .0) (c .before .before .before .before .before .before .before .before .before .before .before .round .last .1 .1 .1 .1 .1 .1 .1 .1 .0) (c .before .before .before .before .before .before .before .before .before .before .before .round .ensures .0 (turn-given (triesIn (a .words .now)) (a .index .now) (a .steps .now) (a .item .now) (a .search) (a .work .now) (a .result .now) v (λ lim q. tries-few (a .words .now) (d .readable) lim (viewOf (v .graph)) q) (l .on) (l .steps) (l .item) (l .work) (l .result) (l .laid) (l .inv .0) (l .inv .4 d v) (c .before .before .before .before .before .before .before .before .before .before .before .before .before .before .before .before .before .before .before .before .before .before .before .before .take .result) (c .before .before .before .before .before .before .before .before .before .before .before .before .before .before .before .before .before .before .before .before .before .before .before .before .take .last .1 .1 .0) (c .before .before .before .before .before .before .before .before .before .before .before .before .before .before .before .before .before .before .before .before .before .before .before .before .take .last .1 .0) (c .before .before .before .before .before .before .before .before .before .before .before .before .before .before .before .before .before .before .before .before .before .before .before .before .take .ensures) (c .before .before .before .before .before .before .before .before .before .before .before .before .before .before .before .before .before .before .next .given .0 .0) (c .before .before .before .before .before .before .before .before .before .before .before .before .before .before .before .before .before .before .next .given .1))) (c .before .s .given .0 .0) (c .before .s .given .1) (c .before .before .before .before .before .before .before .before .before .before .before .round .last .1 .1 .1 .1 .0) (c .before .before .before .before .before .before .before .before .before .before .before .round .ensures .1 (turn-given (triesIn (a .words .now)) (a .index .now) (a .steps .now) (a .item .now) (a .search) (a .work .now) (a .result .now) v (λ lim q. tries-few (a .words .now) (d .readable) lim (viewOf (v .graph)) q) (l .on) (l .steps) (l .item) (l .work) (l .result) (l .laid) (l .inv .0) (l .inv .4 d v) (c .before .before .before .before .before .before .before .before .before .before .before .before .before .before .before .before .before .before .before .before .before .before .before .before .take .result) (c .before .before .before .before .before .before .before .before .before .before .before .before .before .before .before .before .before .before .before .before .before .before .before .before .take .last .1 .1 .0) (c .before .before .before .before .before .before .before .before .before .before .before .before .before .before .before .before .before .before .before .before .before .before .before .before .take .last .1 .0) (c .before .before .before .before .before .before .before .before .before .before .before .before .before .before .before .before .before .before .before .before .before .before .before .before .take .ensures) (c .before .before .before .before .before .before .before .before .before .before .before .before .before .before .before .before .before .before .next .given .0 .0) (c .before .before .before .before .before .before .before .before .before .before .before .before .before .before .before .before .before .before .next .given .1))) (getD (c .before .before .before .before .before .before .before .before .before .before .before .before .before .before .before .before .before .before .before .before .before .before .before .before .take .last .1 .1 .0) 0 0) refl)
 
 -- src/stitched.rt:157:36
 enum-known-r : tie.Need-enum-known-r Inv-loop μ-loop
@@ -124,7 +124,7 @@ same-length-12 c = c .before .before .before .before .before .before .before .be
 
 -- src/stitched.rt:157:42
 returns-3 : tie.Need-returns-3 Inv-loop μ-loop
-returns-3 c = let a = c .before .before .before .before .before .before .before .before .before .before .before .before .before .before .before .before .before .before .before .before .before .before .before .before .before .before .before .before .before .before .before .before .before .before .before .args in let p = c .before .before .before .before .before .before .before .before .before .before .before .before .before .before .before .before .before .before .before .before .before .before .before .before .before .before .before .before .before .before .before .before .before .before .before .pre in let l = c .before .before .before .before .before .before .before .before .before .before .before .before .before .before .before .before .before .before .before .before .before .before .before .before .before .before .before .loop in λ v. turn-refused (triesIn (a .words .now)) (a .index .now) (a .steps .now) (a .item .now) (a .search) (a .work .now) (a .result .now) v (λ lim q. tries-few (a .words .now) ((p .0) .readable) lim (viewOf (v .graph)) q) (l .on) (l .steps) (l .item) (l .work) (l .result) (l .laid) (l .inv .0) (l .inv .4 (p .0) v) (c .before .before .before .before .before .before .before .before .before .before .before .before .before .before .before .before .before .before .before .before .before .before .before .before .take .result) (c .before .before .before .before .before .before .before .before .before .before .before .before .before .before .before .before .before .before .before .before .before .before .before .before .take .last .1 .1 .0) (c .before .before .before .before .before .before .before .before .before .before .before .before .before .before .before .before .before .before .before .before .before .before .before .before .take .last .1 .0) (c .before .before .before .before .before .before .before .before .before .before .before .before .before .before .before .before .before .before .before .before .before .before .before .before .take .ensures) (c .before .before .before .before .before .before .before .before .before .before .before .before .before .before .before .before .before .before .next .given .0 .0) (c .before .before .before .before .before .before .before .before .before .before .before .before .before .before .before .before .before .before .next .given .1) (c .before .before .before .before .before .before .before .before .before .before .before .round .result) (c .before .before .before .before .before .before .before .before .before .before .before .round .last .1 .1 .1 .0) (c .before .before .before .before .before .before .before .before .before .before .before .round .last .1 .1 .1 .1 .1 .1 .1 .0) (c .before .before .before .before .before .before .before .before .before .before .before .round .last .1 .1 .1 .1 .1 .1 .1 .1 .0) (c .before .before .before .before .before .before .before .before .before .before .before .round .ensures (turn-given (triesIn (a .words .now)) (a .index .now) (a .steps .now) (a .item .now) (a .search) (a .work .now) (a .result .now) v (λ lim q. tries-few (a .words .now) ((p .0) .readable) lim (viewOf (v .graph)) q) (l .on) (l .steps) (l .item) (l .work) (l .result) (l .laid) (l .inv .0) (l .inv .4 (p .0) v) (c .before .before .before .before .before .before .before .before .before .before .before .before .before .before .before .before .before .before .before .before .before .before .before .before .take .result) (c .before .before .before .before .before .before .before .before .before .before .before .before .before .before .before .before .before .before .before .before .before .before .before .before .take .last .1 .1 .0) (c .before .before .before .before .before .before .before .before .before .before .before .before .before .before .before .before .before .before .before .before .before .before .before .before .take .last .1 .0) (c .before .before .before .before .before .before .before .before .before .before .before .before .before .before .before .before .before .before .before .before .before .before .before .before .take .ensures) (c .before .before .before .before .before .before .before .before .before .before .before .before .before .before .before .before .before .before .next .given .0 .0) (c .before .before .before .before .before .before .before .before .before .before .before .before .before .before .before .before .before .before .next .given .1))) (c .before .r .given .0 .0) (c .before .r .given .1)
+returns-3 c = let a = c .before .before .before .before .before .before .before .before .before .before .before .before .before .before .before .before .before .before .before .before .before .before .before .before .before .before .before .before .before .before .before .before .before .before .before .args in let p = c .before .before .before .before .before .before .before .before .before .before .before .before .before .before .before .before .before .before .before .before .before .before .before .before .before .before .before .before .before .before .before .before .before .before .before .pre in let l = c .before .before .before .before .before .before .before .before .before .before .before .before .before .before .before .before .before .before .before .before .before .before .before .before .before .before .before .loop in λ v. turn-refused (triesIn (a .words .now)) (a .index .now) (a .steps .now) (a .item .now) (a .search) (a .work .now) (a .result .now) v (λ lim q. tries-few (a .words .now) ((p .0) .readable) lim (viewOf (v .graph)) q) (l .on) (l .steps) (l .item) (l .work) (l .result) (l .laid) (l .inv .0) (l .inv .4 (p .0) v) (c .before .before .before .before .before .before .before .before .before .before .before .before .before .before .before .before .before .before .before .before .before .before .before .before .take .result) (c .before .before .before .before .before .before .before .before .before .before .before .before .before .before .before .before .before .before .before .before .before .before .before .before .take .last .1 .1 .0) (c .before .before .before .before .before .before .before .before .before .before .before .before .before .before .before .before .before .before .before .before .before .before .before .before .take .last .1 .0) (c .before .before .before .before .before .before .before .before .before .before .before .before .before .before .before .before .before .before .before .before .before .before .before .before .take .ensures) (c .before .before .before .before .before .before .before .before .before .before .before .before .before .before .before .before .before .before .next .given .0 .0) (c .before .before .before .before .before .before .before .before .before .before .before .before .before .before .before .before .before .before .next .given .1) (c .before .before .before .before .before .before .before .before .before .before .before .round .result) (c .before .before .before .before .before .before .before .before .before .before .before .round .last .1 .1 .1 .0) (c .before .before .before .before .before .before .before .before .before .before .before .round .last .1 .1 .1 .1 .1 .1 .1 .0) (c .before .before .before .before .before .before .before .before .before .before .before .round .last .1 .1 .1 .1 .1 .1 .1 .1 .0) (c .before .before .before .before .before .before .before .before .before .before .before .round .ensures .0 (turn-given (triesIn (a .words .now)) (a .index .now) (a .steps .now) (a .item .now) (a .search) (a .work .now) (a .result .now) v (λ lim q. tries-few (a .words .now) ((p .0) .readable) lim (viewOf (v .graph)) q) (l .on) (l .steps) (l .item) (l .work) (l .result) (l .laid) (l .inv .0) (l .inv .4 (p .0) v) (c .before .before .before .before .before .before .before .before .before .before .before .before .before .before .before .before .before .before .before .before .before .before .before .before .take .result) (c .before .before .before .before .before .before .before .before .before .before .before .before .before .before .before .before .before .before .before .before .before .before .before .before .take .last .1 .1 .0) (c .before .before .before .before .before .before .before .before .before .before .before .before .before .before .before .before .before .before .before .before .before .before .before .before .take .last .1 .0) (c .before .before .before .before .before .before .before .before .before .before .before .before .before .before .before .before .before .before .before .before .before .before .before .before .take .ensures) (c .before .before .before .before .before .before .before .before .before .before .before .before .before .before .before .before .before .before .next .given .0 .0) (c .before .before .before .before .before .before .before .before .before .before .before .before .before .before .before .before .before .before .next .given .1))) (c .before .r .given .0 .0) (c .before .r .given .1)
 
 pub drive-spec : {M : Type 1} → statement M
 drive-spec =

@@ -5,6 +5,8 @@ use lib.ListN.{length}
 use Rattle.stepping.specs.declared.step.Step.{Step}
 use Rattle.stitching_trial.specs.Links.{Linked}
 use Rattle.stitching_trial.specs.Links.Laws.{left}
+use Rattle.search_state.specs.declared.search.Going.{Going}
+use Rattle.search_state.specs.Searches.{Clears}
 use Rattle.stitching.specs.Expansions.{Given}
 use Rattle.stitching.specs.Expansions.Laws.{given-short}
 use Rattle.stitching.specs.Expansions.Partials.{Mid, mid-start, mid-given, mid-tryable, mid-less, mid-again, mid-refused, mid-end}
@@ -68,7 +70,7 @@ same-length-4 c = c .before .before .before .before .before .before .before .bef
 
 -- src/stitched.rt:108:13
 returns : tie.Need-returns Inv-loop μ-loop
-returns c = let a = c .before .before .before .before .before .before .before .before .before .before .before .before .before .before .before .before .before .before .before .before .before .before .before .before .before .before .before .args in let p = c .before .before .before .before .before .before .before .before .before .before .before .before .before .before .before .before .before .before .before .before .before .before .before .before .before .before .before .pre in let l = c .before .before .before .before .before .before .before .before .before .before .before .before .before .before .before .before .loop in λ v. mid-refused (a .words .now) (a .links .now) (p .0) 549755813888 (a .index .now) (a .steps .now) (a .item .now) (a .k) (a .search) (a .work .now) (a .result .now) v (l .on) (l .steps) (l .item) (l .work) (l .result) (l .link) (l .inv .0) (l .inv .1) (l .inv .4 (p .0) v) (omega (arith, c .before .before .before .before .before .before .before .before .before .before .before .before .before .before .before .loop-test .taken)) 1099511627776 (omega arith) (c .before .before .before .before .before .before .before .before .before .before .try-partial .result) (c .before .before .before .before .before .before .before .before .before .before .try-partial .last .1 .1 .0) (c .before .before .before .before .before .before .before .before .before .before .try-partial .last .1 .1 .1 .0) (c .before .before .before .before .before .before .before .before .before .before .try-partial .last .1 .1 .1 .1 .1 .1 .1 .0) (c .before .before .before .before .before .before .before .before .before .before .try-partial .last .1 .1 .1 .1 .1 .1 .1 .1 .0) ((c .before .before .before .before .before .before .before .before .before .before .try-partial .ensures) (mid-given (a .words .now) (a .links .now) (p .0) 549755813888 (a .index .now) (a .steps .now) (a .item .now) (a .k) (a .search) (a .work .now) (a .result .now) v (l .on) (l .steps) (l .item) (l .work) (l .result) (l .link) (l .inv .0) (l .inv .1) (l .inv .4 (p .0) v) 1099511627776 (omega arith))) (c .enum-told .given .0 .0) (c .enum-told .given .1)
+returns c = let a = c .before .before .before .before .before .before .before .before .before .before .before .before .before .before .before .before .before .before .before .before .before .before .before .before .before .before .before .args in let p = c .before .before .before .before .before .before .before .before .before .before .before .before .before .before .before .before .before .before .before .before .before .before .before .before .before .before .before .pre in let l = c .before .before .before .before .before .before .before .before .before .before .before .before .before .before .before .before .loop in (λ v. mid-refused (a .words .now) (a .links .now) (p .0) 549755813888 (a .index .now) (a .steps .now) (a .item .now) (a .k) (a .search) (a .work .now) (a .result .now) v (l .on) (l .steps) (l .item) (l .work) (l .result) (l .link) (l .inv .0) (l .inv .1) (l .inv .4 (p .0) v) (omega (arith, c .before .before .before .before .before .before .before .before .before .before .before .before .before .before .before .loop-test .taken)) 1099511627776 (omega arith) (c .before .before .before .before .before .before .before .before .before .before .try-partial .result) (c .before .before .before .before .before .before .before .before .before .before .try-partial .last .1 .1 .0) (c .before .before .before .before .before .before .before .before .before .before .try-partial .last .1 .1 .1 .0) (c .before .before .before .before .before .before .before .before .before .before .try-partial .last .1 .1 .1 .1 .1 .1 .1 .0) (c .before .before .before .before .before .before .before .before .before .before .try-partial .last .1 .1 .1 .1 .1 .1 .1 .1 .0) ((c .before .before .before .before .before .before .before .before .before .before .try-partial .ensures) (mid-given (a .words .now) (a .links .now) (p .0) 549755813888 (a .index .now) (a .steps .now) (a .item .now) (a .k) (a .search) (a .work .now) (a .result .now) v (l .on) (l .steps) (l .item) (l .work) (l .result) (l .link) (l .inv .0) (l .inv .1) (l .inv .4 (p .0) v) 1099511627776 (omega arith))) (c .enum-told .given .0 .0) (c .enum-told .given .1), λ v. subst (λ (g : Going). Clears g (c .before .before .before .before .before .before .before .before .before .before .try-partial .last .1 .1 .1 .0)) (sym (c .enum-told .given .1)) tt)
 
 -- src/stitched.rt:111:9
 next-requires : tie.Need-next-requires Inv-loop μ-loop
@@ -100,7 +102,7 @@ same-length-8 c = c .before .loop .inv .3
 
 -- src/stitched.rt:88:1
 returns-2 : tie.Need-returns-2 Inv-loop μ-loop
-returns-2 c = let a = c .before .before .before .before .before .before .before .before .before .before .before .before .args in let p = c .before .before .before .before .before .before .before .before .before .before .before .before .pre in let l = c .before .loop in λ v. mid-end (a .words .now) (a .links .now) (p .0) 549755813888 (a .index .now) (a .steps .now) (a .item .now) (a .k) (a .search) (a .work .now) (a .result .now) v (l .on) (l .steps) (l .item) (l .work) (l .result) (l .link) (l .inv .0) (l .inv .1) (l .inv .4 (p .0) v) (omega (arith, c .loop-test .left))
+returns-2 c = let a = c .before .before .before .before .before .before .before .before .before .before .before .before .args in let p = c .before .before .before .before .before .before .before .before .before .before .before .before .pre in let l = c .before .loop in (λ v. mid-end (a .words .now) (a .links .now) (p .0) 549755813888 (a .index .now) (a .steps .now) (a .item .now) (a .k) (a .search) (a .work .now) (a .result .now) v (l .on) (l .steps) (l .item) (l .work) (l .result) (l .link) (l .inv .0) (l .inv .1) (l .inv .4 (p .0) v) (omega (arith, c .loop-test .left)), λ v. l .inv .4 (p .0) v .clear)
 
 pub expand-spec : {M : Type 1} → statement M
 expand-spec =

@@ -57,7 +57,7 @@ same-length-4 c = search needs
 
 -- src/stitched.rt:111:1
 returns : tie.Need-returns
-returns c = let a = c .before .before .before .before .before .before .before .before .before .before .before .before .before .before .before .before .before .before .before .before .before .before .before .before .before .before .before .args in let p = c .before .before .before .before .before .before .before .before .before .before .before .before .before .before .before .before .before .before .before .before .before .before .before .before .before .before .before .pre in λ v. rounded (a .words .now) 549755813888 (a .index .now) (a .steps .now) (a .item .now) (a .laid) (a .search) (a .work .now) (a .result .now) v (getD (a .item .now) 0 0) refl (c .before .before .before .before .before .before .before .before .before .before .before .before .before .before .before .retrace .last .1 .0) (c .before .before .before .before .before .before .before .before .before .before .before .before .before .before .before .retrace .kept .1 .0) (c .before .before .before .before .before .before .before .before .before .before .before .before .before .before .before .retrace .ensures) (c .before .before .before .before .before .before .before .before .expand .result) (c .before .before .before .before .before .before .before .before .expand .last .1 .1 .1 .0) (c .before .before .before .before .before .before .before .before .expand .last .1 .1 .1 .1 .1 .1 .1 .0) (c .before .before .before .before .before .before .before .before .expand .last .1 .1 .1 .1 .1 .1 .1 .1 .0) (c .before .before .before .before .before .before .before .before .expand .ensures (round-given (a .words .now) 549755813888 (a .index .now) (a .steps .now) (a .item .now) (a .laid) (a .search) (a .work .now) (a .result .now) v (getD (a .item .now) 0 0) refl (c .before .before .before .before .before .before .before .before .before .before .before .before .before .before .before .retrace .last .1 .0) (c .before .before .before .before .before .before .before .before .before .before .before .before .before .before .before .retrace .kept .1 .0) (c .before .before .before .before .before .before .before .before .before .before .before .before .before .before .before .retrace .ensures)))
+returns c = let a = c .before .before .before .before .before .before .before .before .before .before .before .before .before .before .before .before .before .before .before .before .before .before .before .before .before .before .before .args in let p = c .before .before .before .before .before .before .before .before .before .before .before .before .before .before .before .before .before .before .before .before .before .before .before .before .before .before .before .pre in (λ v. rounded (a .words .now) 549755813888 (a .index .now) (a .steps .now) (a .item .now) (a .laid) (a .search) (a .work .now) (a .result .now) v (getD (a .item .now) 0 0) refl (c .before .before .before .before .before .before .before .before .before .before .before .before .before .before .before .retrace .last .1 .0) (c .before .before .before .before .before .before .before .before .before .before .before .before .before .before .before .retrace .kept .1 .0) (c .before .before .before .before .before .before .before .before .before .before .before .before .before .before .before .retrace .ensures) (c .before .before .before .before .before .before .before .before .expand .result) (c .before .before .before .before .before .before .before .before .expand .last .1 .1 .1 .0) (c .before .before .before .before .before .before .before .before .expand .last .1 .1 .1 .1 .1 .1 .1 .0) (c .before .before .before .before .before .before .before .before .expand .last .1 .1 .1 .1 .1 .1 .1 .1 .0) (c .before .before .before .before .before .before .before .before .expand .ensures .0 (round-given (a .words .now) 549755813888 (a .index .now) (a .steps .now) (a .item .now) (a .laid) (a .search) (a .work .now) (a .result .now) v (getD (a .item .now) 0 0) refl (c .before .before .before .before .before .before .before .before .before .before .before .before .before .before .before .retrace .last .1 .0) (c .before .before .before .before .before .before .before .before .before .before .before .before .before .before .before .retrace .kept .1 .0) (c .before .before .before .before .before .before .before .before .before .before .before .before .before .before .before .retrace .ensures))), λ v. c .before .before .before .before .before .before .before .before .expand .ensures .1 (round-given (a .words .now) 549755813888 (a .index .now) (a .steps .now) (a .item .now) (a .laid) (a .search) (a .work .now) (a .result .now) v (getD (a .item .now) 0 0) refl (c .before .before .before .before .before .before .before .before .before .before .before .before .before .before .before .retrace .last .1 .0) (c .before .before .before .before .before .before .before .before .before .before .before .before .before .before .before .retrace .kept .1 .0) (c .before .before .before .before .before .before .before .before .before .before .before .before .before .before .before .retrace .ensures)))
 
 pub round-spec : {M : Type 1} → statement M
 round-spec =

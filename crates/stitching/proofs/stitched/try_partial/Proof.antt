@@ -87,7 +87,7 @@ with-edges-requires c κs = let a = c .before .before .before .before .before .b
 
 -- src/stitched.rt:82:13
 extend-requires : tie.Need-extend-requires
-extend-requires c κs = let a = c .before .before .before .before .before .before .before .before .before .before .before .before .before .before .before .before .before .before .before .before .before .before .before .before .before .args in let p = c .before .before .before .before .before .before .before .before .before .before .before .before .before .before .before .before .before .before .before .before .before .before .before .before .before .pre in extended-given 1099511627776 (a .index .now) (a .steps .now) (a .item .now) (a .k) (a .search) (a .work .now) (a .result .now) (p .1) (take (a .k + 1 - 1) (drop 1 (a .item .now))) refl (c .before .before .before .before .before .before .before .before .before .before .before .before .before .before .before .before .edges .result .now) (edges-few (a .words .now) (a .i) (p .0) (c .before .before .before .before .before .before .before .before .before .before .before .before .before .before .before .before .edges .result .now) (c .before .before .before .before .before .before .before .before .before .before .before .before .before .before .before .before .edges .ensures)) (a .words .now) (a .i) (c .before .before .before .before .before .before .before .before .before .before .before .before .before .before .before .before .edges .ensures) (c .before .before .before .before .before .before .before .before .before .before .before .before .judge .result) (c .before .before .before .before .before .before .before .before .before .before .before .before .judge .last .1 .0) ((c .before .before .before .before .before .before .before .before .before .before .before .before .judge .ensures) (given-judging 1099511627776 (a .index .now) (a .steps .now) (a .item .now) (a .k) (a .search) (a .work .now) (a .result .now) (p .1) (take (a .k + 1 - 1) (drop 1 (a .item .now))) refl (c .before .before .before .before .before .before .before .before .before .before .before .before .before .before .before .before .edges .result .now) (edges-few (a .words .now) (a .i) (p .0) (c .before .before .before .before .before .before .before .before .before .before .before .before .before .before .before .before .edges .result .now) (c .before .before .before .before .before .before .before .before .before .before .before .before .before .before .before .before .edges .ensures)))) (c .before .before .before .before .before .before .before .before .complete .given .0 .0) (c .before .before .before .before .before .before .before .before .complete .given .1) (c .before .before .before .before .before .with-edges .last .0) (c .before .before .before .before .before .with-edges .ensures) (omega arith) (c .before .before .before .before .before .with-edges .kept .0)
+extend-requires c κs = let a = c .before .before .before .before .before .before .before .before .before .before .before .before .before .before .before .before .before .before .before .before .before .before .before .before .before .args in let p = c .before .before .before .before .before .before .before .before .before .before .before .before .before .before .before .before .before .before .before .before .before .before .before .before .before .pre in extended-given 1099511627776 (a .index .now) (a .steps .now) (a .item .now) (a .k) (a .search) (a .work .now) (a .result .now) (p .1) (take (a .k + 1 - 1) (drop 1 (a .item .now))) refl (c .before .before .before .before .before .before .before .before .before .before .before .before .before .before .before .before .edges .result .now) (edges-few (a .words .now) (a .i) (p .0) (c .before .before .before .before .before .before .before .before .before .before .before .before .before .before .before .before .edges .result .now) (c .before .before .before .before .before .before .before .before .before .before .before .before .before .before .before .before .edges .ensures)) (a .words .now) (a .i) (c .before .before .before .before .before .before .before .before .before .before .before .before .before .before .before .before .edges .ensures) (c .before .before .before .before .before .before .before .before .before .before .before .before .judge .result) (c .before .before .before .before .before .before .before .before .before .before .before .before .judge .last .1 .0) ((c .before .before .before .before .before .before .before .before .before .before .before .before .judge .ensures) (given-judging 1099511627776 (a .index .now) (a .steps .now) (a .item .now) (a .k) (a .search) (a .work .now) (a .result .now) (p .1) (take (a .k + 1 - 1) (drop 1 (a .item .now))) refl (c .before .before .before .before .before .before .before .before .before .before .before .before .before .before .before .before .edges .result .now) (edges-few (a .words .now) (a .i) (p .0) (c .before .before .before .before .before .before .before .before .before .before .before .before .before .before .before .before .edges .result .now) (c .before .before .before .before .before .before .before .before .before .before .before .before .before .before .before .before .edges .ensures)))) (c .before .before .before .before .before .before .before .before .complete .given .0 .0) (c .before .before .before .before .before .before .before .before .complete .given .1) (c .before .before .before .before .before .with-edges .last .0) (c .before .before .before .before .before .with-edges .ensures) (omega arith)
 
 -- src/stitched.rt:58:1
 same-length : tie.Need-same-length

@@ -1,4 +1,4 @@
-use mathlib.Core.Path.{sym, subst, _∙_}
+use mathlib.Core.Path.{sym, subst}
 use mathlib.Core.Bool.{Bool}
 use Rattle.semantics.specs.declared.refusal.SearchRefusal.the-variants as Search
 use Rattle.search_state.specs.declared.search.Going.the-variants as Going
@@ -10,7 +10,7 @@ use Rattle.search_state.proofs.search.Search.extend.Tie as tie
 
 -- src/search.rt:73:17
 record-complete-requires : tie.Need-record-complete-requires
-record-complete-requires c κs = let a = c .before .before .before .before .before .before .args in let p = c .before .before .before .before .before .before .pre in (p .fits, p .room, p .slot, p .few)
+record-complete-requires c κs = let a = c .before .before .before .before .before .before .args in let p = c .before .before .before .before .before .before .pre in (p .fits, p .room, p .pushable .slot, p .few)
 
 -- src/search.rt:74:32
 enum-known-recorded : tie.Need-enum-known-recorded
@@ -50,7 +50,7 @@ returns-2 c = let a = c .before .before .before .before .before .before .before 
 
 -- src/search.rt:79:9
 push-requires-2 : tie.Need-push-requires-2
-push-requires-2 c κs = let a = c .before .before .before .before .before .args in let p = c .before .before .before .before .before .pre in (p .framed, p .slot ∙ sym (p .sized))
+push-requires-2 c κs = let a = c .before .before .before .before .before .args in let p = c .before .before .before .before .before .pre in p .pushable
 
 -- src/search.rt:61:5
 same-length-4 : tie.Need-same-length-4

@@ -8,7 +8,7 @@ use Rattle.search_state.proofs.search.Search.take.Tie as tie
 
 -- src/search.rt:58:13
 pop-requires : tie.Need-pop-requires
-pop-requires c κs = search needs
+pop-requires c κs = let p = c .before .before .before .before .before .before .pre in (p .framed, p .short, p .slot, p .clear)
 
 -- src/search.rt:59:26
 enum-known-popped : tie.Need-enum-known-popped

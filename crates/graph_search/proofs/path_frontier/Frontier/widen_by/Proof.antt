@@ -1,0 +1,51 @@
+-- `widen_by` meets its contract: the slots are laid out anew, and what waits stays.
+use mathlib.Core.Path.{refl}
+use Rattle.graph_search.specs.Frontier.{widened}
+use native.Mathlib.Omega.{arith}
+use Rattle.graph_search.specs.Frontier.Widening.{fewer-slots, widens}
+use borrow.Author.Needs.{needs}
+use Rattle.graph_search.proofs.path_frontier.Frontier.widen_by.Statement.{statement}
+use Rattle.graph_search.proofs.path_frontier.Frontier.widen_by.Tie as tie
+
+in-use-requires : tie.Need-in-use-requires
+in-use-requires c κs = let p = c .before .before .pre in omega (arith, p .0 .inside)
+
+sub-widen-slots : tie.Need-sub-widen-slots
+sub-widen-slots c = search needs
+
+part-widen-slots-start : tie.Need-part-widen-slots-start
+part-widen-slots-start c = search needs
+
+part-widen-slots-end : tie.Need-part-widen-slots-end
+part-widen-slots-end c = search needs
+
+widen-slots-requires : tie.Need-widen-slots-requires
+widen-slots-requires c κs =
+    let a = c .before .before .before .before .before .args in
+    let p = c .before .before .before .before .before .pre in
+    (fewer-slots (a .words) (c .before .before .in-use .result) (a .self .capacity) (a .work .now) (c .before .before .in-use .ensures .0) (p .1 .room), search needs, p .1 .longer)
+
+same-length : tie.Need-same-length
+same-length c = search needs
+
+same-length-2 : tie.Need-same-length-2
+same-length-2 c = search needs
+
+returns : tie.Need-returns
+returns c =
+    let a = c .before .before .before .before .before .before .before .before .before .before .args in
+    let p = c .before .before .before .before .before .before .before .before .before .before .pre in
+    widens (a .self) (a .work .now) (p .0) (a .words) (p .1) (c .before .before .before .before .before .before .before .in-use .result) (c .before .before .before .before .before .before .before .in-use .ensures .0) (c .before .before .before .before .before .before .before .in-use .ensures .1) (c .before .before .before .before .widen-slots .last .0) (c .before .before .before .before .widen-slots .kept .0) (c .before .before .before .before .widen-slots .ensures) (widened (a .self) (a .words)) refl
+
+pub widen-by-spec : {M : Type 1} → statement M
+widen-by-spec =
+    tie.close
+    (tie.spec
+    in-use-requires
+    sub-widen-slots
+    part-widen-slots-start
+    part-widen-slots-end
+    widen-slots-requires
+    same-length
+    same-length-2
+    returns)
