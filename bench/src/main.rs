@@ -58,7 +58,7 @@ fn run_only(words: &[String], bytes: &[u8], settings: &Settings) {
         "load" => theirs::load_often(bytes, times * settings.calls(job)),
         "ours" => {
             let mut ours = ours::Ours::new(bytes, settings);
-            let slots = ours.fewest_slots(job);
+            let slots = ours.slots(job);
             (0..times).for_each(|_| drop(ours.run(job, slots)));
         }
         _ => {

@@ -1,5 +1,6 @@
 //! The proved library's side. The areas have the fewest slots in which no call
-//! is refused 31 or 32, and the database those that are used.
+//! is refused 31 or 32, unless SLOTS says how many, and the database those that
+//! are used.
 
 use crate::settings::Settings;
 use crate::{Job, Told};
@@ -68,7 +69,7 @@ impl<'a> Ours<'a> {
             work: Vec::new(),
             result: Vec::new(),
         };
-        let slots = ours.fewest_slots(Job::Replace);
+        let slots = ours.slots(Job::Replace);
         ours.run(Job::Replace, slots);
         // Words behind the used ones would be cleared before every run of the
         // replacement, and what the caches hold of a small job with them.
@@ -77,8 +78,17 @@ impl<'a> Ours<'a> {
         ours
     }
 
+    /// The slots that are lent to a job: as many as SLOTS in the environment
+    /// says, or the fewest in which it is done.
+    pub fn slots(&mut self, job: Job) -> usize {
+        std::env::var("SLOTS").map_or_else(
+            |_| self.fewest_slots(job),
+            |slots| slots.parse().expect("SLOTS is a number"),
+        )
+    }
+
     /// The fewest slots in which a job is done: doubled until it is, then halved in on.
-    pub fn fewest_slots(&mut self, job: Job) -> usize {
+    fn fewest_slots(&mut self, job: Job) -> usize {
         let mut enough = 1;
         while enough < MOST_SLOTS && !self.is_done(job, enough) {
             enough *= 2;

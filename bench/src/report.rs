@@ -84,7 +84,7 @@ fn compare_job(
     theirs: &mut Theirs,
 ) -> bool {
     let calls = settings.calls(job);
-    let slots = ours.fewest_slots(job);
+    let slots = ours.slots(job);
     let (_, our_answers) = ours.run(job, slots);
     let (_, their_answers) = theirs.run(job);
     let [our_time, their_time, checks, loads] = best_of([
