@@ -4,6 +4,7 @@ ghost use mathlib.Core.Path.{_≡_};
 ghost use mathlib.Core.Logic.{_⊎_};
 ghost use Prim.Native.Nat.{_+_, _≤_, _<_};
 ghost use lib.ListN.{length};
+ghost use Rattle.semantics.specs.Words.{zeros};
 ghost use Rattle.words.specs.Slots.{IsSlot};
 ghost use Rattle.graph_search.specs.Frontier.{empty, Framed, Front, Back, Pushes, Pops, Wider, Widens, MakesRoom};
 use semantics::bounds::SLOT_WORDS;
@@ -144,10 +145,10 @@ impl Frontier {
         self.capacity
     }
 
-    // The slots get more words each, so that longer items may wait: those that wait stay, with zeros behind. The lent slot is for the move. Slots
-    // that are not in use are not looked at, as a caller may lend many more than wait.
+    // The slots get more words each, so that longer items may wait: those that wait stay, with zeros behind. The lent slot is for the move, and zero.
+    // Slots that are not in use are not looked at, as a caller may lend many more than wait.
     fn widen_by(self, work: &mut [u32], words: usize, slot: &mut [u32]) -> Frontier
-        requires { ⌜ Framed self (now work) × Wider self (now work) words × (words ≤ length (now slot)) ⌝ }
+        requires { ⌜ Framed self (now work) × Wider self (now work) words × (words ≤ length (now slot)) × (now slot ≡ zeros (length (now slot))) ⌝ }
         ensures { λ r. ⌜ Widens self (now (work .entry)) words r (now (work .exit)) ⌝ }
     {
         let used = self.in_use();

@@ -3,12 +3,13 @@
 // first, and computed again and filed when all refusals are past; the second computation ends with the last of them, and where none was
 // found there is none.
 ghost use mathlib.Core.Path.{_≡_};
+ghost use Prim.Native.Nat.{_≤_};
 ghost use Rattle.semantics.specs.Limits.{base};
-ghost use Rattle.semantics.specs.Image.{symbolBytes, checkImage};
+ghost use Rattle.semantics.specs.Image.{symbolBytes, nodesOf, edgesOf, checkImage};
 ghost use Rattle.semantics.specs.Told.{toldReplacement};
 ghost use Rattle.semantics.specs.Database.{filesOnly, replaceWords};
 ghost use Rattle.semantics.specs.Calls.{replaceCall};
-ghost use Rattle.storage.specs.Rows.{Takes};
+ghost use Rattle.storage.specs.Rows.{FEW, Takes};
 ghost use Rattle.partial.specs.Requests.{requestOf, askedBy, Computing, FiledTo, Storing, Replacing, Inspecting, replacedOn, inspectedOn, Leaves, Does};
 use crate::compute;
 use crate::compute::Computed;
@@ -157,7 +158,22 @@ fn replace_in(
 }
 
 // A small image gets a small index: zeroing a large one would take longer than the rest.
-fn replace_image(
+pub fn replace_small(
+    image: &[u8],
+    file: u32,
+    config: Config,
+    work: &mut [u32],
+    words: &mut [u32],
+) -> Replacement
+    requires { ⌜ (nodesOf (now image) ≤ FEW) × (edgesOf (now image) ≤ FEW) ⌝ }
+    ensures { λ r. ⌜ Does (replaceCall base filesOnly (checkImage symbolBytes (now (image .entry))) (askedBy config (now (work .entry)) file) (now (words .entry))) r (now (work .exit)) (now (words .exit)) ⌝ }
+{
+    let mut index = [0u32; rows::SMALL];
+    replace_in(image, &mut index, file, config, work, words)
+}
+
+// Any other a large one.
+pub fn replace_large(
     image: &[u8],
     file: u32,
     config: Config,
@@ -166,10 +182,6 @@ fn replace_image(
 ) -> Replacement
     ensures { λ r. ⌜ Does (replaceCall base filesOnly (checkImage symbolBytes (now (image .entry))) (askedBy config (now (work .entry)) file) (now (words .entry))) r (now (work .exit)) (now (words .exit)) ⌝ }
 {
-    if check::is_small(image) {
-        let mut index = [0u32; rows::SMALL];
-        return replace_in(image, &mut index, file, config, work, words);
-    }
     let mut index = [0u32; rows::INDEX];
     replace_in(image, &mut index, file, config, work, words)
 }
@@ -193,5 +205,8 @@ pub fn replace_file(
         length,
         paths,
     };
-    replace_image(image, file.0, config, work, words)
+    if check::is_small(image) {
+        return replace_small(image, file.0, config, work, words);
+    }
+    replace_large(image, file.0, config, work, words)
 }

@@ -33,7 +33,7 @@ pub enum Taken {
 }
 
 // The next slot is copied into the front of the item. Behind it are zeros already: no path that was there had more words than a slot has.
-fn pop(frontier: Frontier, work: &mut [u32], item: &mut [u32]) -> Popped
+pub fn pop(frontier: Frontier, work: &mut [u32], item: &mut [u32]) -> Popped
     requires { ⌜ Framed frontier (now work) × (frontier .length ≤ 128) × IsSlot 128 (now item) × Clear (frontier .length) (now item) ⌝ }
     ensures { λ r. ⌜ PopsInto frontier (now (work .entry)) r (now (item .exit)) (now (work .exit)) ⌝ }
 {

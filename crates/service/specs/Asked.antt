@@ -11,6 +11,7 @@ use Rattle.semantics.specs.declared.search.SearchOrder.{SearchOrder}
 use Rattle.semantics.specs.declared.search.SearchOrder.the-variants as Order
 use Rattle.semantics.specs.declared.search.SearchLimits.{SearchLimits}
 use Rattle.semantics.specs.Calls.{Request, LinearRequest, FileRequest}
+use Rattle.partial_state.specs.declared.extraction.Config.{Config}
 
 abbrev pub orderIf : Bool → SearchOrder
 orderIf true = Order.DepthFirst
@@ -52,6 +53,9 @@ linearBy limits rs node = record { limits = limits; result = length rs; node = n
 
 abbrev pub linearAsked : List ℕ → List ℕ → ℕ → LinearRequest
 linearAsked ns rs node = linearBy (limitsAsked ns) rs node
+
+abbrev pub configAsked : List ℕ → Config
+configAsked ns = record { order = orderAsked ns; length = lengthAsked ns; paths = pathsAsked ns }
 
 -- a file to be replaced with this work area
 abbrev pub fileBy : SearchOrder → Limit → Limit → List ℕ → ℕ → FileRequest

@@ -1,7 +1,8 @@
 // What a call is asked, read from the caller's numbers: specs/Asked.antt.
 ghost use mathlib.Core.Path.{_≡_};
 ghost use lib.ListN.{getD};
-ghost use Rattle.service.specs.Asked.{orderAsked, limitOf, lengthAsked, pathsAsked, completeAsked, limitsAsked};
+ghost use Rattle.service.specs.Asked.{orderAsked, limitOf, lengthAsked, pathsAsked, completeAsked, limitsAsked, configAsked};
+use partial_state::extraction::Config;
 use semantics::search::Limit;
 use semantics::search::SearchLimits;
 use semantics::search::SearchOrder;
@@ -31,16 +32,26 @@ pub fn order(asked: &[u64]) -> SearchOrder
     SearchOrder::BreadthFirst
 }
 
-pub fn length(asked: &[u64]) -> Limit
+fn length(asked: &[u64]) -> Limit
     ensures { λ r. ⌜ r ≡ lengthAsked (now (asked .entry)) ⌝ }
 {
     limit(number(asked, 1), number(asked, 2))
 }
 
-pub fn paths(asked: &[u64]) -> Limit
+fn paths(asked: &[u64]) -> Limit
     ensures { λ r. ⌜ r ≡ pathsAsked (now (asked .entry)) ⌝ }
 {
     limit(number(asked, 3), number(asked, 4))
+}
+
+pub fn config(asked: &[u64]) -> Config
+    ensures { λ r. ⌜ r ≡ configAsked (now (asked .entry)) ⌝ }
+{
+    Config {
+        order: order(asked),
+        length: length(asked),
+        paths: paths(asked),
+    }
 }
 
 fn complete(asked: &[u64]) -> Limit

@@ -17,9 +17,10 @@ use database::fresh;
 use database::layout;
 use database::lookup;
 use partial::replace;
+use semantics::answer::Replacement;
 use semantics::bounds;
-use semantics::graph::FileId;
 use semantics::graph::PartialPathId;
+use storage::check;
 
 // 0; or the refusal.
 #[no_mangle]
@@ -32,6 +33,33 @@ pub extern "C" fn pozhdaghi_fresh(image: &[u8], words: &mut [u32], answer: &mut 
 }
 
 // 0, three counts and two flags; or the refusal.
+fn tell_replacement(replaced: Replacement, answer: &mut [u64])
+    ensures { λ _. ⌜ now (answer .exit) ≡ written (length (now (answer .entry))) (toldReplacement replaced) ⌝ }
+{
+    numbers::write(numbers::of_replacement(replaced), answer);
+}
+
+// A replacement with a large index, which takes any image. What is exported is compiled as a function of its own: a stack frame with a large index
+// has forty pages, and to touch them takes a third of the time of a call on a small image.
+#[no_mangle]
+pub extern "C" fn pozhdaghi_replace_file_large(
+    image: &[u8],
+    file: u32,
+    asked: &[u64],
+    work: &mut [u32],
+    words: &mut [u32],
+    answer: &mut [u64],
+)
+    ensures { λ _. ⌜ now (answer .exit) ≡ written (length (now (answer .entry))) (toldReplacement (replaceCall base filesOnly (checkImage symbolBytes (now (image .entry))) (fileAsked (now (asked .entry)) (now (work .entry)) file) (now (words .entry)) .answer)) ⌝ }
+    ensures { λ _. ⌜ now (work .exit) ≡ replaceCall base filesOnly (checkImage symbolBytes (now (image .entry))) (fileAsked (now (asked .entry)) (now (work .entry)) file) (now (words .entry)) .work ⌝ }
+    ensures { λ _. ⌜ now (words .exit) ≡ replaceCall base filesOnly (checkImage symbolBytes (now (image .entry))) (fileAsked (now (asked .entry)) (now (work .entry)) file) (now (words .entry)) .database ⌝ }
+{
+    let config = asked::config(asked);
+    let replaced = replace::replace_large(image, file, config, work, words);
+    tell_replacement(replaced, answer);
+}
+
+// A replacement, with the index that the image asks for.
 #[no_mangle]
 pub extern "C" fn pozhdaghi_replace_file(
     image: &[u8],
@@ -45,11 +73,13 @@ pub extern "C" fn pozhdaghi_replace_file(
     ensures { λ _. ⌜ now (work .exit) ≡ replaceCall base filesOnly (checkImage symbolBytes (now (image .entry))) (fileAsked (now (asked .entry)) (now (work .entry)) file) (now (words .entry)) .work ⌝ }
     ensures { λ _. ⌜ now (words .exit) ≡ replaceCall base filesOnly (checkImage symbolBytes (now (image .entry))) (fileAsked (now (asked .entry)) (now (work .entry)) file) (now (words .entry)) .database ⌝ }
 {
-    let order = asked::order(asked);
-    let length = asked::length(asked);
-    let paths = asked::paths(asked);
-    let replaced = replace::replace_file(image, FileId(file), order, length, paths, work, words);
-    numbers::write(numbers::of_replacement(replaced), answer);
+    if check::is_small(image) {
+        let config = asked::config(asked);
+        let replaced = replace::replace_small(image, file, config, work, words);
+        tell_replacement(replaced, answer);
+        return;
+    }
+    pozhdaghi_replace_file_large(image, file, asked, work, words, answer);
 }
 
 // Where the edges of a record stand in the words.

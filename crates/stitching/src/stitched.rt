@@ -19,6 +19,7 @@ ghost use Rattle.search_state.specs.Searches.{Clears};
 ghost use Rattle.rounds.specs.Drives.{Rounding, Rounded, Driving, Ends, DrivenTo};
 ghost use Rattle.rounds.specs.Requests.{requestOf, Does};
 ghost use Rattle.stitching.specs.Requests.{triesIn, stitchedOf, foundOf, Sized};
+use crate::onward;
 use database::check;
 use database::check::Inspected;
 use database::layout;
@@ -71,7 +72,7 @@ fn try_partial(
         Trial::Refused(r) => Going::Refused(r),
         Trial::Extended { complete } => {
             grown::with_edges(item, k, edges);
-            search.extend(complete, work, result, item)
+            onward::extend(search, complete, work, result, item)
         }
     }
 }
@@ -144,7 +145,7 @@ fn drive(
     let mut on = search;
     let mut laid: usize = 0;
     loop {
-        match on.take(work, item) {
+        match onward::take(on, work, item) {
             Taken::Over(state) => return Driven::Over(state),
             Taken::TooMany => return Driven::Refused(SearchRefusal::TooManyExpansions),
             Taken::Expand(next) => {

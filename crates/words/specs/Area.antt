@@ -21,7 +21,7 @@ use Rattle.words.specs.Slots.Laws.{put-at, getD-slots, length-slots, slo
 zeros-split : (k m : ℕ) → zeros (k + m) ≡ zeros k ++ zeros m
 zeros-split k m = sym (replicate-append-replicate k m 0)
 
-take-zeros : (k m : ℕ) → k ≤ m → take k (zeros m) ≡ zeros k
+pub take-zeros : (k m : ℕ) → k ≤ m → take k (zeros m) ≡ zeros k
 take-zeros k m h =
     let q : m ≡ k + (m - k) = omega arith in
     ap (λ (j : ℕ). take k (zeros j)) q ∙ ap (take k) (zeros-split k (m - k)) ∙ take-at (zeros k) (zeros (m - k)) k (length-replicate k 0)

@@ -127,12 +127,11 @@ fn widen_slot(area: &mut [u32], short: usize, length: usize, i: usize, slot: &mu
 }
 
 // The first n slots get more words each, with zeros behind. From the last one down, so that none is overwritten before it is read: a longer
-// slot stands no lower than the shorter one of its number.
+// slot stands no lower than the shorter one of its number. The lent slot is zero.
 pub fn widen_slots(area: &mut [u32], short: usize, length: usize, n: usize, slot: &mut [u32])
-    requires { ⌜ SlotsIn length n (now area) × IsSlot length (now slot) × (short ≤ length) ⌝ }
+    requires { ⌜ SlotsIn length n (now area) × IsSlot length (now slot) × (short ≤ length) × (now slot ≡ zeros length) ⌝ }
     ensures { λ _. ⌜ slotsOf length n (now (area .exit)) ≡ map (padded length) (slotsOf short n (now (area .entry))) ⌝ }
 {
-    zero(slot);
     let mut i = n;
     while 0 < i {
         i -= 1;

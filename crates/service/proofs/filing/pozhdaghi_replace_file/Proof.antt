@@ -1,36 +1,31 @@
 -- what is asked is what the numbers say; the answer is what the call tells
-use Prim.Native.Nat.{ℕ}
 use mathlib.Core.Path.{_≡_, ap, _∙_}
-use mathlib.Core.List.{List}
 use lib.ListN.{length}
+use Rattle.semantics.specs.declared.answer.Replacement.{Replacement}
 use Rattle.semantics.specs.Limits.{base}
 use Rattle.semantics.specs.Image.{symbolBytes, checkImage}
 use Rattle.semantics.specs.Database.{filesOnly}
 use Rattle.semantics.specs.Told.{toldReplacement}
 use Rattle.semantics.specs.Calls.{FileRequest, replaceCall}
-use Rattle.service.specs.Asked.{fileBy, fileAsked}
+use Rattle.partial_state.specs.declared.extraction.Config.{Config}
+use Rattle.partial.specs.Requests.{askedBy}
 use Rattle.path_words.specs.Written.{written}
+use Rattle.service.specs.Asked.{fileAsked}
 use borrow.Author.Needs.{needs}
 use Rattle.service.proofs.filing.pozhdaghi_replace_file.Statement.{statement}
 use Rattle.service.proofs.filing.pozhdaghi_replace_file.Tie as tie
 
-order-requires : tie.Need-order-requires
-order-requires c κs = search needs
+is-small-requires : tie.Need-is-small-requires
+is-small-requires c κs = search needs
 
-length-requires : tie.Need-length-requires
-length-requires c κs = search needs
+config-requires : tie.Need-config-requires
+config-requires c κs = search needs
 
-paths-requires : tie.Need-paths-requires
-paths-requires c κs = search needs
+replace-small-requires : tie.Need-replace-small-requires
+replace-small-requires c κs = c .before .before .before .before .is-small .ensures (c .before .before .before .if1 .taken)
 
-replace-file-requires : tie.Need-replace-file-requires
-replace-file-requires c κs = search needs
-
-of-replacement-requires : tie.Need-of-replacement-requires
-of-replacement-requires c κs = search needs
-
-write-requires : tie.Need-write-requires
-write-requires c κs = search needs
+tell-replacement-requires : tie.Need-tell-replacement-requires
+tell-replacement-requires c κs = search needs
 
 same-length : tie.Need-same-length
 same-length c = search needs
@@ -43,30 +38,45 @@ same-length-3 c = search needs
 
 returns : tie.Need-returns
 returns c =
-    let a = c .before .before .before .before .before .before .before .before .before .before .before .before .before .before .before .before .before .before .before .before .args in
-    let s = c .before .before .before .before .before .before .before .before .before .replace-file .ensures in
-    let o = c .before .before .before .before .before .before .before .before .before .before .before .before .before .before .order .ensures in
-    let l = c .before .before .before .before .before .before .before .before .before .before .before .before .before .length .ensures in
-    let p = c .before .before .before .before .before .before .before .before .before .before .before .before .paths .ensures in
-    let e : fileBy (c .before .before .before .before .before .before .before .before .before .before .before .before .before .before .order .result) (c .before .before .before .before .before .before .before .before .before .before .before .before .before .length .result) (c .before .before .before .before .before .before .before .before .before .before .before .before .paths .result) (a .work .now) (a .file) ≡ fileAsked (a .asked .now) (a .work .now) (a .file) = λ j. record { order = o j; length = l j; paths = p j; work = length (a .work .now); file = a .file } in (
-      c .before .before .write .ensures ∙ ap (λ (l : List ℕ). written (length (a .answer .now)) l) (c .before .before .before .before .of-replacement .ensures ∙ s .0 ∙ ap (λ (q : FileRequest). toldReplacement (replaceCall base filesOnly (checkImage symbolBytes (a .image .now)) q (a .words .now) .answer)) e),
+    let a = c .before .before .before .before .before .before .before .before .before .before .before .before .before .before .before .before .before .before .before .args in
+    let s = c .before .before .before .before .before .before .before .before .replace-small .ensures in
+    let e : askedBy (c .before .before .before .before .before .before .before .before .before .before .before .config .result) (a .work .now) (a .file) ≡ fileAsked (a .asked .now) (a .work .now) (a .file) = ap (λ (k : Config). askedBy k (a .work .now) (a .file)) (c .before .before .before .before .before .before .before .before .before .before .before .config .ensures) in (
+      c .before .before .tell-replacement .ensures ∙ ap (λ (x : Replacement). written (length (a .answer .now)) (toldReplacement x)) (s .0) ∙ ap (λ (q : FileRequest). written (length (a .answer .now)) (toldReplacement (replaceCall base filesOnly (checkImage symbolBytes (a .image .now)) q (a .words .now) .answer))) e,
       (
-        s .1 .0 ∙ ap (λ (q : FileRequest). replaceCall base filesOnly (checkImage symbolBytes (a .image .now)) q (a .words .now) .work) e,
-        s .1 .1 ∙ ap (λ (q : FileRequest). replaceCall base filesOnly (checkImage symbolBytes (a .image .now)) q (a .words .now) .database) e,
+        s .1 ∙ ap (λ (q : FileRequest). replaceCall base filesOnly (checkImage symbolBytes (a .image .now)) q (a .words .now) .work) e,
+        s .2 ∙ ap (λ (q : FileRequest). replaceCall base filesOnly (checkImage symbolBytes (a .image .now)) q (a .words .now) .database) e,
       ),
     )
+
+pozhdaghi-replace-file-large-requires : tie.Need-pozhdaghi-replace-file-large-requires
+pozhdaghi-replace-file-large-requires c κs = search needs
+
+same-length-4 : tie.Need-same-length-4
+same-length-4 c = search needs
+
+same-length-5 : tie.Need-same-length-5
+same-length-5 c = search needs
+
+same-length-6 : tie.Need-same-length-6
+same-length-6 c = search needs
+
+returns-2 : tie.Need-returns-2
+returns-2 c = search needs
 
 pub pozhdaghi-replace-file-spec : {M : Type 1} → statement M
 pozhdaghi-replace-file-spec =
     tie.close
     (tie.spec
-    order-requires
-    length-requires
-    paths-requires
-    replace-file-requires
-    of-replacement-requires
-    write-requires
+    is-small-requires
+    config-requires
+    replace-small-requires
+    tell-replacement-requires
     same-length
     same-length-2
     same-length-3
-    returns)
+    returns
+    pozhdaghi-replace-file-large-requires
+    same-length-4
+    same-length-5
+    same-length-6
+    returns-2)

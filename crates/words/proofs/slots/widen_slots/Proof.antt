@@ -20,16 +20,11 @@ Inv-loop area₀ short L n slot₀ i₀ area slot i =
 abbrev μ-loop : tie.MeasureT-loop
 μ-loop area₀ short L n slot₀ i₀ area slot i = i
 
--- src/slots.rt:135:5
-zero-requires : tie.Need-zero-requires Inv-loop μ-loop
-zero-requires c κs = search needs
-
 -- src/slots.rt:137:5
 loop-holds : tie.Need-loop-holds Inv-loop μ-loop
 loop-holds c =
-    let a = c .before .before .before .before .before .before .args in
-    let e : length (a .slot .now) ≡ a .length = c .before .before .before .before .before .before .pre .1 in
-    (refl, search needs, ap (drop (a .short)) (c .before .before .zero .ensures ∙ ap zeros e) ∙ zeros-drop (a .short) (a .length), λ h f. widening-start (a .length) (a .short) (a .n) h (a .area .now) f)
+    let a = c .before .before .args in
+    (refl, search needs, ap (drop (a .short)) (c .before .before .pre .3) ∙ zeros-drop (a .short) (a .length), λ h f. widening-start (a .length) (a .short) (a .n) h (a .area .now) f)
 
 -- src/slots.rt:138:9
 sub-i : tie.Need-sub-i Inv-loop μ-loop
@@ -38,11 +33,11 @@ sub-i c = search needs
 -- src/slots.rt:139:9
 widen-slot-requires : tie.Need-widen-slot-requires Inv-loop μ-loop
 widen-slot-requires c κs =
-    let a = c .before .before .before .before .before .before .before .before .before .before .args in
+    let a = c .before .before .before .before .before .before .args in
     let l = c .before .before .before .loop in
     let q : l .i ≡ l .i - 1 + 1 = omega (arith, c .before .before .loop-test .taken) in
-    let w = subst (Widening (a .length) (a .short) (a .n) (c .before .before .before .before .before .before .before .before .before .before .pre .2) (a .area .now) (c .before .before .before .before .before .before .before .before .before .before .pre .0) (l .area)) q (l .inv .3 (c .before .before .before .before .before .before .before .before .before .before .pre .2) (c .before .before .before .before .before .before .before .before .before .before .pre .0)) in
-    (widening-short (a .length) (a .short) (a .n) (c .before .before .before .before .before .before .before .before .before .before .pre .2) (a .area .now) (c .before .before .before .before .before .before .before .before .before .before .pre .0) (l .area) (l .i - 1) w, widening-long (a .length) (a .short) (a .n) (c .before .before .before .before .before .before .before .before .before .before .pre .2) (a .area .now) (c .before .before .before .before .before .before .before .before .before .before .pre .0) (l .area) (l .i - 1) w, search needs, c .before .before .before .before .before .before .before .before .before .before .pre .2)
+    let w = subst (Widening (a .length) (a .short) (a .n) (c .before .before .before .before .before .before .pre .2) (a .area .now) (c .before .before .before .before .before .before .pre .0) (l .area)) q (l .inv .3 (c .before .before .before .before .before .before .pre .2) (c .before .before .before .before .before .before .pre .0)) in
+    (widening-short (a .length) (a .short) (a .n) (c .before .before .before .before .before .before .pre .2) (a .area .now) (c .before .before .before .before .before .before .pre .0) (l .area) (l .i - 1) w, widening-long (a .length) (a .short) (a .n) (c .before .before .before .before .before .before .pre .2) (a .area .now) (c .before .before .before .before .before .before .pre .0) (l .area) (l .i - 1) w, search needs, c .before .before .before .before .before .before .pre .2)
 
 -- src/slots.rt:137:5
 loop-less : tie.Need-loop-less Inv-loop μ-loop
@@ -51,12 +46,12 @@ loop-less c = search needs
 -- src/slots.rt:137:5
 loop-again : tie.Need-loop-again Inv-loop μ-loop
 loop-again c =
-    let a = c .before .before .before .before .before .before .before .before .before .before .before .before .before .before .before .args in
+    let a = c .before .before .before .before .before .before .before .before .before .before .before .args in
     let l = c .before .before .before .before .before .before .before .before .loop in
     let s = c .before .before .before .before .widen-slot in
     let q : l .i ≡ l .i - 1 + 1 = omega (arith, c .before .before .before .before .before .before .before .loop-test .taken) in
-    let w = subst (Widening (a .length) (a .short) (a .n) (c .before .before .before .before .before .before .before .before .before .before .before .before .before .before .before .pre .2) (a .area .now) (c .before .before .before .before .before .before .before .before .before .before .before .before .before .before .before .pre .0) (l .area)) q (l .inv .3 (c .before .before .before .before .before .before .before .before .before .before .before .before .before .before .before .pre .2) (c .before .before .before .before .before .before .before .before .before .before .before .before .before .before .before .pre .0)) in
-    let c₁ : length (slotAt (a .short) (l .i - 1) (l .area)) ≡ a .short = length-slotAt (a .short) (l .i - 1) (l .area) (widening-short (a .length) (a .short) (a .n) (c .before .before .before .before .before .before .before .before .before .before .before .before .before .before .before .pre .2) (a .area .now) (c .before .before .before .before .before .before .before .before .before .before .before .before .before .before .before .pre .0) (l .area) (l .i - 1) w) in (
+    let w = subst (Widening (a .length) (a .short) (a .n) (c .before .before .before .before .before .before .before .before .before .before .before .pre .2) (a .area .now) (c .before .before .before .before .before .before .before .before .before .before .before .pre .0) (l .area)) q (l .inv .3 (c .before .before .before .before .before .before .before .before .before .before .before .pre .2) (c .before .before .before .before .before .before .before .before .before .before .before .pre .0)) in
+    let c₁ : length (slotAt (a .short) (l .i - 1) (l .area)) ≡ a .short = length-slotAt (a .short) (l .i - 1) (l .area) (widening-short (a .length) (a .short) (a .n) (c .before .before .before .before .before .before .before .before .before .before .before .pre .2) (a .area .now) (c .before .before .before .before .before .before .before .before .before .before .before .pre .0) (l .area) (l .i - 1) w) in (
       search needs,
       search needs,
       ap (drop (a .short)) (s .ensures .0) ∙ drop-at (slotAt (a .short) (l .i - 1) (l .area)) (drop (a .short) (l .slot)) (a .short) c₁ ∙ l .inv .2,
@@ -74,10 +69,10 @@ same-length-2 c = search needs
 -- src/slots.rt:131:1
 returns : tie.Need-returns Inv-loop μ-loop
 returns c =
-    let a = c .before .before .before .before .before .before .before .before .args in
+    let a = c .before .before .before .before .args in
     let l = c .before .loop in
     let q : l .i ≡ 0 = omega (arith, c .loop-test .left) in
-    widening-end (a .length) (a .short) (a .n) (c .before .before .before .before .before .before .before .before .pre .2) (a .area .now) (c .before .before .before .before .before .before .before .before .pre .0) (l .area) (subst (Widening (a .length) (a .short) (a .n) (c .before .before .before .before .before .before .before .before .pre .2) (a .area .now) (c .before .before .before .before .before .before .before .before .pre .0) (l .area)) q (l .inv .3 (c .before .before .before .before .before .before .before .before .pre .2) (c .before .before .before .before .before .before .before .before .pre .0)))
+    widening-end (a .length) (a .short) (a .n) (c .before .before .before .before .pre .2) (a .area .now) (c .before .before .before .before .pre .0) (l .area) (subst (Widening (a .length) (a .short) (a .n) (c .before .before .before .before .pre .2) (a .area .now) (c .before .before .before .before .pre .0) (l .area)) q (l .inv .3 (c .before .before .before .before .pre .2) (c .before .before .before .before .pre .0)))
 
 pub widen-slots-spec : {M : Type 1} → statement M
 widen-slots-spec =
@@ -85,7 +80,6 @@ widen-slots-spec =
     (tie.spec
     Inv-loop
     μ-loop
-    zero-requires
     loop-holds
     sub-i
     widen-slot-requires

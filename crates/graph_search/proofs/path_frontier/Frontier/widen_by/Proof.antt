@@ -1,5 +1,9 @@
 -- `widen_by` meets its contract: the slots are laid out anew, and what waits stays.
-use mathlib.Core.Path.{refl}
+use mathlib.Core.Path.{_≡_, refl, ap, _∙_}
+use Prim.Native.Nat.{_-_}
+use lib.ListN.{length, take}
+use Rattle.semantics.specs.Words.{zeros}
+use Rattle.words.specs.Area.{take-zeros}
 use Rattle.graph_search.specs.Frontier.{widened}
 use native.Mathlib.Omega.{arith}
 use Rattle.graph_search.specs.Frontier.Widening.{fewer-slots, widens}
@@ -23,7 +27,7 @@ widen-slots-requires : tie.Need-widen-slots-requires
 widen-slots-requires c κs =
     let a = c .before .before .before .before .before .args in
     let p = c .before .before .before .before .before .pre in
-    (fewer-slots (a .words) (c .before .before .in-use .result) (a .self .capacity) (a .work .now) (c .before .before .in-use .ensures .0) (p .1 .room), search needs, p .1 .longer)
+    (fewer-slots (a .words) (c .before .before .in-use .result) (a .self .capacity) (a .work .now) (c .before .before .in-use .ensures .0) (p .1 .room), search needs, p .1 .longer, ap (take (a .words - 0)) (p .3) ∙ take-zeros (a .words - 0) (length (a .slot .now)) (omega (arith, p .2)) ∙ ap zeros (let z : a .words - 0 ≡ a .words = omega arith in z))
 
 same-length : tie.Need-same-length
 same-length c = search needs
