@@ -1,13 +1,14 @@
 // Linear search from a reference: at most one edge of each node may be appended, so one path grows and nothing waits.
 // Document 01, "Answer": `try_compute_linear`, "Linear stops at a second appendable edge of one node".
 ghost use mathlib.Core.Path.{_≡_};
+ghost use Prim.Native.Nat.{_≤_};
 ghost use Rattle.semantics.specs.Limits.{base};
 ghost use Rattle.semantics.specs.Graph.{Graph, viewOf};
-ghost use Rattle.semantics.specs.Image.{symbolBytes, checkImage};
+ghost use Rattle.semantics.specs.Image.{symbolBytes, nodesOf, edgesOf, checkImage};
 ghost use Rattle.semantics.specs.Recorded.{recorded, returned};
 ghost use Rattle.semantics.specs.Told.{toldLinearResolution};
 ghost use Rattle.semantics.specs.Calls.{linearCall};
-ghost use Rattle.storage.specs.Rows.{Loaded, Takes};
+ghost use Rattle.storage.specs.Rows.{FEW, Loaded, Takes};
 ghost use Rattle.path.specs.Shadows.Laws.{JumpAt};
 ghost use Rattle.recorded.specs.Beatable.{HoldsGraph};
 ghost use Rattle.recorded.specs.Replies.{replyOf};
@@ -233,6 +234,34 @@ fn search_in(
 }
 
 // A small image gets a small index: zeroing a large one would take longer than the search.
+pub fn search_small(
+    image: &[u8],
+    reference: u32,
+    limits: SearchLimits,
+    reply: Reply,
+    result: &mut [u32],
+) -> LinearResolution
+    requires { ⌜ (nodesOf (now image) ≤ FEW) × (edgesOf (now image) ≤ FEW) ⌝ }
+    ensures { λ r. ⌜ DoesLinear (linearCall base (replyOf reply) (checkImage symbolBytes (now (image .entry))) (linearRequestOf limits (now (result .entry)) reference)) r (now (result .exit)) ⌝ }
+{
+    let mut index = [0u32; rows::SMALL];
+    search_in(image, &mut index, reference, limits, reply, result)
+}
+
+// Any other a large one.
+pub fn search_large(
+    image: &[u8],
+    reference: u32,
+    limits: SearchLimits,
+    reply: Reply,
+    result: &mut [u32],
+) -> LinearResolution
+    ensures { λ r. ⌜ DoesLinear (linearCall base (replyOf reply) (checkImage symbolBytes (now (image .entry))) (linearRequestOf limits (now (result .entry)) reference)) r (now (result .exit)) ⌝ }
+{
+    let mut index = [0u32; rows::INDEX];
+    search_in(image, &mut index, reference, limits, reply, result)
+}
+
 fn search_image(
     image: &[u8],
     reference: u32,
@@ -243,11 +272,9 @@ fn search_image(
     ensures { λ r. ⌜ DoesLinear (linearCall base (replyOf reply) (checkImage symbolBytes (now (image .entry))) (linearRequestOf limits (now (result .entry)) reference)) r (now (result .exit)) ⌝ }
 {
     if check::is_small(image) {
-        let mut index = [0u32; rows::SMALL];
-        return search_in(image, &mut index, reference, limits, reply, result);
+        return search_small(image, reference, limits, reply, result);
     }
-    let mut index = [0u32; rows::INDEX];
-    search_in(image, &mut index, reference, limits, reply, result)
+    search_large(image, reference, limits, reply, result)
 }
 
 // Linear search from a reference, on any bytes and numbers: the returned paths.

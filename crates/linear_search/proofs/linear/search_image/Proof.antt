@@ -1,17 +1,13 @@
 -- `linear_search::linear::search_image`: the index that the image asks for.
 use borrow.Author.Needs.{needs}
-use Rattle.storage.specs.Rows.Laws.{small-takes, large-takes}
 use Rattle.linear_search.proofs.linear.search_image.Statement.{statement}
 use Rattle.linear_search.proofs.linear.search_image.Tie as tie
 
 is-small-requires : tie.Need-is-small-requires
 is-small-requires c κs = search needs
 
-slice-aggregate-search-in : tie.Need-slice-aggregate-search-in
-slice-aggregate-search-in c = search needs
-
-search-in-requires : tie.Need-search-in-requires
-search-in-requires c κs = small-takes (c .before .before .before .before .before .before .args .image .now) (c .before .before .before .is-small .ensures (c .before .before .if1 .taken))
+search-small-requires : tie.Need-search-small-requires
+search-small-requires c κs = c .before .before .is-small .ensures (c .before .if1 .taken)
 
 same-length : tie.Need-same-length
 same-length c = search needs
@@ -19,11 +15,8 @@ same-length c = search needs
 returns : tie.Need-returns
 returns c = search needs
 
-slice-aggregate-search-in-2 : tie.Need-slice-aggregate-search-in-2
-slice-aggregate-search-in-2 c = search needs
-
-search-in-requires-2 : tie.Need-search-in-requires-2
-search-in-requires-2 c κs = large-takes (c .before .before .before .before .before .before .args .image .now)
+search-large-requires : tie.Need-search-large-requires
+search-large-requires c κs = search needs
 
 same-length-2 : tie.Need-same-length-2
 same-length-2 c = search needs
@@ -32,15 +25,4 @@ returns-2 : tie.Need-returns-2
 returns-2 c = search needs
 
 pub search-image-spec : {M : Type 1} → statement M
-search-image-spec =
-    tie.close
-    (tie.spec
-    is-small-requires
-    slice-aggregate-search-in
-    search-in-requires
-    same-length
-    returns
-    slice-aggregate-search-in-2
-    search-in-requires-2
-    same-length-2
-    returns-2)
+search-image-spec = tie.close (tie.spec is-small-requires search-small-requires same-length returns search-large-requires same-length-2 returns-2)
