@@ -65,7 +65,8 @@ The list holds, in this order:
 - files cleared, grown and filed again, on graphs with more nodes and files and
   on smaller ones, in one database;
 - a graph of 2,048 nodes and 4,096 edges in 256 files;
-- random graphs, with random files, limits, areas and databases.
+- random graphs, with random files, limits, areas and databases;
+- words that meet 35 and 34 at once.
 
 All draws are seeded.
 """
@@ -474,6 +475,30 @@ def add_outgrown(cases):
                 cases.lookup(0)
 
 
+def malformed_and_outgrown():
+    """Words that meet 35 and store an N or an F above those of A, so that they meet 34 as well."""
+    nodes, files = len(GRAPH_A.nodes), GRAPH_A.files
+    yield [9, 8, 1, 0]
+    for n, f in ((nodes + 1, files), (nodes, files + 1), (LAST, LAST)):
+        yield [1, n, f] + record(None)[:-1]
+        live = record(PartialPath(0, 2, 4, (0, 1)))
+        for field, value in ((OWNER, min(f + 2, LAST)), (START, n), (COUNT, 0), (COUNT, 128)):
+            words = [1, n, f] + live[:field] + [value] + live[field + 1:]
+            # a file + 1 of 32 bits is never above an F of as many
+            if is_malformed(words):
+                yield words
+
+
+def add_both_refused(cases):
+    """35 comes before 34, and both before the file."""
+    cases.load(GRAPH_A)
+    for words in malformed_and_outgrown():
+        cases.lend(words)
+        cases.replace(0)
+        cases.replace(LAST, "d", work=0)
+        cases.lookup(0)
+
+
 def row(count, last, doubled=None):
     """An exported scope, so many edges in a row along scopes, the last node as given."""
     nodes = [Node(SCOPE, flag=True)] + [Node(SCOPE)] * (count - 1) + [last]
@@ -714,7 +739,8 @@ def add_all(cases):
         "most records": add_most_records,
         "refilings": lambda cases: add_refilings(cases, random.Random(2), chains=14),
         "large graph": lambda cases: add_large_graph(cases, random.Random(3)),
-        "random graphs": lambda cases: add_random_graphs(cases, random.Random(4), graphs=30)}
+        "random graphs": lambda cases: add_random_graphs(cases, random.Random(4), graphs=30),
+        "malformed and outgrown": add_both_refused}
     for name, add in sections.items():
         before, size = cases.sums(), len(cases.written)
         add(cases)

@@ -57,7 +57,10 @@ The list holds, in this order:
   edges into jump beside them;
 - graphs with every kind of node, several jumps and dropped scopes on a path;
 - a graph of 2,048 nodes and 4,096 edges in 256 files;
-- random graphs, with random references, limits and areas.
+- random graphs, with random references, limits and areas;
+- a scope that is passed twice, where an edge that is on the path already stands
+  before or behind the one that goes on: linear search takes no cycle cut for
+  the first edge of a node, nor for the second.
 
 All draws are seeded.
 """
@@ -456,6 +459,32 @@ def worth_while(rng, graph, references):
     return any(each.recorded for each in found) or rng.random() < 0.1
 
 
+# A reference, a scope with a way round over a push, and a way on over a pop to a definition.
+ONCE_ROUND = Graph(1, ROOT_AND_JUMP + [
+    Node(PUSH, symbol=7, flag=True), Node(SCOPE), Node(PUSH, symbol=8), Node(POP, symbol=8),
+    Node(POP, symbol=7, flag=True)],
+    [Edge(2, 3), Edge(3, 4), Edge(4, 3), Edge(3, 5), Edge(5, 6)])
+# The same with the edge on before the edge round, and with a second one behind it.
+ON_FIRST = ONCE_ROUND._replace(
+    edges=[Edge(2, 3), Edge(3, 5), Edge(3, 4), Edge(4, 3), Edge(5, 6)])
+ON_TWICE = ON_FIRST._replace(edges=ON_FIRST.edges + [Edge(3, 5)])
+
+
+def add_passed_twice(cases):
+    """A cycle cut is no edge that linear search appends, neither the first nor the second."""
+    for graph, wanted in ((ONCE_ROUND, ([6, 1, 1, 1], [0, 0, 0], [[0, 1, 2, 3, 4]])),
+                          (ON_FIRST, ([6, 1, 1, 1], [0, 0, 0], [[0, 2, 3, 1, 4]])),
+                          (ON_TWICE, [20, 3])):
+        if model_told(graph, Request(2, True), False) != wanted:
+            raise ValueError(f"{graph}: not {wanted}")
+        cases.load(graph)
+        cases.every(2)
+        for limit in (3, 4, 5):
+            cases.some(2, (limit, None, None))
+            cases.some(2, (None, limit, None))
+        cases.search("L", 2, result=0)
+
+
 def write_files(cases):
     """Both files; the list must hold every refusal of each kind."""
     if len(cases.written) > MOST_BYTES:
@@ -477,7 +506,8 @@ def add_all(cases):
         "areas": add_areas, "long paths": add_long_paths, "wide search": add_wide_search,
         "precedences": add_precedences, "rules": add_rules,
         "large graph": lambda cases: add_large_graph(cases, random.Random(2)),
-        "random graphs": lambda cases: add_random_graphs(cases, random.Random(3), graphs=80)}
+        "random graphs": lambda cases: add_random_graphs(cases, random.Random(3), graphs=80),
+        "passed twice": add_passed_twice}
     for name, add in sections.items():
         before, size = cases.sums(), len(cases.written)
         add(cases)

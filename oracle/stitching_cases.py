@@ -52,7 +52,8 @@ The list holds, in this order:
 - about 4,096 slots;
 - a graph of 2,048 nodes and 4,096 edges in 256 files;
 - databases of one graph read with another: cleared, grown, or smaller (34);
-- random graphs with all their partial paths, and with any slots.
+- random graphs with all their partial paths, and with any slots;
+- words that meet 35 and 34 at once.
 
 All draws are seeded.
 """
@@ -67,8 +68,8 @@ from image_cases import mixed_graph
 from images import (GRAPH_A, GRAPH_B, GRAPH_C, PROGRAM, Oracle, image,
                     random_graph)
 from partial_cases import (KINDS, RUBBISH, TWO_FILES, database_request,
-                           few_paths, filed_on_a, is_malformed, next_graph,
-                           words_told)
+                           few_paths, filed_on_a, is_malformed,
+                           malformed_and_outgrown, next_graph, words_told)
 from partials import (COUNT, EDGES, END, FILES, MOST_RECORDS, NODES, OWNER,
                       RECORD, START, USED, Extraction, PartialPath,
                       check_database, fresh, place, record, replaced, slots)
@@ -537,6 +538,15 @@ def add_scopes(cases):
                 cases.some(reference, (None, count, None), work=100 * SLOT, result=20 * SLOT)
 
 
+def add_both_refused(cases):
+    """35 comes before 34, and both before the reference."""
+    cases.load(GRAPH_A)
+    for words in malformed_and_outgrown():
+        cases.lend(words)
+        cases.some(2)
+        cases.either(LAST, work=0, result=0)
+
+
 def write_files(cases):
     """Both files; the list must hold every refusal of each kind."""
     if len(cases.written) > MOST_BYTES:
@@ -560,7 +570,8 @@ def add_all(cases):
         "most records": add_most_records,
         "large graph": lambda cases: add_large_graph(cases, random.Random(2)),
         "stale": lambda cases: add_stale(cases, random.Random(3), chains=14),
-        "random graphs": lambda cases: add_random_graphs(cases, random.Random(4), graphs=34)}
+        "random graphs": lambda cases: add_random_graphs(cases, random.Random(4), graphs=34),
+        "malformed and outgrown": add_both_refused}
     for name, add in sections.items():
         before, size = cases.sums(), len(cases.written)
         add(cases)

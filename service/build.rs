@@ -9,15 +9,21 @@ use std::process::{exit, Command};
 fn main() {
     println!("cargo:rerun-if-env-changed=POZHDAGHI_LIB_DIR");
     let folder = match env::var_os("POZHDAGHI_LIB_DIR") {
-        Some(folder) => PathBuf::from(folder),
+        Some(folder) => given(PathBuf::from(folder)),
         None => prove(),
     };
+    println!("cargo:rustc-link-search=native={}", folder.display());
+    println!("cargo:rustc-link-lib=static=service");
+}
+
+/// The archive that is given is watched. One that is proved here is not: it is
+/// written by this very build, which would then never be up to date.
+fn given(folder: PathBuf) -> PathBuf {
     println!(
         "cargo:rerun-if-changed={}",
         folder.join("libservice.a").display()
     );
-    println!("cargo:rustc-link-search=native={}", folder.display());
-    println!("cargo:rustc-link-lib=static=service");
+    folder
 }
 
 /// The folder that `rt staticlib` writes to. Without a proof there is no

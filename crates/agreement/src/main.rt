@@ -1,16 +1,18 @@
 // What direct and stitched search record from every reference of an image. The image is read from standard input; its files are filed into a
-// fresh database; then each reference, ascending, is searched by both recorded calls, without limits, with 128 waiting and 128 result slots.
-// Demand 3 says how the two sets agree. It is the contract of `sets::record_both`, and its premise on databases that of `filing::file_all`.
+// fresh database and then, as on a later day, filed again; then each reference, ascending, is searched by both recorded calls, without limits,
+// with 128 waiting and 128 result slots. Demand 3 says how the two sets agree. It is the contract of `demand::sets::record_both`, and its
+// premise on databases that of `demand::filing::file_all` and `refile_all`.
 ghost use mathlib.Core.Path.{_≡_};
 ghost use lib.ListN.{length};
 ghost use Rattle.storage.specs.Rows.{INDEX};
 ghost use Rattle.printing.specs.Areas.{areaWords};
 
-mod filing;
 mod report;
-mod sets;
 
-use filing::file_all;
+use demand::filing::file_all;
+use demand::filing::refile_all;
+use demand::sets::Asked;
+use demand::sets::record_both;
 use libc::STDIN_FILENO;
 use printing::paths::AREA_WORDS;
 use semantics::answer::Checked;
@@ -18,8 +20,6 @@ use semantics::graph::NodeId;
 use semantics::search::Limit;
 use semantics::search::SearchLimits;
 use semantics::search::SearchOrder;
-use sets::Asked;
-use sets::record_both;
 use stepping::node::is_reference;
 use storage::check;
 use storage::rows;
@@ -47,8 +47,9 @@ fn compare_node(
     index: &[u32],
     words: &[u32],
     n: u32,
-    work: &mut [u32],
+    waiting: &mut [u32],
     found: &mut [u32],
+    stitching: &mut [u32],
     joined: &mut [u32],
 )
     requires { ⌜ (length (now index) ≡ INDEX) × (length (now found) ≡ areaWords) × (length (now joined) ≡ areaWords) ⌝ }
@@ -56,7 +57,17 @@ fn compare_node(
     if is_reference(store::node(index, NodeId(n))) {
         let first = unlimited(SearchOrder::BreadthFirst);
         let second = unlimited(SearchOrder::DepthFirst);
-        let answers = record_both(image, words, NodeId(n), first, second, work, found, joined);
+        let answers = record_both(
+            image,
+            words,
+            NodeId(n),
+            first,
+            second,
+            waiting,
+            found,
+            stitching,
+            joined,
+        );
         let direct = answers.direct;
         let stitched = answers.stitched;
         report::tell(n, b"direct", direct, found);
@@ -70,19 +81,34 @@ fn compare_all(
     index: &[u32],
     words: &[u32],
     nodes: u32,
-    work: &mut [u32],
+    waiting: &mut [u32],
     found: &mut [u32],
+    stitching: &mut [u32],
     joined: &mut [u32],
 )
     requires { ⌜ (length (now index) ≡ INDEX) × (length (now found) ≡ areaWords) × (length (now joined) ≡ areaWords) ⌝ }
 {
     for n in 0..nodes {
-        compare_node(image, index, words, n, work, found, joined);
+        compare_node(image, index, words, n, waiting, found, stitching, joined);
     }
 }
 
+// Filed, and filed again: the slots of the first time are dead then.
+fn file_twice(image: &[u8], files: u32, work: &mut [u32], words: &mut [u32]) -> bool {
+    if file_all(image, files, SearchOrder::BreadthFirst, work, words) {
+        return refile_all(image, files, SearchOrder::DepthFirst, work, words);
+    }
+    false
+}
+
 // The image is checked once here, for its files and nodes.
-fn compare_image(image: &[u8], work: &mut [u32], found: &mut [u32], joined: &mut [u32])
+fn compare_image(
+    image: &[u8],
+    waiting: &mut [u32],
+    found: &mut [u32],
+    stitching: &mut [u32],
+    joined: &mut [u32],
+)
     requires { ⌜ (length (now found) ≡ areaWords) × (length (now joined) ≡ areaWords) ⌝ }
 {
     let mut index = [0u32; rows::INDEX];
@@ -94,8 +120,17 @@ fn compare_image(image: &[u8], work: &mut [u32], found: &mut [u32], joined: &mut
             nodes,
             edges: _,
         } => {
-            if file_all(image, files, SearchOrder::BreadthFirst, work, &mut words) {
-                compare_all(image, &index, &words, nodes, work, found, joined);
+            if file_twice(image, files, waiting, &mut words) {
+                compare_all(
+                    image,
+                    &index,
+                    &words,
+                    nodes,
+                    waiting,
+                    found,
+                    stitching,
+                    joined,
+                );
             } else {
                 report::tell_not_filed();
             }
@@ -103,17 +138,30 @@ fn compare_image(image: &[u8], work: &mut [u32], found: &mut [u32], joined: &mut
     }
 }
 
-fn read_and_compare(bytes: &mut [u8], work: &mut [u32], found: &mut [u32], joined: &mut [u32])
+fn read_and_compare(
+    bytes: &mut [u8],
+    waiting: &mut [u32],
+    found: &mut [u32],
+    stitching: &mut [u32],
+    joined: &mut [u32],
+)
     requires { ⌜ (length (now found) ≡ areaWords) × (length (now joined) ≡ areaWords) ⌝ }
 {
     let n = io::read_full(STDIN_FILENO, bytes);
-    compare_image(&bytes[0..n], work, found, joined);
+    compare_image(&bytes[0..n], waiting, found, stitching, joined);
 }
 
 fn main() {
     let mut bytes = [0u8; MOST_BYTES];
-    let mut work = [0u32; AREA_WORDS];
+    let mut waiting = [0u32; AREA_WORDS];
     let mut found = [0u32; AREA_WORDS];
+    let mut stitching = [0u32; AREA_WORDS];
     let mut joined = [0u32; AREA_WORDS];
-    read_and_compare(&mut bytes, &mut work, &mut found, &mut joined);
+    read_and_compare(
+        &mut bytes,
+        &mut waiting,
+        &mut found,
+        &mut stitching,
+        &mut joined,
+    );
 }

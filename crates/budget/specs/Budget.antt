@@ -9,7 +9,6 @@ use Rattle.semantics.specs.declared.search.SearchStats.{SearchStats}
 use Rattle.semantics.specs.Limits.{within, below}
 use Rattle.budget.specs.declared.path_budget.Budget.{Budget}
 use Rattle.budget.specs.declared.path_budget.Admitted.{Admitted}
-use Rattle.budget.specs.declared.path_budget.Admissions.{Admissions}
 pub mod Laws
 
 -- no limits, and nothing counted
@@ -53,6 +52,10 @@ abbrev pub answerBy : Bool → Budget → Budget → Admitted
 answerBy true granted refused = record { allowed = true; budget = granted }
 answerBy false granted refused = record { allowed = false; budget = refused }
 
+-- an answer and the budget beside it
+abbrev pub admittedBy : Bool → Budget → Admitted
+admittedBy a b = record { allowed = a; budget = b }
+
 -- an expansion is refused when the count has reached its limit
 unfoldable pub expansion : Budget → Admitted
 expansion b = answerBy (below (b .expanded) (b .maxPaths)) (oneExpanded b) (refusedCount b)
@@ -76,19 +79,3 @@ limitsOf b = record { length = b .maxLength; paths = b .maxPaths; complete = b .
 -- a budget with these limits that counts nothing yet
 abbrev pub budgetOf : SearchLimits → Budget
 budgetOf limits = withMaxComplete (limits .complete) (withMaxPaths (limits .paths) (withMaxLength (limits .length) fresh))
-
--- one answer to each question, and what the budget tells after them
-abbrev pub admissionsOf : Bool → Bool → Bool → Budget → Admissions
-admissionsOf expansion length complete b = record { expansion = expansion; length = length; complete = complete; stats = statsOf b 0 0 }
-
--- an expansion, a length and a complete path, each asked of the budget that the question before it left
-unfoldable pub askEach : ℕ → ℕ → Budget → Admissions
-askEach length kept b =
-    let first = expansion b in
-    let second = lengthening length (first .budget) in
-    let third = completion kept (second .budget) in
-    admissionsOf (first .allowed) (second .allowed) (third .allowed) (third .budget)
-
--- the same, asked before anything is counted
-abbrev pub firstAdmissions : SearchLimits → ℕ → ℕ → Admissions
-firstAdmissions limits length kept = askEach length kept (budgetOf limits)

@@ -1,13 +1,13 @@
 // The limits of a search, its counts, and which limit refused work.
 // Document 01, "Budget and frontier": "Limits are each a number or absent, set one after another on a budget handed back each time";
 // "The three `admit_` operations change a budget lent by the caller, as in the Rust. As there, only the library itself may call them",
-// so those three are not `pub`, and `first_admissions` is the way to them from outside.
+// so those three are not `pub`. The searches put each of their questions to an `admitted_` method, which takes a budget and hands it back, and
+// lends it to the `admit_` operation of its name: whoever calls it sees no reference to a budget.
 ghost use mathlib.Core.Path.{_≡_};
 ghost use Prim.Native.Nat.{_+_, _<_, _^_};
 ghost use Rattle.semantics.specs.Limits.{within, below};
-ghost use Rattle.budget.specs.Budget.{fresh, withMaxLength, withMaxPaths, withMaxComplete, expansion, lengthening, completion, statsOf, admissionsOf, askEach, firstAdmissions};
+ghost use Rattle.budget.specs.Budget.{fresh, withMaxLength, withMaxPaths, withMaxComplete, expansion, lengthening, completion, statsOf, admittedBy};
 use semantics::search::Limit;
-use semantics::search::SearchLimits;
 use semantics::search::SearchStats;
 
 // A flag is set only by a refusal, never by a count that merely reaches its limit.
@@ -123,7 +123,7 @@ impl Budget {
     }
 
     // One more expansion is counted, or refused when the count has reached its limit.
-    pub fn admitted_expansion(mut self) -> Admitted
+    fn expansion_answer(mut self) -> Admitted
         requires { ⌜ self .expanded + 1 < 2 ^ 64 ⌝ }
         ensures { λ r. ⌜ r ≡ expansion self ⌝ }
     {
@@ -144,7 +144,7 @@ impl Budget {
     }
 
     // A path of this length is refused only above the limit.
-    pub fn admitted_length(mut self, length: u64) -> Admitted
+    fn length_answer(mut self, length: u64) -> Admitted
         ensures { λ r. ⌜ r ≡ lengthening length self ⌝ }
     {
         let limit = self.maxLength;
@@ -162,7 +162,7 @@ impl Budget {
     }
 
     // One more complete path is counted, and kept unless as many as the limit are kept already.
-    pub fn admitted_complete(mut self, kept: u64) -> Admitted
+    fn complete_answer(mut self, kept: u64) -> Admitted
         requires { ⌜ self .complete + 1 < 2 ^ 64 ⌝ }
         ensures { λ r. ⌜ r ≡ completion kept self ⌝ }
     {
@@ -182,12 +182,12 @@ impl Budget {
     }
 
     // The same three questions on a budget that the caller lends: the answer is returned, and the budget after the question stays behind
-    // the reference. Each asks the method by value, which does the work.
+    // the reference. Each copies the budget, has the method by value above do the work, and stores what that hands back.
     pub(crate) fn admit_expansion(&mut self) -> bool
         requires { ⌜ now self .expanded + 1 < 2 ^ 64 ⌝ }
         ensures { λ r. ⌜ (r ≡ expansion (now (self .entry)) .allowed) × (now (self .exit) ≡ expansion (now (self .entry)) .budget) ⌝ }
     {
-        let admitted = self.admitted_expansion();
+        let admitted = self.expansion_answer();
         *self = admitted.budget;
         admitted.allowed
     }
@@ -195,7 +195,7 @@ impl Budget {
     pub(crate) fn admit_length(&mut self, length: u64) -> bool
         ensures { λ r. ⌜ (r ≡ lengthening length (now (self .entry)) .allowed) × (now (self .exit) ≡ lengthening length (now (self .entry)) .budget) ⌝ }
     {
-        let admitted = self.admitted_length(length);
+        let admitted = self.length_answer(length);
         *self = admitted.budget;
         admitted.allowed
     }
@@ -204,9 +204,33 @@ impl Budget {
         requires { ⌜ now self .complete + 1 < 2 ^ 64 ⌝ }
         ensures { λ r. ⌜ (r ≡ completion kept (now (self .entry)) .allowed) × (now (self .exit) ≡ completion kept (now (self .entry)) .budget) ⌝ }
     {
-        let admitted = self.admitted_complete(kept);
+        let admitted = self.complete_answer(kept);
         *self = admitted.budget;
         admitted.allowed
+    }
+
+    // The same three questions as a search puts them: to a budget by value, which is lent for the question and handed back with the answer.
+    pub fn admitted_expansion(mut self) -> Admitted
+        requires { ⌜ self .expanded + 1 < 2 ^ 64 ⌝ }
+        ensures { λ r. ⌜ r ≡ expansion self ⌝ }
+    {
+        let allowed = self.admit_expansion();
+        Admitted::new(allowed, self)
+    }
+
+    pub fn admitted_length(mut self, length: u64) -> Admitted
+        ensures { λ r. ⌜ r ≡ lengthening length self ⌝ }
+    {
+        let allowed = self.admit_length(length);
+        Admitted::new(allowed, self)
+    }
+
+    pub fn admitted_complete(mut self, kept: u64) -> Admitted
+        requires { ⌜ self .complete + 1 < 2 ^ 64 ⌝ }
+        ensures { λ r. ⌜ r ≡ completion kept self ⌝ }
+    {
+        let allowed = self.admit_complete(kept);
+        Admitted::new(allowed, self)
     }
 
     // What the search tells: the budget's counts and flags, with the rejections and the cycle cuts that the search counts itself.
@@ -225,53 +249,11 @@ impl Budget {
     }
 }
 
-// One answer to each question, and what the budget tells after them.
-pub struct Admissions {
-    pub expansion: bool,
-    pub length: bool,
-    pub complete: bool,
-    pub stats: SearchStats,
-}
-
-impl Admissions {
-    // No path was rejected and none cut, since there is no graph.
-    fn new(expansion: bool, length: bool, complete: bool, budget: Budget) -> Admissions
-        ensures { λ r. ⌜ r ≡ admissionsOf expansion length complete budget ⌝ }
+impl Admitted {
+    // A struct that holds a struct is made by value here, so that the three above do nothing with the budget but lend it and pass it on.
+    fn new(allowed: bool, budget: Budget) -> Admitted
+        ensures { λ r. ⌜ r ≡ admittedBy allowed budget ⌝ }
     {
-        let stats = budget.stats(0, 0);
-        Admissions {
-            expansion,
-            length,
-            complete,
-            stats,
-        }
+        Admitted { allowed, budget }
     }
-}
-
-// Each question once, in a search's order, on one budget that is lent three times. It takes plain values and lends its own local, so that
-// whoever calls it sees no reference to a budget.
-fn ask_each(mut budget: Budget, length: u64, kept: u64) -> Admissions
-    requires { ⌜ (budget .expanded + 1 < 2 ^ 64) × (budget .complete + 1 < 2 ^ 64) ⌝ }
-    ensures { λ r. ⌜ r ≡ askEach length kept budget ⌝ }
-{
-    let expansion = budget.admit_expansion();
-    let longer = budget.admit_length(length);
-    let complete = budget.admit_complete(kept);
-    Admissions::new(expansion, longer, complete, budget)
-}
-
-// What these limits admit first, before a search has counted anything: an expansion, a path of this length, a complete path beside so many
-// kept. Named after the `admit_` operations, which it asks: limits are tried so without a graph. The budget is made here, so that no caller
-// hands in counts, and nothing is required.
-pub fn first_admissions(limits: SearchLimits, length: u64, kept: u64) -> Admissions
-    ensures { λ r. ⌜ r ≡ firstAdmissions limits length kept ⌝ }
-{
-    let longest = limits.length;
-    let paths = limits.paths;
-    let complete = limits.complete;
-    let budget = Budget::new()
-        .with_max_path_length(longest)
-        .with_max_path_count(paths)
-        .with_max_complete_path_count(complete);
-    ask_each(budget, length, kept)
 }

@@ -29,6 +29,7 @@ use semantics::graph::EdgeId;
 use semantics::graph::NodeId;
 use semantics::refusal::LinearRefusal;
 use semantics::search::SearchLimits;
+use stepping::again;
 use stepping::step;
 use stepping::step::Effect;
 use stepping::steps;
@@ -154,10 +155,7 @@ fn walk(
         if on.found < 1 {
             return Walked::Over(state);
         }
-        let effect = steps::append(index, steps, k as u32, on.found - 1);
-        let Effect::Done(_) = effect else {
-            return Walked::Over(state);
-        };
+        again::advance(index, steps, k as u32, on.found - 1);
         k += 1;
     }
     Walked::Refused(LinearRefusal::MultipleEdges(NodeId(end)))

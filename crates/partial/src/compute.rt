@@ -1,12 +1,11 @@
 // The partial paths of a file on a loaded graph: they are counted, and filed in the database where a place is given for them.
 // Document 01, "Partial paths": `StackPartialPathSet::compute`.
 ghost use mathlib.Core.Path.{_≡_};
-ghost use mathlib.Core.Bool.{true};
 ghost use Prim.Native.Nat.{_+_, _≤_, _<_, _^_};
 ghost use lib.ListN.{length, take, getD};
 ghost use Rattle.graph_search.specs.Frontier.{Framed, Wider};
 ghost use Rattle.partial_state.specs.Extractions.{at, goingAt, takenAt, Taking};
-ghost use Rattle.partial.specs.Rounds.{MadeRoom, Rounding, Rounded, Driving, DrivenTo};
+ghost use Rattle.partial.specs.Rounds.{isFiled, MadeRoom, Rounding, Rounded, Driving, DrivenTo};
 ghost use Rattle.partial.specs.Requests.{Computing, ComputedTo};
 use graph_search::path_frontier::SHORT_SLOT;
 use graph_search::path_frontier::longer;
@@ -24,16 +23,16 @@ use semantics::refusal::PartialPathRefusal;
 use semantics::search::PartialPathStats;
 use words::slots;
 
-// The computation is finished, or as many paths are filed as there is room for, or it is refused.
+// The computation has ended, or it is refused. Where there is room for some paths it ends with the last of them filed, and the counts are
+// those up to there; without room it ends when no route waits, and the counts are those of the whole.
 pub enum Computed {
     Done(PartialPathStats),
-    Filed,
     Refused(PartialPathRefusal),
 }
 
 // Are as many paths found as there is room for? What is found behind them would only be counted.
 fn is_filed(filing: Filing, found: u64) -> bool
-    ensures { λ r. ⌜ (r ≡ true → (0 < filing .room) × (filing .room ≤ found)) ⌝ }
+    ensures { λ r. ⌜ r ≡ isFiled filing found ⌝ }
 {
     let room = filing.room as u64;
     if 0 < room {
@@ -130,7 +129,7 @@ fn drive(
     let mut slot = frame.slot;
     loop {
         if is_filed(filing, on.found) {
-            return Computed::Filed;
+            return Computed::Done(on.stats());
         }
         let within = frame.with_slot(slot);
         match take_front(on, work, item, within) {

@@ -104,8 +104,6 @@ fn replace_known(
             }
             Replacement::Full
         }
-        // never taken: a filing without room is not filled
-        Computed::Filed => Replacement::Full,
     }
 }
 

@@ -18,7 +18,6 @@ use Rattle.graph_search.specs.declared.path_frontier.Popped.the-variants as Pop
 use Rattle.budget.specs.Budget.{fresh, withMaxLength, withMaxPaths, expansion, statsOf}
 use Rattle.graph_search.specs.Frontier.{shortSlot, empty, Pushes, Pops, Widens}
 use Rattle.semantics.specs.declared.refusal.PartialPathRefusal.{PartialPathRefusal}
-use Rattle.semantics.specs.declared.search.Limit.the-variants.{Absent}
 use Rattle.partial_state.specs.declared.extraction.Config.{Config}
 use Rattle.partial_state.specs.declared.extraction.Frame.{Frame}
 use Rattle.partial_state.specs.declared.extraction.Extraction.{Extraction}
@@ -37,8 +36,16 @@ frameWith c waiting = record { order = c .order; length = c .length; paths = c .
 abbrev pub slottedBy : ℕ → Frame → Frame
 slottedBy L fr = record { order = fr .order; length = fr .length; paths = fr .paths; waiting = fr .waiting; slot = L }
 
+-- the budget that a computation in this frame begins with
+abbrev pub budgetIn : Frame → Budget
+budgetIn fr = withMaxPaths (fr .paths) (withMaxLength (fr .length) fresh)
+
 abbrev pub nothingYet : Extraction
 nothingYet = record { first = 0; count = 0; pending = 0; expanded = 0; cycles = 0; found = 0; lengthLimited = false; countLimited = false }
+
+-- a budget with the counts and flags that a computation has come to
+abbrev pub resumed : Extraction → Budget → Budget
+resumed p b = record { maxLength = b .maxLength; maxPaths = b .maxPaths; maxComplete = b .maxComplete; expanded = p .expanded; complete = b .complete; lengthLimited = p .lengthLimited; countLimited = p .countLimited; completeLimited = b .completeLimited }
 
 -- with the counts and flags of this budget
 abbrev pub countedBy : Budget → Extraction → Extraction
@@ -81,7 +88,7 @@ pub data Opening : Type 0 where
 abbrev pub at : Frame → Extraction → Computation
 at fr p = record {
   frontier = record { order = fr .order; length = fr .slot; first = p .first; count = p .count; pending = p .pending; capacity = fr .waiting };
-  budget = record { maxLength = fr .length; maxPaths = fr .paths; maxComplete = Absent; expanded = p .expanded; complete = 0; lengthLimited = p .lengthLimited; countLimited = p .countLimited; completeLimited = false };
+  budget = resumed p (budgetIn fr);
   cycles = p .cycles;
   found = p .found;
 }
@@ -96,7 +103,7 @@ takenAt fr (Expand p) = opening (at fr p)
 takenAt fr TooMany = exceeding
 
 abbrev pub newComputation : Config → ℕ → Computation
-newComputation c capacity = record { frontier = empty (c .order) shortSlot capacity; budget = withMaxPaths (c .paths) (withMaxLength (c .length) fresh); cycles = 0; found = 0 }
+newComputation c capacity = record { frontier = empty (c .order) shortSlot capacity; budget = budgetIn (frameWith c capacity); cycles = 0; found = 0 }
 
 abbrev pub withBudget : Budget → Computation → Computation
 withBudget b x = record { frontier = x .frontier; budget = b; cycles = x .cycles; found = x .found }

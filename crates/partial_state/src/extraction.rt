@@ -5,7 +5,7 @@ ghost use Prim.Native.Nat.{_+_, _<_, _≤_, _^_};
 ghost use lib.ListN.{length};
 ghost use Rattle.words.specs.Slots.{IsSlot};
 ghost use Rattle.graph_search.specs.Frontier.{Framed, Wider};
-ghost use Rattle.partial_state.specs.Extractions.{at, frameWith, nothingYet, countedBy, placedBy, cutIn, foundIn, goingAt, takenAt, partialIn, Extends, Taking, slottedBy, Grows};
+ghost use Rattle.partial_state.specs.Extractions.{at, frameWith, budgetIn, nothingYet, countedBy, placedBy, cutIn, foundIn, goingAt, takenAt, partialIn, Extends, Taking, slottedBy, Grows};
 ghost use Rattle.partial_state.specs.Reps.{Extendable, ExtendsTo};
 use crate::filing;
 use crate::filing::Filing;
@@ -79,6 +79,17 @@ impl Frame {
         }
     }
 
+    // The budget that a computation begins with. No limit on complete paths: a found one is counted beside the budget.
+    fn budget(self) -> Budget
+        ensures { λ r. ⌜ r ≡ budgetIn self ⌝ }
+    {
+        let length = self.length;
+        let paths = self.paths;
+        Budget::new()
+            .with_max_path_length(length)
+            .with_max_path_count(paths)
+    }
+
     // The same with slots of so many words.
     pub fn with_slot(mut self, slot: usize) -> Frame
         ensures { λ r. ⌜ r ≡ slottedBy slot self ⌝ }
@@ -128,22 +139,15 @@ impl Extraction {
         }
     }
 
-    // No limit on complete paths: a found one is counted beside the budget.
+    // The budget that the computation began with, and what was counted and refused since.
     pub fn budget(self, frame: Frame) -> Budget
         ensures { λ r. ⌜ r ≡ at frame self .budget ⌝ }
     {
-        let maxLength = frame.length;
-        let maxPaths = frame.paths;
-        Budget {
-            maxLength,
-            maxPaths,
-            maxComplete: Limit::Absent,
-            expanded: self.expanded,
-            complete: 0,
-            lengthLimited: self.lengthLimited,
-            countLimited: self.countLimited,
-            completeLimited: false,
-        }
+        let mut budget = frame.budget();
+        budget.expanded = self.expanded;
+        budget.lengthLimited = self.lengthLimited;
+        budget.countLimited = self.countLimited;
+        budget
     }
 
     // The budget is handed back by each question put to it.

@@ -1,3 +1,4 @@
 pub mod Shadows
 pub mod Values
 pub mod Replays
+pub mod Cases

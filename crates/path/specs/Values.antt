@@ -9,7 +9,7 @@ use lib.ListN.{length, getD, set, take, replicate}
 use Rattle.semantics.specs.declared.graph.Edge.{Edge}
 use Rattle.semantics.specs.declared.graph.Edge.the-variants as E
 use Rattle.semantics.specs.Lists.{consIf}
-use Rattle.semantics.specs.Path as Rules
+use Rattle.semantics.specs.Path as Model
 use Rattle.semantics.specs.Calls.{Passage, edge, jump, passages, ReplayedPath}
 use Rattle.stepping.specs.declared.step.Step.{Step}
 use Rattle.stepping.specs.declared.step.Effect.{Effect}
@@ -71,7 +71,7 @@ readPath p =
     }
 
 -- a value stands for a path of the definitions
-pub record Shows (x : Path) (p : Rules.Path) : Type 0 where
+pub record Shows (x : Path) (p : Model.Path) : Type 0 where
   pub sized : Sized x
   pub stepped : Stepped (x .steps) (x .count) p
   pub start : x .start ≡ p .start

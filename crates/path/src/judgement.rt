@@ -3,7 +3,7 @@
 ghost use mathlib.Core.Path.{_≡_};
 ghost use Rattle.semantics.specs.Limits.{base};
 ghost use Rattle.semantics.specs.Graph.{Graph, viewOf};
-ghost use Rattle.semantics.specs.Path as Rules;
+ghost use Rattle.semantics.specs.Path as Model;
 ghost use Rattle.semantics.specs.Image.{symbolBytes, checkImage};
 ghost use Rattle.semantics.specs.Told.{toldJudgement};
 ghost use Rattle.semantics.specs.Calls.{leftFirst, completeCall, shadowsCall};
@@ -41,7 +41,7 @@ fn shadows_loaded(
     right_edges: &[u32],
 ) -> Judgement
     requires { ⌜ Blocks (now index) ⌝ }
-    ensures { λ r. ⌜ ((g : Graph) → Loaded g (now (index .entry)) → JumpAt (viewOf g) → r ≡ leftFirst (Rules.replay base (viewOf g) left (now («left_edges» .entry))) (Rules.replay base (viewOf g) right (now («right_edges» .entry)))) ⌝ }
+    ensures { λ r. ⌜ ((g : Graph) → Loaded g (now (index .entry)) → JumpAt (viewOf g) → r ≡ leftFirst (Model.replay base (viewOf g) left (now («left_edges» .entry))) (Model.replay base (viewOf g) right (now («right_edges» .entry)))) ⌝ }
 {
     let first = replay_loaded(index, left, left_edges).answer;
     let Replayed::Done = first else {

@@ -3,14 +3,16 @@ ghost use mathlib.Core.Path.{_≡_};
 ghost use Prim.Native.Nat.{ℕ};
 ghost use Rattle.semantics.specs.Limits.{base};
 ghost use Rattle.semantics.specs.Graph.{Graph, viewOf};
-ghost use Rattle.semantics.specs.Path as Rules;
+ghost use Rattle.semantics.specs.Path as Model;
 ghost use Rattle.semantics.specs.Image.{symbolBytes, checkImage};
 ghost use Rattle.semantics.specs.Told.{toldReplayed};
 ghost use Rattle.semantics.specs.Calls.{replayCall};
-ghost use Rattle.storage.specs.Rows.{Blocks, Loaded, Takes};
+ghost use Rattle.storage.specs.Rows.{Blocks, nodeRow, edgeRow, Loaded, Takes};
 ghost use Rattle.path.specs.Shadows.Laws.{JumpAt};
 ghost use Rattle.path.specs.Values.{readPath};
-ghost use Rattle.path.specs.Replays.{refusedBy, Answers};
+ghost use Rattle.path.specs.Replays.{outcomeOf, oneMore, valueOf, replayValue, Answers};
+ghost use Rattle.path.specs.Replays.Laws.{Sound};
+use crate::path::Grown;
 use crate::path::Path;
 use crate::path::append;
 use crate::path::empty;
@@ -30,14 +32,16 @@ pub struct ReplayOutcome {
     pub path: Path,
 }
 
-// The refusal of the path rules, whole.
-fn refused(effect: Effect) -> ReplayOutcome
-    ensures { λ r. ⌜ r ≡ refusedBy effect ⌝ }
+// What the start or an edge leaves: the path, or no path beside the refusal.
+fn outcome(grown: Grown) -> ReplayOutcome
+    ensures { λ r. ⌜ r ≡ outcomeOf grown ⌝ }
 {
+    let effect = grown.effect;
+    let path = grown.path;
     match effect {
         Effect::Done(_) => ReplayOutcome {
             answer: Replayed::Done,
-            path: empty(),
+            path,
         },
         Effect::Refused(r) => ReplayOutcome {
             answer: Replayed::Refused(ReplayRefusal::Path(r)),
@@ -46,31 +50,40 @@ fn refused(effect: Effect) -> ReplayOutcome
     }
 }
 
-// Each edge is appended in turn, the bound being tested first.
+// One edge more: the bound is tested, then the edge is appended.
+fn one_more(path: Path, index: &[u32], edge: u32) -> ReplayOutcome
+    requires { ⌜ Blocks (now index) × Sound path ⌝ }
+    ensures { λ r. ⌜ r ≡ oneMore (nodeRow (now (index .entry))) (edgeRow (now (index .entry))) path edge ⌝ }
+{
+    if MAX_EDGES <= path.count as usize {
+        return ReplayOutcome {
+            answer: Replayed::Refused(ReplayRefusal::TooLong),
+            path: empty(),
+        };
+    }
+    outcome(append(path, index, edge))
+}
+
+// Edge after edge from the reference on, until one is refused.
 pub fn replay_loaded(index: &[u32], reference: u32, edges: &[u32]) -> ReplayOutcome
     requires { ⌜ Blocks (now index) ⌝ }
-    ensures { λ r. ⌜ ((g : Graph) → Loaded g (now (index .entry)) → JumpAt (viewOf g) → Answers r (Rules.replay base (viewOf g) reference (now (edges .entry)))) ⌝ }
+    ensures { λ r. ⌜ r ≡ valueOf (nodeRow (now (index .entry))) (edgeRow (now (index .entry))) reference (now (edges .entry)) ⌝ }
+    ensures { λ r. ⌜ ((g : Graph) → Loaded g (now (index .entry)) → JumpAt (viewOf g) → Answers r (Model.replay base (viewOf g) reference (now (edges .entry)))) ⌝ }
 {
-    let begun = from_reference(index, reference);
-    let first = begun.effect;
-    let Effect::Done(_) = first else {
-        return refused(first);
+    let begun = outcome(from_reference(index, reference));
+    let started = begun.answer;
+    let Replayed::Done = started else {
+        return begun;
     };
     let mut path = begun.path;
     let mut i: usize = 0;
     while i < edges.len() {
-        if MAX_EDGES <= path.count as usize {
-            return ReplayOutcome {
-                answer: Replayed::Refused(ReplayRefusal::TooLong),
-                path: empty(),
-            };
-        }
-        let grown = append(path, index, edges[i]);
-        let effect = grown.effect;
-        let Effect::Done(_) = effect else {
-            return refused(effect);
+        let next = one_more(path, index, edges[i]);
+        let answer = next.answer;
+        let Replayed::Done = answer else {
+            return next;
         };
-        path = grown.path;
+        path = next.path;
         i += 1;
     }
     ReplayOutcome {
@@ -84,6 +97,7 @@ fn replay_in(image: &[u8], index: &mut [u32], reference: u32, edges: &[u32]) -> 
     requires { ⌜ Takes (now image) (now index) ⌝ }
     ensures { λ r. ⌜ toldReplayed (r .answer) ≡ toldReplayed (replayCall base (checkImage symbolBytes (now (image .entry))) reference (now (edges .entry)) .answer) ⌝ }
     ensures { λ r. ⌜ readPath (r .path) ≡ replayCall base (checkImage symbolBytes (now (image .entry))) reference (now (edges .entry)) .path ⌝ }
+    ensures { λ r. ⌜ r ≡ replayValue (checkImage symbolBytes (now (image .entry))) reference (now (edges .entry)) ⌝ }
 {
     match check::load_fresh(image, index) {
         Checked::Refused(r) => ReplayOutcome {
@@ -102,6 +116,7 @@ fn replay_in(image: &[u8], index: &mut [u32], reference: u32, edges: &[u32]) -> 
 pub fn replay(image: &[u8], reference: NodeId, edges: &[u32]) -> ReplayOutcome
     ensures { λ r. ⌜ toldReplayed (r .answer) ≡ toldReplayed (replayCall base (checkImage symbolBytes (now (image .entry))) (reference .0) (now (edges .entry)) .answer) ⌝ }
     ensures { λ r. ⌜ readPath (r .path) ≡ replayCall base (checkImage symbolBytes (now (image .entry))) (reference .0) (now (edges .entry)) .path ⌝ }
+    ensures { λ r. ⌜ r ≡ replayValue (checkImage symbolBytes (now (image .entry))) (reference .0) (now (edges .entry)) ⌝ }
 {
     if check::is_small(image) {
         let mut index = [0u32; rows::SMALL];

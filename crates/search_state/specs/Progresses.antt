@@ -3,7 +3,8 @@
 use Prim.Native.Nat.{_+_}
 use mathlib.Core.Bool.{Bool, true}
 use Rattle.semantics.specs.Lists.{pick}
-use Rattle.budget.specs.Budget.{limitsOf}
+use Rattle.budget.specs.declared.path_budget.Budget.{Budget}
+use Rattle.budget.specs.Budget.{limitsOf, budgetOf}
 use Rattle.search_state.specs.declared.passed.Passed.{Passed}
 use Rattle.search_state.specs.declared.search.Search as S
 use Rattle.search_state.specs.declared.search.Going.{Going}
@@ -39,21 +40,16 @@ progressOf s = record {
   completeLimited = s .state .budget .completeLimited;
 }
 
+-- a budget with the counts and flags that a search has come to
+abbrev pub resumed : Progress → Budget → Budget
+resumed p b = record { maxLength = b .maxLength; maxPaths = b .maxPaths; maxComplete = b .maxComplete; expanded = p .expanded; complete = p .complete; lengthLimited = p .lengthLimited; countLimited = p .countLimited; completeLimited = p .completeLimited }
+
 -- the search that has come so far in a frame
 abbrev pub at : Frame → Progress → S.Search
 at f p = record {
   frontier = record { order = f .order; length = p .slot; first = p .first; count = p .count; pending = p .pending; capacity = f .waiting };
   state = record {
-    budget = record {
-      maxLength = f .limits .length;
-      maxPaths = f .limits .paths;
-      maxComplete = f .limits .complete;
-      expanded = p .expanded;
-      complete = p .complete;
-      lengthLimited = p .lengthLimited;
-      countLimited = p .countLimited;
-      completeLimited = p .completeLimited;
-    };
+    budget = resumed p (budgetOf (f .limits));
     cycles = p .cycles;
     rejected = p .rejected;
     kept = p .kept;

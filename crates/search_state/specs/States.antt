@@ -8,14 +8,14 @@ use Rattle.semantics.specs.declared.search.SearchStats.{SearchStats}
 use Rattle.semantics.specs.Lists.{pick}
 use Rattle.words.specs.Slots.{putSlot}
 use Rattle.budget.specs.declared.path_budget.Budget.{Budget}
-use Rattle.budget.specs.Budget.{fresh, withMaxLength, withMaxPaths, withMaxComplete, lengthening, completion, statsOf}
+use Rattle.budget.specs.Budget.{budgetOf, lengthening, completion, statsOf}
 use Rattle.search_state.specs.declared.state.SearchState.{SearchState}
 use Rattle.search_state.specs.declared.state.Recorded.{Recorded}
 use Rattle.search_state.specs.declared.state.Recorded.the-variants.{Done, Full}
 pub mod Laws
 
 abbrev pub newState : SearchLimits → ℕ → SearchState
-newState l results = record { budget = withMaxComplete (l .complete) (withMaxPaths (l .paths) (withMaxLength (l .length) fresh)); cycles = 0; rejected = 0; kept = 0; results = results }
+newState l results = record { budget = budgetOf l; cycles = 0; rejected = 0; kept = 0; results = results }
 
 abbrev pub cutOne : SearchState → SearchState
 cutOne s = record { budget = s .budget; cycles = s .cycles + 1; rejected = s .rejected; kept = s .kept; results = s .results }

@@ -2,6 +2,7 @@
 // enums, which are copied in parts that overlap, and the processor waits for such copies. Document 01, "Answer" and "Budget and frontier".
 ghost use mathlib.Core.Path.{_≡_};
 ghost use Prim.Native.Nat.{_+_, _<_, _^_};
+ghost use Rattle.budget.specs.Budget.{budgetOf};
 ghost use Rattle.search_state.specs.Progresses.{frameOf, at, progressOf, courseOf, courseAt, nextOf, nextAt, progressBy};
 ghost use Rattle.search_state.specs.Searches.{Takeable, Taking};
 ghost use Rattle.search_state.specs.Extensions.{Extendable, ExtendsTo};
@@ -99,6 +100,22 @@ impl Search {
     }
 }
 
+impl Frame {
+    // The budget that a search begins with.
+    fn budget(self) -> Budget
+        ensures { λ r. ⌜ r ≡ budgetOf (self .limits) ⌝ }
+    {
+        let limits = self.limits;
+        let length = limits.length;
+        let paths = limits.paths;
+        let complete = limits.complete;
+        Budget::new()
+            .with_max_path_length(length)
+            .with_max_path_count(paths)
+            .with_max_complete_path_count(complete)
+    }
+}
+
 impl Going {
     fn course(self) -> Course
         ensures { λ r. ⌜ r ≡ courseOf self ⌝ }
@@ -137,23 +154,17 @@ impl Progress {
         }
     }
 
+    // The budget that the search began with, and what was counted and refused since.
     pub fn budget(self, frame: Frame) -> Budget
         ensures { λ r. ⌜ r ≡ at frame self .state .budget ⌝ }
     {
-        let limits = frame.limits;
-        let maxLength = limits.length;
-        let maxPaths = limits.paths;
-        let maxComplete = limits.complete;
-        Budget {
-            maxLength,
-            maxPaths,
-            maxComplete,
-            expanded: self.expanded,
-            complete: self.complete,
-            lengthLimited: self.lengthLimited,
-            countLimited: self.countLimited,
-            completeLimited: self.completeLimited,
-        }
+        let mut budget = frame.budget();
+        budget.expanded = self.expanded;
+        budget.complete = self.complete;
+        budget.lengthLimited = self.lengthLimited;
+        budget.countLimited = self.countLimited;
+        budget.completeLimited = self.completeLimited;
+        budget
     }
 
     // The search that has come so far in this frame.

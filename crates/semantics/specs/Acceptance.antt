@@ -1,4 +1,4 @@
--- What the checks 3, 4 and 5 of an image say of the decoded graph, as a test.
+-- What the checks 3, 4 and 5 of an image see to in the decoded graph, as a test.
 -- Document 01, "Turned back", the rows of 3, 4 and 5; the places are the image's.
 use Prim.Native.Nat.{ℕ, suc}
 use mathlib.Core.Bool.{Bool, true, not}
@@ -71,7 +71,7 @@ edgeFits g (E.Live s t p) = and (oneFile (fileOf (g .node (s .0))) (fileOf (g .n
 unfoldable pub countFits : Graph → Bool
 countFits g = and (leb (g .files) 256) (and (leb 2 (length (g .nodes))) (and (leb (length (g .nodes)) 2048) (leb (length (g .edges)) 4096)))
 
--- an accepted graph: what an image decodes to that is not refused (Image/Laws)
+-- an accepted graph; whatever an image decodes to that is not refused is one (Image/Laws: image-accepted)
 unfoldable pub accepts : Graph → Bool
 unfolding placeFits fileFits nodeFits edgeFits countFits viewOf
 accepts g = and (countFits g) (and (everyFrom (λ i n. and (placeFits i n) (and (fileFits (g .files) (fileOf n)) (nodeFits (viewOf g) n))) 0 (g .nodes)) (everyFrom (λ i e. edgeFits (viewOf g) e) 0 (g .edges)))

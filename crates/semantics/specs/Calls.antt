@@ -41,6 +41,7 @@ use Rattle.semantics.specs.Stitching.{stitched}
 use Rattle.semantics.specs.Words.{zeros, wholeSlots, area, slotWords}
 use Rattle.semantics.specs.Database.{checkDatabase, freshWords, hasRoom, replaceWords}
 pub mod Laws
+pub mod Statistics
 pub mod Filing
 pub mod Whole
 pub mod Refused

@@ -16,6 +16,7 @@ use Rattle.semantics.specs.Enumeration.{State}
 use Rattle.semantics.specs.PartialPaths.{Route, Slot, dead, slot, slotOf}
 use Rattle.semantics.specs.Words.{zeros, wholeSlots, slotsOf, recordWords}
 pub mod Laws
+pub mod Checked
 pub mod Lookup
 
 abbrev pub usedIn : List ℕ → ℕ

@@ -23,6 +23,7 @@ use Rattle.semantics.specs.Path.{Path, replay, isComplete}
 use Rattle.semantics.specs.Enumeration.{Setting, State}
 use Rattle.semantics.specs.PartialPaths.{Route, Slot, slot, belongs, fileRoutes, replaced}
 pub mod Laws
+pub mod Rules
 
 -- LISTS THAT THE PATH RULES TAKE
 
@@ -86,10 +87,16 @@ pub record Holds (O : Owners) (bd : Bounds) (g : View) (db : List Slot) : Type 0
   pub every : (f : ℕ) (r : Route) → O .Known f → Partial bd Absent g O f r → List·Memᴰ (slot f (r .start) (r .current) (r .edges)) db
   pub only : (f s t : ℕ) (es : List ℕ) → List·Memᴰ (slot f s t es) db → O .Known f × Partial bd Absent g O f (record { start = s; current = t; edges = es })
 
--- a fresh database in which files were then replaced on this graph, without limits and unrefused; the files replaced so far
+-- every slot names a file of the graph
+abbrev pub OwnersIn : Graph → List Slot → Type 0
+OwnersIn g db = (f s t : ℕ) (es : List ℕ) → List·Memᴰ (slot f s t es) db → f < g .files
+
+-- a database in which files were then replaced on this graph, without limits and unrefused; the files replaced so far. It began with any slots
+-- that name files of this graph: a fresh one has none, and those of an earlier graph are such as long as the words meet neither 35 nor 34
 pub data Built (bd : Bounds) (g : Graph) : List Slot → List ℕ → Type 0 where
-  fresh : Built bd g [] []
-  after : {db : List Slot} {done : List ℕ} (f : ℕ) (c : Setting PartialPathRefusal) (u : State Route) → Built bd g db done → fileRoutes bd Absent c g f ≡ ok u → c .maxCount ≡ Absent → c .maxComplete ≡ Absent → Built bd g (replaced f db u) (f ∷ done)
+  given : {db : List Slot} → OwnersIn g db → Built bd g db []
+  after : {db : List Slot} {done : List ℕ} (f : ℕ) (c : Setting PartialPathRefusal) (u : State Route) → Built bd g db done → f < g .files → fileRoutes bd Absent c g f ≡ ok u → c .maxCount ≡ Absent → c .maxComplete ≡ Absent
+      → Built bd g (replaced f db u) (f ∷ done)
 
 -- what stitching relies on; Acceptance/Laws shows it of every accepted graph and its files
 pub record Suited (g : View) (O : Owners) : Type 0 where

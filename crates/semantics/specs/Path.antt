@@ -22,6 +22,7 @@ use Rattle.semantics.specs.Answer.{Answer, ok, refuse, andThen, wrap}
 use Rattle.semantics.specs.Graph.{nodeId, edgeId, View, traits, isReference, isDefinition, isExported}
 pub mod Laws
 pub mod Rules
+pub mod Takes
 pub mod Scopes
 
 -- a symbol, and the scopes attached to it with the top one first, if any are

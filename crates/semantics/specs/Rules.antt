@@ -4,7 +4,7 @@ use Prim.Native.Nat.{ℕ}
 use mathlib.Core.Path.{_≡_}
 use mathlib.Core.Bool.{Bool, true, false}
 use mathlib.Core.Option.{none, some}
-use mathlib.Core.List.{List, [], _∷_}
+use mathlib.Core.List.{List, [], _∷_, _++_}
 use lib.IntN.{ℤ}
 use Rattle.semantics.specs.declared.graph.NodeId.{NodeId}
 use Rattle.semantics.specs.declared.graph.FileId.{FileId}
@@ -14,7 +14,7 @@ use Rattle.semantics.specs.declared.graph.Edge.the-variants as E
 use Rattle.semantics.specs.declared.refusal.PathRefusal.{PathRefusal}
 use Rattle.semantics.specs.declared.refusal.PathRefusal.the-variants.{UnknownNode, NotReference, UnknownEdge, IncorrectSource, EmptySymbolStack, IncorrectPoppedSymbol, UnexpectedAttachedScopes, MissingAttachedScopes, EmptyScopeStack, UnknownAttachedScope}
 use Rattle.semantics.specs.Graph.{nodeId, edgeId, View, isReference, isExported}
-use Rattle.semantics.specs.Path.{Symbol, Stacks, Path}
+use Rattle.semantics.specs.Path.{Symbol, Stacks}
 
 -- a symbol without scopes, and one with scopes
 abbrev pub bare : ℕ → Symbol
@@ -84,50 +84,50 @@ pub data Fails (g : View) (n : ℕ) : Node → Stacks → PathRefusal → Type 0
       -- -----------------------------------------------
       → Fails g n (N.PopScoped f x definition) (with (bare x ∷ X) Y) (MissingAttachedScopes (nodeId n))
 
--- from a path's end an edge leads to this end, with these stacks
-pub data Steps (g : View) (p : Path) (e : ℕ) : ℕ → Stacks → Type 0 where
-  onto : {t : NodeId} {pr : ℤ} {S : Stacks}
-      → g .edge e ≡ E.Live (nodeId (p .end)) t pr
+-- from node n with stacks S an edge leads to this end, with these stacks
+pub data Steps (g : View) (n : ℕ) (S : Stacks) (e : ℕ) : ℕ → Stacks → Type 0 where
+  onto : {t : NodeId} {pr : ℤ} {T : Stacks}
+      → g .edge e ≡ E.Live (nodeId n) t pr
       → (g .node (t .0) ≡ N.JumpToScope → ⊥)
-      → Applies g (g .node (t .0)) (p .stacks) S
+      → Applies g (g .node (t .0)) S T
       -- -----------------------------------------------
-      → Steps g p e (t .0) S
+      → Steps g n S e (t .0) T
   through : {t : NodeId} {pr : ℤ} {X : List Symbol} {Y : List ℕ} {s : ℕ}
-      → g .edge e ≡ E.Live (nodeId (p .end)) t pr
+      → g .edge e ≡ E.Live (nodeId n) t pr
       → g .node (t .0) ≡ N.JumpToScope
-      → p .stacks ≡ with X (s ∷ Y)
+      → S ≡ with X (s ∷ Y)
       → isExported (g .node s) ≡ true
       -- -----------------------------------------------
-      → Steps g p e s (with X Y)
+      → Steps g n S e s (with X Y)
 
--- from a path's end an edge leads nowhere
-pub data Stops (g : View) (p : Path) (e : ℕ) : PathRefusal → Type 0 where
+-- from node n with stacks S an edge leads nowhere
+pub data Stops (g : View) (n : ℕ) (S : Stacks) (e : ℕ) : PathRefusal → Type 0 where
   unknown-edge :
       g .edge e ≡ E.Removed
       -- -----------------------------------------------
-      → Stops g p e (UnknownEdge (edgeId e))
+      → Stops g n S e (UnknownEdge (edgeId e))
   wrong-source : {s t : NodeId} {pr : ℤ}
-      → g .edge e ≡ E.Live s t pr → (s .0 ≡ p .end → ⊥)
+      → g .edge e ≡ E.Live s t pr → (s .0 ≡ n → ⊥)
       -- -----------------------------------------------
-      → Stops g p e (IncorrectSource (nodeId (p .end)) s)
+      → Stops g n S e (IncorrectSource (nodeId n) s)
   target : {t : NodeId} {pr : ℤ} {r : PathRefusal}
-      → g .edge e ≡ E.Live (nodeId (p .end)) t pr
-      → Fails g (t .0) (g .node (t .0)) (p .stacks) r
+      → g .edge e ≡ E.Live (nodeId n) t pr
+      → Fails g (t .0) (g .node (t .0)) S r
       -- -----------------------------------------------
-      → Stops g p e r
+      → Stops g n S e r
   no-scope : {t : NodeId} {pr : ℤ} {X : List Symbol}
-      → g .edge e ≡ E.Live (nodeId (p .end)) t pr
+      → g .edge e ≡ E.Live (nodeId n) t pr
       → g .node (t .0) ≡ N.JumpToScope
-      → p .stacks ≡ with X []
+      → S ≡ with X []
       -- -----------------------------------------------
-      → Stops g p e (EmptyScopeStack t)
+      → Stops g n S e (EmptyScopeStack t)
   lost-scope : {t : NodeId} {pr : ℤ} {X : List Symbol} {Y : List ℕ} {s : ℕ}
-      → g .edge e ≡ E.Live (nodeId (p .end)) t pr
+      → g .edge e ≡ E.Live (nodeId n) t pr
       → g .node (t .0) ≡ N.JumpToScope
-      → p .stacks ≡ with X (s ∷ Y)
+      → S ≡ with X (s ∷ Y)
       → isExported (g .node s) ≡ false
       -- -----------------------------------------------
-      → Stops g p e (UnknownAttachedScope (nodeId s))
+      → Stops g n S e (UnknownAttachedScope (nodeId s))
 
 -- a path begins at a reference, which is applied to empty stacks
 pub data Begins (g : View) (r : ℕ) : Stacks → Type 0 where
@@ -152,3 +152,14 @@ pub data NoBegin (g : View) (r : ℕ) : PathRefusal → Type 0 where
       → Fails g r (g .node r) (with [] []) x
       -- -----------------------------------------------
       → NoBegin g r x
+
+-- THE PATH RULES ON WHOLE LISTS: they take a list of edges, appended in order, from a reference to this end with these stacks
+pub data Takes (g : View) (r : ℕ) : List ℕ → ℕ → Stacks → Type 0 where
+  nothing : {S : Stacks}
+      → Begins g r S
+      -- -----------------------------------------------
+      → Takes g r [] r S
+  one-more : {l : List ℕ} {n e m : ℕ} {S T : Stacks}
+      → Takes g r l n S → Steps g n S e m T
+      -- -----------------------------------------------
+      → Takes g r (l ++ (e ∷ [])) m T

@@ -19,6 +19,7 @@ use Rattle.stepping.specs.declared.step.Effect.the-variants.{Done, Refus
 use Rattle.stepping.specs.Steps.{plainStep, askedScope, appliedOf, remadeOf, stacksOf, Low}
 use Rattle.stepping.specs.StepWords.{stepAt, makerIn, withStep}
 pub mod Laws
+pub mod Again
 
 -- a step with empty stacks, behind which a reference is applied
 abbrev pub noStep : Step

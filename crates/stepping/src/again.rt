@@ -5,7 +5,8 @@ ghost use Prim.Native.Nat.{_+_, _*_, _<_, _≤_};
 ghost use lib.ListN.{length};
 ghost use Rattle.storage.specs.Rows.{BLOCK, Blocks, nodeRow, targetRow};
 ghost use Rattle.stepping.specs.StepWords.{withStep};
-ghost use Rattle.stepping.specs.Judged.{Behind, remadeBehind};
+ghost use Rattle.stepping.specs.Judged.{Behind, Ready, remadeBehind};
+ghost use Rattle.stepping.specs.Judged.Again.{Accepted};
 use crate::step;
 use crate::step::Step;
 use crate::steps;
@@ -86,4 +87,13 @@ pub fn remake(index: &[u32], steps: &mut [u32], k: usize, edge: u32, last: Step)
         return lay(steps, k, step);
     }
     by_kind(index, steps, k, target.0, edge, last)
+}
+
+// The step of an edge behind the k edges whose steps stand there, which was judged so and accepted.
+pub fn advance(index: &[u32], steps: &mut [u32], k: u32, edge: u32)
+    requires { ⌜ Blocks (now index) × Ready (now steps) k × (8 * (k + 1) + 8 ≤ length (now steps)) × Accepted (now index) (now steps) k edge ⌝ }
+    ensures { λ _. ⌜ ((v : Accepted (now (index .entry)) (now (steps .entry)) k edge) → now (steps .exit) ≡ withStep (now (steps .entry)) (k + 1) (v .step)) ⌝ }
+{
+    let last = steps::get_step(steps, k as usize);
+    remake(index, steps, k as usize + 1, edge, last);
 }

@@ -4,10 +4,13 @@ use Prim.Native.Nat.{ℕ, _+_, _≤_}
 use mathlib.Core.Path.{_≡_}
 use mathlib.Core.Bool.{Bool, true, false}
 use mathlib.Core.List.{List, [], _∷_}
+use lib.Dec.{leb}
 use lib.ListN.{length}
 use Rattle.semantics.specs.declared.graph.Node.{Node}
 use Rattle.semantics.specs.declared.graph.Node.the-variants as N
+use Rattle.semantics.specs.Lists.{and}
 use Rattle.semantics.specs.Graph.{Graph, viewOf}
+use Rattle.semantics.specs.Image.{firstRecord, nodesOf, edgesOf}
 use Rattle.image.specs.Records.{Headed, Room}
 -- the blocks themselves are those that the pass over the image fills; crates above find both here
 pub use Rattle.image.specs.Rows.{NODES, EDGES, BLOCK, KIND, FLAG, FILE, SYMBOL, SCOPE, FIRST, SOURCE, TARGET, NEXT, PRECEDENCE, INDEX, FEW, SMALL, Blocks, firstRow, Fresh}
@@ -52,6 +55,10 @@ pub record Loaded (g : Graph) (index : List ℕ) : Type 0 where
 pub record Takes (im index : List ℕ) : Type 0 where
   pub fresh : Fresh index
   pub room : Headed im → Room im index
+
+-- a small index takes the image: its header is there, and counts at most FEW nodes and FEW edges
+unfoldable pub isSmall : List ℕ → Bool
+isSmall im = and (leb firstRecord (length im)) (and (leb (nodesOf im) FEW) (leb (edgesOf im) FEW))
 
 -- the edge is put in front of those that leave its source s
 unfoldable pub putLink : ℕ → ℕ → List ℕ → List ℕ

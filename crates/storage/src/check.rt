@@ -1,20 +1,19 @@
 // The check of a whole image, and the index of the graph that it holds.
 // Document 01, "Turned back": size and length as 2, then 1, 3, the records in order, bytes left over, and last 5 in record order.
 ghost use mathlib.Core.Path.{_≡_};
-ghost use mathlib.Core.Bool.{true};
-ghost use Prim.Native.Nat.{ℕ, _<_, _≤_};
+ghost use Prim.Native.Nat.{_<_};
 ghost use lib.ListN.{length};
 ghost use Rattle.semantics.specs.declared.answer.Checked.the-variants as Checked;
 ghost use Rattle.semantics.specs.declared.refusal.ImageRefusal.the-variants as Image;
 ghost use Rattle.semantics.specs.Answer.{ok};
 ghost use Rattle.semantics.specs.Calls.{checkCall};
 ghost use Rattle.semantics.specs.Graph.{Graph};
-ghost use Rattle.semantics.specs.Image.{symbolBytes, firstRecord, header, nodesOf, edgesOf, placeOf, graphOf, checkImage};
+ghost use Rattle.semantics.specs.Image.{symbolBytes, firstRecord, header, placeOf, graphOf, checkImage};
 ghost use Rattle.semantics.specs.Told.{toldChecked};
 ghost use Rattle.storage.specs.Checks.{referencesOf};
 ghost use Rattle.image.specs.Filling.{Held};
 ghost use Rattle.image.specs.Records.{Headed, Room};
-ghost use Rattle.storage.specs.Rows.{INDEX, FEW, Takes, Loaded};
+ghost use Rattle.storage.specs.Rows.{INDEX, isSmall, Takes, Loaded};
 use crate::links;
 use crate::refs;
 use crate::rows;
@@ -102,7 +101,7 @@ pub fn load(image: &[u8], index: &mut [u32]) -> Checked
 
 // Does a small index take the image? Asked of any bytes, before they are checked.
 pub fn is_small(image: &[u8]) -> bool
-    ensures { λ r. ⌜ (r ≡ true → (nodesOf (now (image .entry)) ≤ FEW) × (edgesOf (now (image .entry)) ≤ FEW)) ⌝ }
+    ensures { λ r. ⌜ r ≡ isSmall (now (image .entry)) ⌝ }
 {
     if image.len() < header::FIRST_RECORD {
         return false;

@@ -7,44 +7,39 @@ use Rattle.agreement.proofs.compare_all.Statement.{statement}
 use Rattle.agreement.proofs.compare_all.Tie as tie
 
 abbrev Inv-loop : tie.InvT-loop
-Inv-loop image index words nodes work₀ found₀ joined₀ n₀ work found joined n = (n ≤ nodes) × (length work ≡ length work₀) × (length found ≡ length found₀) × (length joined ≡ length joined₀)
+Inv-loop image index words nodes waiting₀ found₀ stitching₀ joined₀ n₀ waiting found stitching joined n =
+    (n ≤ nodes) × (length waiting ≡ length waiting₀) × (length found ≡ length found₀) × (length stitching ≡ length stitching₀) × (length joined ≡ length joined₀)
 
 abbrev μ-loop : tie.MeasureT-loop
-μ-loop image index words nodes work₀ found₀ joined₀ n₀ work found joined n = nodes - n
+μ-loop image index words nodes waiting₀ found₀ stitching₀ joined₀ n₀ waiting found stitching joined n = nodes - n
 
--- src/main.rt:79:5
 loop-holds : tie.Need-loop-holds Inv-loop μ-loop
 loop-holds c = search needs
 
--- src/main.rt:80:9
 compare-node-requires : tie.Need-compare-node-requires Inv-loop μ-loop
 compare-node-requires c κs = search needs
 
--- src/main.rt:79:9
 add-n : tie.Need-add-n Inv-loop μ-loop
 add-n c = search needs
 
--- src/main.rt:79:5
 loop-less : tie.Need-loop-less Inv-loop μ-loop
 loop-less c = search needs
 
--- src/main.rt:79:5
 loop-again : tie.Need-loop-again Inv-loop μ-loop
 loop-again c = search needs
 
--- src/main.rt:68:1
 same-length : tie.Need-same-length Inv-loop μ-loop
 same-length c = search needs
 
--- src/main.rt:68:1
 same-length-2 : tie.Need-same-length-2 Inv-loop μ-loop
 same-length-2 c = search needs
 
--- src/main.rt:68:1
 same-length-3 : tie.Need-same-length-3 Inv-loop μ-loop
 same-length-3 c = search needs
 
--- src/main.rt:68:1
+same-length-4 : tie.Need-same-length-4 Inv-loop μ-loop
+same-length-4 c = search needs
+
 returns : tie.Need-returns Inv-loop μ-loop
 returns c = search needs
 
@@ -62,4 +57,5 @@ compare-all-spec =
     same-length
     same-length-2
     same-length-3
+    same-length-4
     returns)

@@ -4,59 +4,48 @@ use borrow.Author.Needs.{needs}
 use Rattle.agreement.proofs.compare_node.Statement.{statement}
 use Rattle.agreement.proofs.compare_node.Tie as tie
 
--- src/main.rt:56:21
 node-requires : tie.Need-node-requires
 node-requires c κs = search needs
 
--- src/main.rt:56:8
 is-reference-requires : tie.Need-is-reference-requires
 is-reference-requires c κs = search needs
 
--- src/main.rt:57:13
 unlimited-requires : tie.Need-unlimited-requires
 unlimited-requires c κs = search needs
 
--- src/main.rt:58:13
 unlimited-requires-2 : tie.Need-unlimited-requires-2
 unlimited-requires-2 c κs = search needs
 
--- src/main.rt:59:13
 record-both-requires : tie.Need-record-both-requires
 record-both-requires c κs = search needs
 
--- src/main.rt:62:25
 slice-aggregate-tell : tie.Need-slice-aggregate-tell
 slice-aggregate-tell c = search needs
 
--- src/main.rt:62:9
 tell-requires : tie.Need-tell-requires
-tell-requires c κs = c .before .before .before .before .before .before .before .before .record-both .kept .1 .1 .1 .1 .1 .1 .0 ∙ c .before .before .before .before .before .before .before .before .before .before .before .before .before .before .before .before .before .before .before .before .before .before .before .pre .1
+tell-requires c κs = c .before .before .before .before .before .before .before .before .before .before .record-both .kept .1 .1 .1 .1 .1 .1 .0 ∙ c .before .before .before .before .before .before .before .before .before .before .before .before .before .before .before .before .before .before .before .before .before .before .before .before .before .before .before .pre .1
 
--- src/main.rt:63:25
 slice-aggregate-tell-2 : tie.Need-slice-aggregate-tell-2
 slice-aggregate-tell-2 c = search needs
 
--- src/main.rt:63:9
 tell-requires-2 : tie.Need-tell-requires-2
-tell-requires-2 c κs = c .before .before .before .before .before .before .before .before .before .before .before .record-both .kept .1 .1 .1 .1 .1 .1 .1 .0 ∙ c .before .before .before .before .before .before .before .before .before .before .before .before .before .before .before .before .before .before .before .before .before .before .before .before .before .before .pre .2
+tell-requires-2 c κs = c .before .before .before .before .before .before .before .before .before .before .before .before .before .record-both .kept .1 .1 .1 .1 .1 .1 .1 .1 .0 ∙ c .before .before .before .before .before .before .before .before .before .before .before .before .before .before .before .before .before .before .before .before .before .before .before .before .before .before .before .before .before .before .pre .2
 
--- src/main.rt:45:1
 same-length : tie.Need-same-length
 same-length c = search needs
 
--- src/main.rt:45:1
 same-length-2 : tie.Need-same-length-2
 same-length-2 c = search needs
 
--- src/main.rt:45:1
 same-length-3 : tie.Need-same-length-3
 same-length-3 c = search needs
 
--- src/main.rt:45:1
+same-length-4 : tie.Need-same-length-4
+same-length-4 c = search needs
+
 returns : tie.Need-returns
 returns c = search needs
 
--- src/main.rt:45:1
 returns-2 : tie.Need-returns-2
 returns-2 c = search needs
 
@@ -76,5 +65,6 @@ compare-node-spec =
     same-length
     same-length-2
     same-length-3
+    same-length-4
     returns
     returns-2)

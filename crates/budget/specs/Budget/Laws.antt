@@ -8,7 +8,7 @@ use Rattle.semantics.specs.declared.search.SearchLimits.{SearchLimits}
 use Rattle.semantics.specs.Limits.{within, below}
 use Rattle.semantics.specs.Enumeration.{addExpanded, addComplete, addRejected, addCycle, flagLength, flagCount, flagComplete, noStats}
 use Rattle.budget.specs.declared.path_budget.Budget.{Budget}
-use Rattle.budget.specs.Budget.{withMaxLength, withMaxPaths, withMaxComplete, answerBy, oneExpanded, oneComplete, refusedCount, refusedLength, refusedComplete, expansion, lengthening, completion, statsOf, limitsOf, budgetOf, askEach, firstAdmissions}
+use Rattle.budget.specs.Budget.{fresh, withMaxLength, withMaxPaths, withMaxComplete, answerBy, oneExpanded, oneComplete, refusedCount, refusedLength, refusedComplete, expansion, lengthening, completion, statsOf, limitsOf, budgetOf}
 
 allowed-by : (t : Bool) (b d : Budget) → answerBy t b d .allowed ≡ t
 allowed-by true b d = refl
@@ -17,10 +17,6 @@ allowed-by false b d = refl
 limits-by : (t : Bool) (a b d : Budget) → limitsOf b ≡ limitsOf a → limitsOf d ≡ limitsOf a → limitsOf (answerBy t b d .budget) ≡ limitsOf a
 limits-by true a b d p q = p
 limits-by false a b d p q = q
-
-complete-by : (t : Bool) (a b d : Budget) → b .complete ≡ a .complete → d .complete ≡ a .complete → answerBy t b d .budget .complete ≡ a .complete
-complete-by true a b d p q = p
-complete-by false a b d p q = q
 
 -- ---- one more expansion
 
@@ -40,10 +36,6 @@ pub expansion-refused : (b : Budget) (rejected cycles : ℕ) → below (b .expan
 unfolding expansion
 expansion-refused b rejected cycles e = rw e
 
-pub expansion-complete : (b : Budget) → expansion b .budget .complete ≡ b .complete
-unfolding expansion
-expansion-complete b = complete-by (below (b .expanded) (b .maxPaths)) b (oneExpanded b) (refusedCount b) refl refl
-
 -- ---- the length of a path
 
 pub lengthening-allowed : (n : ℕ) (b : Budget) → lengthening n b .allowed ≡ within n (b .maxLength)
@@ -61,10 +53,6 @@ lengthening-granted n b rejected cycles e = rw e
 pub lengthening-refused : (n : ℕ) (b : Budget) (rejected cycles : ℕ) → within n (b .maxLength) ≡ false → statsOf (lengthening n b .budget) rejected cycles ≡ flagLength (statsOf b rejected cycles)
 unfolding lengthening
 lengthening-refused n b rejected cycles e = rw e
-
-pub lengthening-complete : (n : ℕ) (b : Budget) → lengthening n b .budget .complete ≡ b .complete
-unfolding lengthening
-lengthening-complete n b = complete-by (within n (b .maxLength)) b b (refusedLength b) refl refl
 
 -- ---- one more complete path, beside those that are kept
 
@@ -96,6 +84,10 @@ paths-last l m b = refl
 pub complete-last : (l m : Limit) (b : Budget) → withMaxComplete m (withMaxComplete l b) ≡ withMaxComplete m b
 complete-last l m b = refl
 
+-- one after another, each on the budget that the one before handed back
+pub limits-chained : (l : SearchLimits) (a b c d : Budget) → a ≡ fresh → b ≡ withMaxLength (l .length) a → c ≡ withMaxPaths (l .paths) b → d ≡ withMaxComplete (l .complete) c → d ≡ budgetOf l
+limits-chained l a b c d p q r s = s ∙ ap (withMaxComplete (l .complete)) (r ∙ ap (withMaxPaths (l .paths)) (q ∙ ap (withMaxLength (l .length)) p))
+
 -- all three set on a fresh budget are the search's limits, and no work is counted
 pub limits-set : (l : SearchLimits) → limitsOf (budgetOf l) ≡ l
 limits-set l = refl
@@ -110,22 +102,3 @@ stats-rejected b rejected cycles = refl
 
 pub stats-cycle : (b : Budget) (rejected cycles : ℕ) → statsOf b rejected (cycles + 1) ≡ addCycle (statsOf b rejected cycles)
 stats-cycle b rejected cycles = refl
-
--- ---- the first admissions: each answer is the test of its own limit, whatever the questions before it were answered
-
-pub first-expansion : (l : SearchLimits) (n kept : ℕ) → firstAdmissions l n kept .expansion ≡ below 0 (l .paths)
-unfolding askEach
-first-expansion l n kept = expansion-allowed (budgetOf l)
-
-pub first-length : (l : SearchLimits) (n kept : ℕ) → firstAdmissions l n kept .length ≡ within n (l .length)
-unfolding askEach
-first-length l n kept =
-    lengthening-allowed n (expansion (budgetOf l) .budget)
-    ∙ ap (λ (m : SearchLimits). within n (m .length)) (expansion-limits (budgetOf l))
-
-pub first-complete : (l : SearchLimits) (n kept : ℕ) → firstAdmissions l n kept .complete ≡ below kept (l .complete)
-unfolding askEach
-first-complete l n kept =
-    let b = expansion (budgetOf l) .budget in
-    completion-allowed kept (lengthening n b .budget)
-    ∙ ap (λ (m : SearchLimits). below kept (m .complete)) (lengthening-limits n b ∙ expansion-limits (budgetOf l))

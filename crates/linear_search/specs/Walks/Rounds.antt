@@ -26,7 +26,8 @@ use Rattle.stepping.specs.declared.step.Step.{Step}
 use Rattle.stepping.specs.declared.step.Effect.{Effect}
 use Rattle.stepping.specs.declared.step.Effect.the-variants.{Done, Refused}
 use Rattle.stepping.specs.StepWords.{stepAt, withStep}
-use Rattle.stepping.specs.Judged.{Ready, Stepped, judgedOf, wordsAfter}
+use Rattle.stepping.specs.Judged.{Ready, Stepped, judgedOf}
+use Rattle.stepping.specs.Judged.Again.{Accepted}
 use Rattle.path.specs.Replays.Calls.{few-edges}
 use Rattle.budget.specs.declared.path_budget.Admitted.{Admitted}
 use Rattle.budget.specs.Budget.{expansion}
@@ -212,35 +213,38 @@ module _ (index steps₀ item₀ : List ℕ) (s₀ : SearchState) (rs₀ : List 
               pub turn-ready : Ready steps k
               turn-ready = let h = turn-short in ready-of steps k (t .path) (t .stepped) (omega (arith, h)) turn-fits
 
-              module _ (x : Effect) (found : x ≡ judgedOf (nodeRow index) steps k (on .found - 1) (edgeRow index (on .found - 1))) where
-                pub never-refused : (z : PathRefusal) → x ≡ Refused z → ⊥
-                never-refused z d = ok-refuse z (next .0) (sym (next .2) ∙ effect-refused (v .graph) index (v .loaded) steps k (t .path) (t .stepped) turn-room (on .found - 1) x found z d)
+              -- the edge that was appended is accepted on the steps as they stand
+              pub turn-accepted : Accepted index steps k (on .found - 1)
+              turn-accepted = told (judgedOf (nodeRow index) steps k (on .found - 1) (edgeRow index (on .found - 1))) refl
+                where
+                  told : (x : Effect) → judgedOf (nodeRow index) steps k (on .found - 1) (edgeRow index (on .found - 1)) ≡ x → Accepted index steps k (on .found - 1)
+                  told (Done s) h = record { step = s; judged = h }
+                  told (Refused z) h = absurd (ok-refuse z (next .0) (sym (next .2) ∙ effect-refused (v .graph) index (v .loaded) steps k (t .path) (t .stepped) turn-room (on .found - 1) (Refused z) (sym h) z refl))
 
-                pub turn-again : (s : Step) → x ≡ Done s → (steps′ : List ℕ) → steps′ ≡ wordsAfter steps (k + 1) x → Turning (on .state) (k + 1) steps′ item′ rs′
-                unfolding wordsAfter merge turn-opening
-                turn-again s d steps′ w =
-                    let h = turn-short in
-                    let r = effect-done (v .graph) index (v .loaded) steps k (t .path) (t .stepped) turn-room (on .found - 1) x found s d in
-                    let q : Path = next .0 in
-                    let e : r .path ≡ q = ok-inj (r .path) q (sym (r .appended) ∙ next .2) in
-                    let y : steps′ ≡ withStep steps (k + 1) s = w ∙ ap (wordsAfter steps (k + 1)) d in
-                    let st : Stepped steps′ (k + 1) q = subst (λ (l : List ℕ). Stepped l (k + 1) q) (sym y) (subst (λ (p : Path). Stepped (withStep steps (k + 1) s) (k + 1) p) e (r .stepped)) in
-                    let u : appendUnder base (viewOf (v .graph)) (t .path) (on .found - 1) ≡ ok q = appendUnder-is base (viewOf (v .graph)) (t .path) (on .found - 1) (next .4) ∙ ap (λ (i : Answer PathRefusal Path). wrap Replay.Path i) (next .2) in
-                    let f : 16777216 - k - 1 ≡ 16777216 - (k + 1) = omega (arith, h) in
-                    let x1 : on .state .budget .expanded ≡ k + 1 = mid .expanded ∙ granted in
-                    record {
-                      path = q;
-                      count = st .count;
-                      stepped = st;
-                      words = next .3;
-                      good = subst (λ (es : List ℕ). replay base (viewOf (v .graph)) (v .reference) es ≡ ok q) (sym (append-ok (viewOf (v .graph)) (t .path) q (on .found - 1) (next .2) .added .edges)) (replay-snoc base (viewOf (v .graph)) (v .reference) (on .found - 1) (t .path .edges) (t .path) q (t .good) u);
-                      model = merge (settingOf (frameOf s₀) .order) (mid .state);
-                      counts = record { stats = mid .counted .stats; kept = mid .counted .kept; fits = mid .counted .fits; room = mid .counted .room; words = mid .counted .words };
-                      few = record { complete = mid .fewer .complete; rejected = mid .fewer .rejected; cycles = mid .fewer .cycles };
-                      looked = omega (arith, mid .looked, t .looked);
-                      waits = ap₂ (λ (i j : List Path). i ++ j) (mid .rest) (next .1);
-                      pending = refl;
-                      expanded = x1;
-                      frame = mid .frame ∙ frame-next;
-                      same = ap (λ (i : ℕ). runFrom (frameOf s₀) i (merge (settingOf (frameOf s₀) .order) (mid .state))) (sym f) ∙ done;
-                    }
+              pub turn-again : (a : Accepted index steps k (on .found - 1)) (steps′ : List ℕ) → steps′ ≡ withStep steps (k + 1) (a .step) → Turning (on .state) (k + 1) steps′ item′ rs′
+              unfolding merge turn-opening
+              turn-again a steps′ y =
+                  let h = turn-short in
+                  let r = effect-done (v .graph) index (v .loaded) steps k (t .path) (t .stepped) turn-room (on .found - 1) (Done (a .step)) (sym (a .judged)) (a .step) refl in
+                  let q : Path = next .0 in
+                  let e : r .path ≡ q = ok-inj (r .path) q (sym (r .appended) ∙ next .2) in
+                  let st : Stepped steps′ (k + 1) q = subst (λ (l : List ℕ). Stepped l (k + 1) q) (sym y) (subst (λ (p : Path). Stepped (withStep steps (k + 1) (a .step)) (k + 1) p) e (r .stepped)) in
+                  let u : appendUnder base (viewOf (v .graph)) (t .path) (on .found - 1) ≡ ok q = appendUnder-is base (viewOf (v .graph)) (t .path) (on .found - 1) (next .4) ∙ ap (λ (i : Answer PathRefusal Path). wrap Replay.Path i) (next .2) in
+                  let f : 16777216 - k - 1 ≡ 16777216 - (k + 1) = omega (arith, h) in
+                  let x1 : on .state .budget .expanded ≡ k + 1 = mid .expanded ∙ granted in
+                  record {
+                    path = q;
+                    count = st .count;
+                    stepped = st;
+                    words = next .3;
+                    good = subst (λ (es : List ℕ). replay base (viewOf (v .graph)) (v .reference) es ≡ ok q) (sym (append-ok (viewOf (v .graph)) (t .path) q (on .found - 1) (next .2) .added .edges)) (replay-snoc base (viewOf (v .graph)) (v .reference) (on .found - 1) (t .path .edges) (t .path) q (t .good) u);
+                    model = merge (settingOf (frameOf s₀) .order) (mid .state);
+                    counts = record { stats = mid .counted .stats; kept = mid .counted .kept; fits = mid .counted .fits; room = mid .counted .room; words = mid .counted .words };
+                    few = record { complete = mid .fewer .complete; rejected = mid .fewer .rejected; cycles = mid .fewer .cycles };
+                    looked = omega (arith, mid .looked, t .looked);
+                    waits = ap₂ (λ (i j : List Path). i ++ j) (mid .rest) (next .1);
+                    pending = refl;
+                    expanded = x1;
+                    frame = mid .frame ∙ frame-next;
+                    same = ap (λ (i : ℕ). runFrom (frameOf s₀) i (merge (settingOf (frameOf s₀) .order) (mid .state))) (sym f) ∙ done;
+                  }

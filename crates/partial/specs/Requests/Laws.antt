@@ -50,7 +50,7 @@ use Rattle.partial_state.specs.Extractions.{Computation, Course, goes, stops, n
 use Rattle.partial_state.specs.Reps.{frameOf, settingOf, Rep, Untouched, Tells}
 use Rattle.partial_state.specs.Reps.Laws.{tells-on, tells-refused}
 use Rattle.partial.specs.declared.compute.Computed.{Computed}
-use Rattle.partial.specs.declared.compute.Computed.the-variants.{Done, Filed, Refused}
+use Rattle.partial.specs.declared.compute.Computed.the-variants.{Done, Refused}
 use Rattle.partial.specs.declared.replace.Sizes.{Sizes}
 use Rattle.partial.specs.Rounds.{Driving, Ends, runFrom, DrivenTo}
 use Rattle.partial_trial.specs.Seeds.{Seeding, Seeded}
@@ -150,40 +150,24 @@ module _ (index : List ℕ) (g : Graph) (loaded : Loaded g index) (f : Filing) (
 done-refused : (s : PartialPathStats) (r : PartialPathRefusal) → Done s ≡ Refused r → ⊥
 done-refused s r e = let z : _≡_ {A = ℕ} 0 1 = cc in omega arith
 
-filed-refused : (r : PartialPathRefusal) → Filed ≡ Refused r → ⊥
-filed-refused r e = let z : _≡_ {A = ℕ} 0 1 = cc in omega arith
-
-filed-done : (s : PartialPathStats) → Filed ≡ Done s → ⊥
-filed-done s e = let z : _≡_ {A = ℕ} 0 1 = cc in omega arith
-
 module _ (f : Filing) (db db′ : List ℕ) where
-  -- without room for any none is filed
-  ends-none : (a : Computed) (t : Answer PartialPathRefusal (State Route)) → Ends f db a db′ t → a ≡ Filed → 0 < f .room
-  ends-none (Done s) t h e = absurd (filed-done s (sym e))
-  ends-none Filed (ok m) h e = h .0
-  ends-none Filed (refuse r) h e = h
-  ends-none (Refused r) t h e = absurd (filed-refused r (sym e))
-
   -- a computation that is not refused files what it found
   ends-filed : (a : Computed) (t : Answer PartialPathRefusal (State Route)) (u : State Route) → Ends f db a db′ t → t ≡ ok u → db′ ≡ filedIn f (u .kept) db
-  ends-filed (Done s) (ok m) u h e = let z = ok-inj m u e in h .2 ∙ ap (λ (y : State Route). filedIn f (y .kept) db) z
-  ends-filed (Done s) (refuse r) u h e = absurd h
-  ends-filed Filed (ok m) u h e = let z = ok-inj m u e in h .1 ∙ ap (λ (y : State Route). filedIn f (y .kept) db) z
-  ends-filed Filed (refuse r) u h e = absurd (refuse-ok r u e)
+  ends-filed (Done s) (ok m) u h e = let z = ok-inj m u e in h .1 ∙ ap (λ (y : State Route). filedIn f (y .kept) db) z
+  ends-filed (Done s) (refuse r) u h e = absurd (refuse-ok r u e)
   ends-filed (Refused r) (ok m) u h e = absurd h
   ends-filed (Refused r) (refuse y) u h e = absurd (refuse-ok y u e)
 
   ends-refused : (a : Computed) (t : Answer PartialPathRefusal (State Route)) (r : PartialPathRefusal) → Ends f db a db′ t → a ≡ Refused r → (t ≡ refuse r) × Untouched f db db′
   ends-refused (Done s) t r h e = absurd (done-refused s r e)
-  ends-refused Filed t r h e = absurd (filed-refused r e)
   ends-refused (Refused y) (ok m) r h e = absurd h
   ends-refused (Refused y) (refuse z) r h e = let w : y ≡ r = cc in (ap (λ (k : PartialPathRefusal). refuse k) (sym (h .0) ∙ w), h .1)
 
-  ends-done : (a : Computed) (t : Answer PartialPathRefusal (State Route)) (s : PartialPathStats) → Ends f db a db′ t → a ≡ Done s → (u : State Route) × (t ≡ ok u) × (s ≡ partialStats u) × (s .found ≡ length (u .kept)) × (db′ ≡ filedIn f (u .kept) db)
-  ends-done (Done y) (ok m) s h e = let z : y ≡ s = cc in (m, refl, sym z ∙ h .0, ap (λ (k : PartialPathStats). k .found) (sym z) ∙ h .1, h .2)
-  ends-done (Done y) (refuse r) s h e = absurd h
-  ends-done Filed t s h e = absurd (filed-done s e)
-  ends-done (Refused r) t s h e = absurd (done-refused s r (sym e))
+  -- without room the counts are those of the whole
+  ends-done : f .room ≡ 0 → (a : Computed) (t : Answer PartialPathRefusal (State Route)) (s : PartialPathStats) → Ends f db a db′ t → a ≡ Done s → (u : State Route) × (t ≡ ok u) × (s ≡ partialStats u) × (s .found ≡ length (u .kept)) × (db′ ≡ filedIn f (u .kept) db)
+  ends-done none (Done y) (ok m) s h e = let z : y ≡ s = cc in let k = h .0 none in (m, refl, sym z ∙ k .0, ap (λ (x : PartialPathStats). x .found) (sym z) ∙ k .1, h .1)
+  ends-done none (Done y) (refuse r) s h e = absurd (omega (arith, h, none))
+  ends-done none (Refused r) t s h e = absurd (done-refused s r (sym e))
 
 -- ---- the found paths filed
 
@@ -253,13 +237,9 @@ module _ (index : List ℕ) (n : Sizes) (file : ℕ) (c : Config) (ws db : List 
       unfolding computed
       replaced-refused r e = let u = ends-refused (filingOf file first 0) db db₁ a (routesOf (v .graph) q) r ends e in rw (partials-are ∙ u .0) (refl, u .1 refl)
 
-      -- it is counted to the end
-      pub counting-ends : a ≡ Filed → ⊥
-      counting-ends e = let h = ends-none (filingOf file first 0) db db₁ a (routesOf (v .graph) q) ends e in omega (arith, h)
-
       module _ (s : PartialPathStats) (e : a ≡ Done s) where
         counted : (u : State Route) × (routesOf (v .graph) q ≡ ok u) × (s ≡ partialStats u) × (s .found ≡ length (u .kept)) × (db₁ ≡ filedIn (filingOf file first 0) (u .kept) db)
-        counted = ends-done (filingOf file first 0) db db₁ a (routesOf (v .graph) q) s ends e
+        counted = ends-done (filingOf file first 0) db db₁ refl a (routesOf (v .graph) q) s ends e
 
         -- counting alters no word
         pub counted-same : db₁ ≡ db

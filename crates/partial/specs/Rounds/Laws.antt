@@ -6,14 +6,17 @@ use mathlib.Core.Path.{_≡_, refl, sym, ap, subst, _∙_}
 use mathlib.Core.Logic.{_⊎_, inl, inr, ⊎-elim}
 use mathlib.Core.Bool.{Bool, true, false}
 use mathlib.Core.List.{List, [], _∷_, _++_}
+use lib.Dec.{leb, ltb}
 use lib.ListN.{length, take, drop, getD, length-map, length-append}
 use lib.Seq.{take-at, take-append-le}
+use borrow.Author.Tests.{ltb-true, leb-true}
 use Rattle.semantics.specs.declared.graph.Edge.{Edge}
 use Rattle.semantics.specs.declared.search.SearchStats.{SearchStats}
 use Rattle.semantics.specs.declared.search.PartialPathStats.{PartialPathStats}
 use Rattle.semantics.specs.declared.refusal.PartialPathRefusal.{PartialPathRefusal}
 use Rattle.semantics.specs.declared.refusal.PartialPathRefusal.the-variants.{TooManyExpansions}
 use Rattle.semantics.specs.Lists.{consIf, select}
+use Rattle.semantics.specs.Lists.Laws.{and-true}
 use Rattle.semantics.specs.Limits.{base}
 use Rattle.semantics.specs.Words.{zeros}
 use Rattle.words.specs.Slots.Wider.{padded-is}
@@ -39,10 +42,10 @@ use Rattle.partial_state.specs.Extractions.{Computation, Course, goes, stops, O
 use Rattle.partial_state.specs.Reps.{Counts, frameOf, settingOf, Rep, Tells}
 use Rattle.partial_state.specs.Reps.Laws.{untouched, tells-on, tells-refused, rep-wider, rep-grows}
 use Rattle.partial_state.specs.Reps.Rounds.{Opened, round-over, round-expand, round-many}
-use Rattle.partial.specs.declared.compute.Computed.the-variants.{Done, Filed, Refused}
+use Rattle.partial.specs.declared.compute.Computed.the-variants.{Done, Refused}
 use Rattle.partial_trial.specs.Expansions.{Roomy, Expanding, triesOf, Expanded}
 use Rattle.partial.specs.Rounds.Kept.{merged-kept}
-use Rattle.partial.specs.Rounds.{Grown, MadeRoom, Rounding, Rounded, Driving, Ends, runFrom, DrivenTo}
+use Rattle.partial.specs.Rounds.{isFiled, Grown, MadeRoom, Rounding, Rounded, Driving, Ends, runFrom, DrivenTo}
 use Rattle.partial_trial.specs.Expansions.Edges.{fits-same}
 
 -- ---- one round
@@ -217,6 +220,10 @@ filed-first f ls ks ws e = ap (λ (l : List Route). putRoutes base (f .file) (f 
 
 -- ---- the loop
 
+-- what a test of `isFiled` that succeeded says
+pub filed-tests : (f : Filing) (found : ℕ) → isFiled f found ≡ true → (0 < f .room) × (f .room ≤ found)
+filed-tests f found e = let h = and-true (ltb 0 (f .room)) (leb (f .room) found) e in (ltb-true 0 (f .room) (h .0), leb-true (f .room) found (h .1))
+
 module _ (index : List ℕ) (f : Filing) (item₀ : List ℕ) (x : Computation) (ws₀ db₀ : List ℕ) (v : Driving index f item₀ x ws₀ db₀) where
   abbrev g : View
   g = viewOf (v .graph)
@@ -236,18 +243,18 @@ module _ (index : List ℕ) (f : Filing) (item₀ : List ℕ) (x : Computation) 
     pub same : runFrom (frameOf on) (v .graph) (f .file) (16777216 - on .budget .expanded) state ≡ whole
 
   -- as many are found as there is room for: no other is filed behind them
-  pub turn-filed : (on : Computation) (ws db : List ℕ) → Turning on ws db → 0 < f .room → f .room ≤ on .found → DrivenTo index f item₀ x ws₀ db₀ v Filed db
-  turn-filed on ws db t h k = told whole (t .same)
+  pub turn-filed : (on : Computation) (ws db : List ℕ) → Turning on ws db → 0 < f .room → f .room ≤ on .found → (s : PartialPathStats) → DrivenTo index f item₀ x ws₀ db₀ v (Done s) db
+  turn-filed on ws db t h k s = told whole (t .same)
     where
       more : (l : List Route) (r : Route) → (f .room ≤ length l) × (take (f .room) l ≡ take (f .room) (t .state .kept)) → (f .room ≤ length (l ++ (r ∷ []))) × (take (f .room) (l ++ (r ∷ [])) ≡ take (f .room) (t .state .kept))
       more l r p = (omega (arith, p .0, length-append l (r ∷ [])), take-append-le (f .room) l (r ∷ []) (p .0) ∙ p .1)
 
-      told : (y : Answer PartialPathRefusal (State Route)) → runFrom (frameOf on) (v .graph) (f .file) (16777216 - on .budget .expanded) (t .state) ≡ y → Ends f (v .origin) Filed db y
+      told : (y : Answer PartialPathRefusal (State Route)) → runFrom (frameOf on) (v .graph) (f .file) (16777216 - on .budget .expanded) (t .state) ≡ y → Ends f (v .origin) (Done s) db y
       told (refuse r) e = h
       told (ok u) e =
           let c : f .room ≤ length (t .state .kept) = omega (arith, k, t .stood .counts .found) in
           let w = merged-kept (settingOf (frameOf on)) (λ l. (f .room ≤ length l) × (take (f .room) l ≡ take (f .room) (t .state .kept))) more (trying (frameOf on)) u (16777216 - on .budget .expanded) (t .state) (c, refl) e in
-          (h, t .stood .filed ∙ sym (filed-first f (u .kept) (t .state .kept) (v .origin) (w .1)))
+          (λ z. absurd (omega (arith, h, z)), t .stood .filed ∙ sym (filed-first f (u .kept) (t .state .kept) (v .origin) (w .1)))
 
   pub turn-start : Turning x ws₀ db₀
   turn-start = record { state = v .model; stood = v .rep; looked = v .looked; expanded = v .expanded; same = refl }
@@ -258,7 +265,7 @@ module _ (index : List ℕ) (f : Filing) (item₀ : List ℕ) (x : Computation) 
         let d = round-over g f (v .origin) on ws db (t .state) (t .stood) a item′ ws′ n k e in
         let w = run-over (settingOf (frameOf on)) (trying (frameOf on)) (16777216 - on .budget .expanded) (merge (on .frontier .order) (t .state)) (d .model) (d .round) in
         subst (λ (y : Answer PartialPathRefusal (State Route)). Ends f (v .origin) (Done s) db y) (sym (sym (t .same) ∙ w))
-        (q ∙ finished n (d .model) (d .counts), ap (λ (y : PartialPathStats). y .found) q ∙ d .counts .found, t .stood .filed ∙ ap (λ (l : List Route). filedIn f l (v .origin)) (sym (d .kept)))
+        (λ z. (q ∙ finished n (d .model) (d .counts), ap (λ (y : PartialPathStats). y .found) q ∙ d .counts .found), t .stood .filed ∙ ap (λ (l : List Route). filedIn f l (v .origin)) (sym (d .kept)))
 
     pub turn-many : a ≡ exceeding → DrivenTo index f item₀ x ws₀ db₀ v (Refused TooManyExpansions) db
     turn-many e =

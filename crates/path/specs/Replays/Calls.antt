@@ -20,7 +20,7 @@ use Rattle.semantics.specs.Graph.{Graph, View, viewOf, isReference}
 use Rattle.semantics.specs.Acceptance.Laws.{jump-only, jump-there}
 use Rattle.semantics.specs.Image.{checkImage}
 use Rattle.semantics.specs.Image.Laws.{image-accepted}
-use Rattle.semantics.specs.Path as Rules
+use Rattle.semantics.specs.Path as Model
 use Rattle.semantics.specs.Path.{appendUnder, appendAll, replay}
 use Rattle.semantics.specs.Path.Laws.{append-ok, appendUnder-ok, appendAll-edges, appendAll-bound, begun, replay-ok}
 use Rattle.semantics.specs.Told.{toldReplayed}
@@ -35,38 +35,40 @@ use Rattle.path.specs.Shadows.{shadowsEdges}
 use Rattle.path.specs.Shadows.Laws.{JumpAt, shadows-edges}
 use Rattle.path.specs.Values.{emptyPath, readPath}
 use Rattle.path.specs.Values.Laws.{reads, reads-empty}
-use Rattle.path.specs.Replays.{Answers, judgedAs}
-use Rattle.path.specs.Replays.Laws.{nodes-are, edges-are}
+use Rattle.path.specs.Replays.{valueOf, replayValue, Answers, judgedAs}
+use Rattle.path.specs.Replays.Laws.{nodes-are, edges-are, value-loaded}
 
 -- an accepted graph has its jump at node 1
 pub accepted-jump : (w : ℕ) (im : List ℕ) (g : Graph) → checkImage w im ≡ ok g → JumpAt (viewOf g)
 accepted-jump w im g h = let a = image-accepted w im g h in record { there = jump-there g a; only = jump-only g a }
 
--- REPLAY
-pub replay-image : (x : Answer ImageRefusal Graph) (r : ImageRefusal) → x ≡ refuse r → (n : ℕ) (es : List ℕ) (p : Path) → p ≡ emptyPath
-    → (toldReplayed (Replayed.Image r) ≡ toldReplayed (replayCall base x n es .answer)) × (readPath p ≡ replayCall base x n es .path)
-unfolding replayCall
-replay-image x r h n es p k = rw h (refl, ap readPath k ∙ reads-empty)
+-- REPLAY: what is told, what is read, and the value whole
+abbrev Given : Answer ImageRefusal Graph → ℕ → List ℕ → R.ReplayOutcome → Type 0
+Given x n es y = (toldReplayed (y .answer) ≡ toldReplayed (replayCall base x n es .answer)) × (readPath (y .path) ≡ replayCall base x n es .path) × (y ≡ replayValue x n es)
 
-pub replay-answers : (x : Answer ImageRefusal Graph) (g : Graph) → x ≡ ok g → (n : ℕ) (es : List ℕ) (y : R.ReplayOutcome) → Answers y (replay base (viewOf g) n es)
-    → (toldReplayed (y .answer) ≡ toldReplayed (replayCall base x n es .answer)) × (readPath (y .path) ≡ replayCall base x n es .path)
-unfolding replayCall replayedAs
-replay-answers x g h n es y a = rw h (on (replay base (viewOf g) n es) a)
+pub replay-image : (x : Answer ImageRefusal Graph) (r : ImageRefusal) → x ≡ refuse r → (n : ℕ) (es : List ℕ) (p : Path) → p ≡ emptyPath → Given x n es (record { answer = Replayed.Image r; path = p })
+unfolding replayCall replayValue
+replay-image x r h n es p k = rw h (refl, ap readPath k ∙ reads-empty, (λ i. record { answer = Replayed.Image r; path = k i }))
+
+pub replay-answers : (index : List ℕ) (x : Answer ImageRefusal Graph) (g : Graph) → x ≡ ok g → Loaded g index → (n : ℕ) (es : List ℕ) (y : R.ReplayOutcome) → y ≡ valueOf (nodeRow index) (edgeRow index) n es
+    → Answers y (replay base (viewOf g) n es) → Given x n es y
+unfolding replayCall replayedAs replayValue
+replay-answers index x g h l n es y v a = rw h (let k = on (replay base (viewOf g) n es) a in (k .0, k .1, v ∙ value-loaded g index l n es))
   where
-    on : (z : Answer ReplayRefusal Rules.Path) → Answers y z → (toldReplayed (y .answer) ≡ toldReplayed (replayedAs z .answer)) × (readPath (y .path) ≡ replayedAs z .path)
+    on : (z : Answer ReplayRefusal Model.Path) → Answers y z → (toldReplayed (y .answer) ≡ toldReplayed (replayedAs z .answer)) × (readPath (y .path) ≡ replayedAs z .path)
     on (ok p) a = (ap toldReplayed (a .0), reads (y .path) p (a .1))
     on (refuse r) a = (ap toldReplayed (a .0), ap readPath (a .1) ∙ reads-empty)
 
 -- COMPLETENESS
-all-start : (g : View) (es : List ℕ) (p q : Rules.Path) → appendAll base g p es ≡ ok q → q .start ≡ p .start
+all-start : (g : View) (es : List ℕ) (p q : Model.Path) → appendAll base g p es ≡ ok q → q .start ≡ p .start
 unfolding appendAll
-all-start g [] p q h = ap (λ (x : Rules.Path). x .start) (sym (ok-inj p q h))
+all-start g [] p q h = ap (λ (x : Model.Path). x .start) (sym (ok-inj p q h))
 all-start g (e ∷ es) p q h =
     let a = andThen-ok (appendUnder base g p e) (λ x. appendAll base g x es) q h in
     let k = append-ok g p (a .0) e (appendUnder-ok base g p (a .0) e (a .1) .1) in
     all-start g es (a .0) q (a .2) ∙ k .added .start
 
-module _ (g : View) (n : ℕ) (es : List ℕ) (q : Rules.Path) (h : replay base g n es ≡ ok q) where
+module _ (g : View) (n : ℕ) (es : List ℕ) (q : Model.Path) (h : replay base g n es ≡ ok q) where
   pub from-a-reference : isReference (g .node (q .start)) ≡ true
   from-a-reference =
       let a = replay-ok base g n es q h in
@@ -86,7 +88,7 @@ module _ (g : View) (n : ℕ) (es : List ℕ) (q : Rules.Path) (h : replay base 
 pub room : (g : View) (n : ℕ) (es : List ℕ) (y : R.ReplayOutcome) → Answers y (replay base g n es) → 8 * (y .path .count) + 8 ≤ length (y .path .steps)
 room g n es y a = on (replay base g n es) refl a
   where
-    on : (z : Answer ReplayRefusal Rules.Path) → replay base g n es ≡ z → Answers y z → 8 * (y .path .count) + 8 ≤ length (y .path .steps)
+    on : (z : Answer ReplayRefusal Model.Path) → replay base g n es ≡ z → Answers y z → 8 * (y .path .count) + 8 ≤ length (y .path .steps)
     on (ok p) e a = omega (arith, few-edges g n es p e, a .1 .stepped .count, a .1 .sized .steps)
     on (refuse r) e a =
         let z : y .path .count ≡ 0 = ap (λ (p : Path). p .count) (a .1) in
@@ -98,7 +100,7 @@ pub complete-answers : (index : List ℕ) (x : Answer ImageRefusal Graph) (g : G
 unfolding completeCall completed
 complete-answers index x g h l n es y a = rw h (on (replay base (viewOf g) n es) refl a)
   where
-    on : (z : Answer ReplayRefusal Rules.Path) → replay base (viewOf g) n es ≡ z → Answers y z → judgedAs (y .answer) (completeStep (nodeRow index) (stepAt (y .path .steps) (y .path .count))) ≡ completed (viewOf g) z
+    on : (z : Answer ReplayRefusal Model.Path) → replay base (viewOf g) n es ≡ z → Answers y z → judgedAs (y .answer) (completeStep (nodeRow index) (stepAt (y .path .steps) (y .path .count))) ≡ completed (viewOf g) z
     on (ok p) e a =
         let c = complete-is (viewOf g) (y .path .steps) (y .path .count) p (a .1 .stepped) (from-a-reference (viewOf g) n es p e) in
         ap (λ r. judgedAs r (completeStep (nodeRow index) (stepAt (y .path .steps) (y .path .count)))) (a .0)
@@ -106,7 +108,7 @@ complete-answers index x g h l n es y a = rw h (on (replay base (viewOf g) n es)
     on (refuse r) e a = ap (λ r. judgedAs r (completeStep (nodeRow index) (stepAt (y .path .steps) (y .path .count)))) (a .0)
 
 -- SHADOWING
-pub left-stops : (y : R.ReplayOutcome) (a b : Answer ReplayRefusal Rules.Path) → Answers y a → (y .answer ≡ Replayed.Done → ⊥) → judgedAs (y .answer) false ≡ leftFirst a b
+pub left-stops : (y : R.ReplayOutcome) (a b : Answer ReplayRefusal Model.Path) → Answers y a → (y .answer ≡ Replayed.Done → ⊥) → judgedAs (y .answer) false ≡ leftFirst a b
 unfolding leftFirst
 left-stops y (ok p) b h k = absurd (k (h .0))
 left-stops y (refuse r) b h k = ap (λ z. judgedAs z false) (h .0)
@@ -117,7 +119,7 @@ pub right-judged : (index : List ℕ) (g : Graph) → Loaded g index → JumpAt 
 unfolding leftFirst shadowedBy
 right-judged index g l j n m ls rs x y a d b = on (replay base (viewOf g) n ls) (replay base (viewOf g) m rs) refl refl a b
   where
-    on : (v w : Answer ReplayRefusal Rules.Path) → replay base (viewOf g) n ls ≡ v → replay base (viewOf g) m rs ≡ w → Answers x v → Answers y w → judgedAs (y .answer) (shadowsEdges (edgeRow index) ls rs) ≡ leftFirst v w
+    on : (v w : Answer ReplayRefusal Model.Path) → replay base (viewOf g) n ls ≡ v → replay base (viewOf g) m rs ≡ w → Answers x v → Answers y w → judgedAs (y .answer) (shadowsEdges (edgeRow index) ls rs) ≡ leftFirst v w
     on (ok p) (ok q) e f a b =
         ap (λ r. judgedAs r (shadowsEdges (edgeRow index) ls rs)) (b .0)
         ∙ ap Judgement.Done (ap (λ (m : ℕ → Edge). shadowsEdges m ls rs) (edges-are g index l) ∙ sym (shadows-edges (viewOf g) j base n m ls rs p q e f))

@@ -1,40 +1,42 @@
--- The loop of a replay: what is appended from here on is what was appended from the start.
+-- The value of a replay: how the loop builds it, and what it says of the path rules.
 -- Document 01, "Path": "Replay tests the bound, then appends".
 use Prim.Native.Nat.{ℕ, _+_, _≤_, _<_}
 use native.Mathlib.Omega.{arith}
 use native.Mathlib.Numerals.{add-one}
-use mathlib.Core.Path.{_≡_, refl, sym, ap, _∙_, subst, fun-ext}
-use mathlib.Core.Bool.{true, false}
-use mathlib.Core.List.{List, _∷_}
+use mathlib.Core.Path.{_≡_, refl, sym, ap, ap₂, _∙_, subst, fun-ext}
+use mathlib.Core.Bool.{Bool, true, false}
+use mathlib.Core.List.{List, [], _∷_}
 use lib.Dec.{ltb}
 use lib.ListN.{length, getD, drop, replicate, drop-of-length-le}
 use lib.Seq.{drop-cons}
-use borrow.Author.Tests.{lt-ltb, le-ltb}
+use borrow.Author.Tests.{lt-ltb, le-ltb, ltb-true, ltb-false}
 use Rattle.semantics.specs.declared.graph.Node.{Node}
-use Rattle.semantics.specs.declared.refusal.PathRefusal.{PathRefusal}
+use Rattle.semantics.specs.declared.graph.Edge.{Edge}
+use Rattle.semantics.specs.declared.refusal.ReplayRefusal.{ReplayRefusal}
 use Rattle.semantics.specs.declared.refusal.ReplayRefusal.the-variants as Replay
+use Rattle.semantics.specs.declared.answer.Replayed as A
 use Rattle.semantics.specs.declared.answer.Replayed.the-variants as Replayed
+use Rattle.semantics.specs.Lists.{pick}
 use Rattle.semantics.specs.Limits.{base}
-use Rattle.semantics.specs.Answer.{ok, refuse, wrap}
-use Rattle.semantics.specs.Graph.{Graph, viewOf}
-use Rattle.semantics.specs.Path as Rules
-use Rattle.semantics.specs.Path.{appendIf, appendUnder, appendAll, replay}
+use Rattle.semantics.specs.Answer.{Answer, ok, refuse, andThen, wrap}
+use Rattle.semantics.specs.Graph.{Graph, View, viewOf}
+use Rattle.semantics.specs.Path as Model
+use Rattle.semantics.specs.Path.{appendIf, appendUnder, appendAll, fromReference, replay}
 use Rattle.semantics.specs.Path.Laws.{appendUnder-is}
 use Rattle.storage.specs.Rows.{nodeRow, edgeRow, Loaded}
 use Rattle.stepping.specs.declared.step.Step.{Step}
 use Rattle.stepping.specs.declared.step.Effect.{Effect}
 use Rattle.stepping.specs.declared.step.Effect.the-variants.{Done, Refused}
 use Rattle.path.specs.declared.path.Path.{Path}
-use Rattle.path.specs.declared.path.Grown as G
 use Rattle.path.specs.declared.replay.ReplayOutcome as R
 use Rattle.stepping.specs.Steps.{Low}
 use Rattle.stepping.specs.StepWords.{stepAt}
 use Rattle.stepping.specs.Judged.{begunOf, judgedOf}
 use Rattle.stepping.specs.Judged.Laws.{begun-low, judged-low, begun-done, begun-refused, judged-done, judged-refused, written-low}
 use Rattle.path.specs.Shadows.Laws.{JumpAt}
-use Rattle.path.specs.Values.{emptyPath, isJumpEdge, startedBy, longerPath, appendedBy, Sized, Growing, Shows}
+use Rattle.path.specs.Values.{isJumpEdge, startedBy, longerPath, appendedBy, Sized, Growing, Shows}
 use Rattle.path.specs.Values.Laws.{empty-room, start-sized, more-sized, shows-start, more-room, shows-more}
-use Rattle.path.specs.Replays.{refusedBy, Answers}
+use Rattle.path.specs.Replays.{leftBy, outcomeOf, tooLong, onward, oneMore, valueAlong, valueFrom, valueOf, Answers}
 
 -- the rows of a loaded graph are its view
 pub nodes-are : (g : Graph) (index : List ℕ) → Loaded g index → nodeRow index ≡ (viewOf g) .node
@@ -43,126 +45,167 @@ nodes-are g index l = fun-ext (l .node)
 pub edges-are : (g : Graph) (index : List ℕ) → Loaded g index → edgeRow index ≡ (viewOf g) .edge
 edges-are g index l = fun-ext (l .edge)
 
--- the steps of a value are low, whatever the graph
+-- GOING ON, or not
+onward-stops : (a : A.Replayed) (x : R.ReplayOutcome) (next : Path → R.ReplayOutcome) → (a ≡ Replayed.Done → ⊥) → x ≡ onward a x next
+onward-stops Replayed.Done x next h = absurd (h refl)
+onward-stops (Replayed.Image r) x next h = refl
+onward-stops (Replayed.Refused r) x next h = refl
+
+onward-goes : (a : A.Replayed) (x : R.ReplayOutcome) (next : Path → R.ReplayOutcome) → a ≡ Replayed.Done → next (x .path) ≡ onward a x next
+onward-goes a x next h = ap (λ b. onward b x next) (sym h)
+
+-- A VALUE ON THE WAY: its arrays have their lengths, and every step reads only steps before it
 abbrev pub Lowly : Path → Type 0
 Lowly x = (j : ℕ) → j < x .count + 1 → Low (stepAt (x .steps) j) j
 
--- a value in the middle of a replay stands for a path from which the rest is appended
-pub record Mid (g : Graph) (r : ℕ) (es : List ℕ) (x : Path) (i : ℕ) : Type 0 where
-  pub path : Rules.Path
-  pub shows : Shows x path
-  pub same : appendAll base (viewOf g) path (drop i es) ≡ replay base (viewOf g) r es
+pub record Sound (x : Path) : Type 0 where
+  pub low : Lowly x
+  pub sized : Sized x
 
+pub may-grow : (x : Path) → Sound x → x .count < base .edges → Growing x
+may-grow x s h =
+    let l = s .low (x .count) (omega arith) in
+    record { few = h; ready = record { few = omega (arith, h); room = omega (arith, h, s .sized .steps); symbols = l .symbols; scopes = omega (arith, l .scopes) } }
+
+module _ (nodes : ℕ → Node) (r : ℕ) where
+  start-sound : (valueFrom nodes r) .answer ≡ Replayed.Done → Sound ((valueFrom nodes r) .path)
+  start-sound h = on (begunOf nodes r) refl h
+    where
+      on : (E : Effect) → begunOf nodes r ≡ E → (outcomeOf (startedBy r E)) .answer ≡ Replayed.Done → Sound ((outcomeOf (startedBy r E)) .path)
+      on (Done s) f h = record { low = written-low (replicate 1024 0) 0 s empty-room (λ j i. absurd (omega (arith, i))) (begun-low nodes r s f .0); sized = start-sized r s }
+      on (Refused z) f h = absurd (let z : _≡_ {A = ℕ} 0 1 = cc in omega arith)
+
+module _ (nodes : ℕ → Node) (edges : ℕ → Edge) (x : Path) (e : ℕ) where
+  abbrev judged : Effect
+  judged = judgedOf nodes (x .steps) (x .count) e (edges e)
+
+  abbrev appended : Effect → R.ReplayOutcome
+  appended E = outcomeOf (appendedBy x e (isJumpEdge (edges e)) E)
+
+  pub more-long : base .edges ≤ x .count → tooLong ≡ oneMore nodes edges x e
+  unfolding oneMore
+  more-long h = simp (le-ltb (x .count) (base .edges) h)
+
+  pub more-short : x .count < base .edges → appended judged ≡ oneMore nodes edges x e
+  unfolding oneMore
+  more-short h = simp (lt-ltb (x .count) (base .edges) h)
+
+  appended-sound : Sound x → x .count < base .edges → (E : Effect) → judged ≡ E → (appended E) .answer ≡ Replayed.Done → Sound ((appended E) .path)
+  appended-sound v few (Done s) f h = record {
+    low = written-low (x .steps) (x .count + 1) s (omega (arith, few, v .sized .steps)) (v .low) (judged-low nodes (x .steps) (x .count) e (edges e) s (v .low) f);
+    sized = more-sized x e (isJumpEdge (edges e)) s (v .sized);
+  }
+  appended-sound v few (Refused z) f h = absurd (let z : _≡_ {A = ℕ} 0 1 = cc in omega arith)
+
+  more-sound : Sound x → (oneMore nodes edges x e) .answer ≡ Replayed.Done → Sound ((oneMore nodes edges x e) .path)
+  unfolding oneMore
+  more-sound v h = on (ltb (x .count) (base .edges)) refl h
+    where
+      on : (b : Bool) → ltb (x .count) (base .edges) ≡ b → (pick b (appended judged) tooLong) .answer ≡ Replayed.Done → Sound ((pick b (appended judged) tooLong) .path)
+      on true t h = appended-sound v (ltb-true (x .count) (base .edges) t) judged refl h
+      on false t h = absurd (let z : _≡_ {A = ℕ} 0 1 = cc in omega arith)
+
+-- THE LOOP: the value from here on is the value from the start
 abbrev pub Going : List ℕ → ℕ → List ℕ → Path → ℕ → Type 0
-Going index r es x i = (i ≤ length es) × Lowly x × Sized x × ((g : Graph) → Loaded g index → JumpAt (viewOf g) → Mid g r es x i)
+Going index r es x i = (i ≤ length es) × Sound x × (valueAlong (nodeRow index) (edgeRow index) x (drop i es) ≡ valueOf (nodeRow index) (edgeRow index) r es)
 
--- AT THE START
-module _ (index : List ℕ) (r : ℕ) (es : List ℕ) (b : G.Grown) (is : b ≡ startedBy r (begunOf (nodeRow index) r)) where
-  effect-is : b .effect ≡ begunOf (nodeRow index) r
-  effect-is = ap (λ (y : G.Grown). y .effect) is ∙ on (begunOf (nodeRow index) r)
-    where
-      on : (x : Effect) → (startedBy r x) .effect ≡ x
-      on (Done s) = refl
-      on (Refused x) = refl
+module _ (index : List ℕ) (r : ℕ) (es : List ℕ) (b : R.ReplayOutcome) (is : b ≡ valueFrom (nodeRow index) r) where
+  pub begun-stops : (b .answer ≡ Replayed.Done → ⊥) → b ≡ valueOf (nodeRow index) (edgeRow index) r es
+  unfolding valueOf
+  begun-stops h = is ∙ onward-stops ((valueFrom (nodeRow index) r) .answer) (valueFrom (nodeRow index) r) (λ p. valueAlong (nodeRow index) (edgeRow index) p es) (λ k. h (ap (λ (y : R.ReplayOutcome). y .answer) is ∙ k))
 
-  pub start-refused : (x : PathRefusal) → b .effect ≡ Refused x → (y : R.ReplayOutcome) → y ≡ refusedBy (b .effect) → (g : Graph) → Loaded g index → JumpAt (viewOf g) → Answers y (replay base (viewOf g) r es)
-  unfolding replay
-  start-refused x h y e g l j =
-      let k = begun-refused (viewOf g) (replicate 1024 0) empty-room r x (ap (λ (n : ℕ → Node). begunOf n r) (sym (nodes-are g index l)) ∙ sym effect-is ∙ h) in
-      let z : y ≡ refusedBy (Refused x) = e ∙ ap refusedBy h in
-      rw k (ap (λ (v : R.ReplayOutcome). v .answer) z, ap (λ (v : R.ReplayOutcome). v .path) z)
+  pub begun-goes : b .answer ≡ Replayed.Done → Going index r es (b .path) 0
+  unfolding valueOf
+  begun-goes h =
+      let k = sym (ap (λ (y : R.ReplayOutcome). y .answer) is) ∙ h in
+      let p = ap (λ (y : R.ReplayOutcome). y .path) is in (
+        omega arith,
+        subst Sound (sym p) (start-sound (nodeRow index) r k),
+        ap (λ (q : Path). valueAlong (nodeRow index) (edgeRow index) q es) p ∙ onward-goes ((valueFrom (nodeRow index) r) .answer) (valueFrom (nodeRow index) r) (λ q. valueAlong (nodeRow index) (edgeRow index) q es) k,
+      )
 
-  pub start-done : (s : Step) → b .effect ≡ Done s → Going index r es (b .path) 0
-  unfolding replay
-  start-done s h =
-      let f : begunOf (nodeRow index) r ≡ Done s = sym effect-is ∙ h in
-      let p : b .path ≡ (startedBy r (Done s)) .path = ap (λ (y : G.Grown). y .path) (is ∙ ap (startedBy r) f) in
-      subst (λ (x : Path). Going index r es x 0) (sym p) (omega arith, low f, start-sized r s, mid f)
-    where
-      low : begunOf (nodeRow index) r ≡ Done s → Lowly ((startedBy r (Done s)) .path)
-      low f = written-low (replicate 1024 0) 0 s empty-room (λ j i. absurd (omega (arith, i))) (begun-low (nodeRow index) r s f .0)
+module _ (index : List ℕ) (r : ℕ) (es : List ℕ) (x : Path) (i : ℕ) (go : Going index r es x i) (more : i < length es) (b : R.ReplayOutcome) (is : b ≡ oneMore (nodeRow index) (edgeRow index) x (getD es i 0)) where
+  abbrev next : R.ReplayOutcome
+  next = oneMore (nodeRow index) (edgeRow index) x (getD es i 0)
 
-      mid : begunOf (nodeRow index) r ≡ Done s → (g : Graph) → Loaded g index → JumpAt (viewOf g) → Mid g r es ((startedBy r (Done s)) .path) 0
-      mid f g l j =
-          let k : begunOf ((viewOf g) .node) r ≡ Done s = ap (λ (n : ℕ → Node). begunOf n r) (sym (nodes-are g index l)) ∙ f in
-          let d = begun-done (viewOf g) (replicate 1024 0) empty-room r s k in
-          record { path = d .path; shows = shows-start (viewOf g) r s k d; same = rw (d .started) }
+  abbrev rest : Path → R.ReplayOutcome
+  rest q = valueAlong (nodeRow index) (edgeRow index) q (drop (i + 1) es)
 
--- BEHIND AN EDGE
-module _ (index : List ℕ) (r : ℕ) (es : List ℕ) (x : Path) (i : ℕ) (go : Going index r es x i) (more : i < length es) where
-  rest-is : drop i es ≡ getD es i 0 ∷ drop (i + 1) es
-  rest-is = rw add-one (drop-cons es i 0 more)
+  rest-is : onward (next .answer) next rest ≡ valueOf (nodeRow index) (edgeRow index) r es
+  unfolding valueAlong
+  rest-is =
+      let d : drop i es ≡ getD es i 0 ∷ drop (i + 1) es = rw add-one (drop-cons es i 0 more) in
+      sym (ap (valueAlong (nodeRow index) (edgeRow index) x) d) ∙ go .2
 
-  -- what the next call is given
-  pub may-grow : x .count < 127 → Growing x
-  may-grow h =
-      let l = go .1 (x .count) (omega arith) in
-      record { few = h; ready = record { few = omega (arith, h); room = omega (arith, h, go .2 .steps); symbols = l .symbols; scopes = omega (arith, l .scopes) } }
+  pub more-stops : (b .answer ≡ Replayed.Done → ⊥) → b ≡ valueOf (nodeRow index) (edgeRow index) r es
+  more-stops h = is ∙ onward-stops (next .answer) next rest (λ k. h (ap (λ (y : R.ReplayOutcome). y .answer) is ∙ k)) ∙ rest-is
 
-  -- the bound stands in front of the edge
-  pub too-long : 127 ≤ x .count → (y : R.ReplayOutcome) → y .answer ≡ Replayed.Refused Replay.TooLong → y .path ≡ emptyPath → (g : Graph) → Loaded g index → JumpAt (viewOf g) → Answers y (replay base (viewOf g) r es)
-  unfolding appendAll appendUnder appendIf
-  too-long h y a b g l j =
-      let m = go .3 g l j in
-      let q : ltb (length (m .path .edges)) 127 ≡ false = le-ltb (length (m .path .edges)) 127 (omega (arith, h, m .shows .stepped .count)) in
-      let z : appendAll base (viewOf g) (m .path) (getD es i 0 ∷ drop (i + 1) es) ≡ refuse Replay.TooLong = rw q in
-      subst (Answers y) (sym z ∙ ap (appendAll base (viewOf g) (m .path)) (sym rest-is) ∙ m .same) (a, b)
+  pub more-goes : b .answer ≡ Replayed.Done → Going index r es (b .path) (i + 1)
+  more-goes h =
+      let k = sym (ap (λ (y : R.ReplayOutcome). y .answer) is) ∙ h in
+      let p = ap (λ (y : R.ReplayOutcome). y .path) is in (
+        omega (arith, more),
+        subst Sound (sym p) (more-sound (nodeRow index) (edgeRow index) x (getD es i 0) (go .1) k),
+        ap rest p ∙ onward-goes (next .answer) next rest k ∙ rest-is,
+      )
 
-  module _ (few : x .count < 127) (b : G.Grown) (is : b ≡ appendedBy x (getD es i 0) (isJumpEdge (edgeRow index (getD es i 0))) (judgedOf (nodeRow index) (x .steps) (x .count) (getD es i 0) (edgeRow index (getD es i 0)))) where
-    judged : Effect
-    judged = judgedOf (nodeRow index) (x .steps) (x .count) (getD es i 0) (edgeRow index (getD es i 0))
+pub all-replayed : (index : List ℕ) (r : ℕ) (es : List ℕ) (x : Path) (i : ℕ) → Going index r es x i → length es ≤ i → record { answer = Replayed.Done; path = x } ≡ valueOf (nodeRow index) (edgeRow index) r es
+unfolding valueAlong
+all-replayed index r es x i go h =
+    let z : valueAlong (nodeRow index) (edgeRow index) x (drop i es) ≡ record { answer = Replayed.Done; path = x } = ap (valueAlong (nodeRow index) (edgeRow index) x) (drop-of-length-le es h) in
+    sym z ∙ go .2
 
-    grown-is : b .effect ≡ judged
-    unfolding judged
-    grown-is = ap (λ (y : G.Grown). y .effect) is ∙ on judged
+-- WHAT THE VALUE SAYS: what the path rules say
+module _ (g : View) (j : JumpAt g) where
+  -- behind one edge, where the rest says what the path rules say
+  module _ (es : List ℕ) (x : Path) (p : Model.Path) (sh : Shows x p) (e : ℕ) (rest-says : (y : Path) (q : Model.Path) → Shows y q → Answers (valueAlong (g .node) (g .edge) y es) (appendAll base g q es)) where
+    abbrev followed : R.ReplayOutcome → R.ReplayOutcome
+    followed y = onward (y .answer) y (λ q. valueAlong (g .node) (g .edge) q es)
+
+    abbrev modelled : Answer ReplayRefusal Model.Path
+    modelled = andThen (appendUnder base g p e) (λ q. appendAll base g q es)
+
+    appended-says : x .count < base .edges → (E : Effect) → judgedOf (g .node) (x .steps) (x .count) e (g .edge e) ≡ E → Answers (followed (outcomeOf (appendedBy x e (isJumpEdge (g .edge e)) E))) modelled
+    appended-says few (Done s) f =
+        let y = judged-done g (x .steps) (x .count) p (sh .stepped) (more-room x e (isJumpEdge (g .edge e)) s few (sh .sized)) e s f in
+        let q = shows-more x e (isJumpEdge (g .edge e)) s few (sh .sized) g j p sh refl y in
+        let u : appendUnder base g p e ≡ ok (q .0) = appendUnder-is base g p e (lt-ltb (length (p .edges)) (base .edges) (omega (arith, few, sh .stepped .count))) ∙ ap (wrap Replay.Path) (q .1) in
+        rw u (rest-says (longerPath x e (isJumpEdge (g .edge e)) s) (q .0) (q .2))
+    appended-says few (Refused z) f =
+        let k = judged-refused g (x .steps) (x .count) p (sh .stepped) (omega (arith, few, sh .sized .steps)) e z f in
+        let u : appendUnder base g p e ≡ refuse (Replay.Path z) = appendUnder-is base g p e (lt-ltb (length (p .edges)) (base .edges) (omega (arith, few, sh .stepped .count))) ∙ ap (wrap Replay.Path) k in
+        rw u (refl, refl)
+
+    edge-says : Answers (followed (oneMore (g .node) (g .edge) x e)) modelled
+    unfolding oneMore appendUnder appendIf
+    edge-says = on (ltb (x .count) (base .edges)) refl
       where
-        on : (y : Effect) → (appendedBy x (getD es i 0) (isJumpEdge (edgeRow index (getD es i 0))) y) .effect ≡ y
-        on (Done s) = refl
-        on (Refused z) = refl
+        on : (b : Bool) → ltb (x .count) (base .edges) ≡ b → Answers (followed (pick b (outcomeOf (appendedBy x e (isJumpEdge (g .edge e)) (judgedOf (g .node) (x .steps) (x .count) e (g .edge e)))) tooLong)) modelled
+        on true t = appended-says (ltb-true (x .count) (base .edges) t) (judgedOf (g .node) (x .steps) (x .count) e (g .edge e)) refl
+        on false t =
+            let l = ltb-false (x .count) (base .edges) t in
+            rw (le-ltb (length (p .edges)) (base .edges) (omega (arith, l, sh .stepped .count))) (refl, refl)
 
-    -- judging on the rows is judging on the graph
-    on-graph : (g : Graph) → Loaded g index → judgedOf ((viewOf g) .node) (x .steps) (x .count) (getD es i 0) ((viewOf g) .edge (getD es i 0)) ≡ b .effect
-    unfolding judged
-    on-graph g l = (λ k. judgedOf (sym (nodes-are g index l) k) (x .steps) (x .count) (getD es i 0) (sym (l .edge (getD es i 0)) k)) ∙ sym grown-is
+  along-says : (es : List ℕ) (x : Path) (p : Model.Path) → Shows x p → Answers (valueAlong (g .node) (g .edge) x es) (appendAll base g p es)
+  unfolding valueAlong appendAll
+  along-says [] x p sh = (refl, sh)
+  along-says (e ∷ es) x p sh = edge-says es x p sh e (along-says es)
 
-    under-bound : (p : Rules.Path) → Shows x p → ltb (length (p .edges)) 127 ≡ true
-    under-bound p sh = lt-ltb (length (p .edges)) 127 (omega (arith, few, sh .stepped .count))
+  value-says : (r : ℕ) (es : List ℕ) → Answers (valueOf (g .node) (g .edge) r es) (replay base g r es)
+  unfolding valueOf replay
+  value-says r es = on (begunOf (g .node) r) refl
+    where
+      on : (E : Effect) → begunOf (g .node) r ≡ E → Answers (onward ((outcomeOf (startedBy r E)) .answer) (outcomeOf (startedBy r E)) (λ p. valueAlong (g .node) (g .edge) p es)) (andThen (wrap Replay.Path (fromReference g r)) (λ p. appendAll base g p es))
+      on (Done s) f =
+          let d = begun-done g (replicate 1024 0) empty-room r s f in
+          rw (d .started) (along-says es ((startedBy r (Done s)) .path) (d .path) (shows-start g r s f d))
+      on (Refused z) f =
+          let k = begun-refused g (replicate 1024 0) empty-room r z f in
+          rw k (refl, refl)
 
-    pub again-refused : (z : PathRefusal) → b .effect ≡ Refused z → (y : R.ReplayOutcome) → y ≡ refusedBy (b .effect) → (g : Graph) → Loaded g index → JumpAt (viewOf g) → Answers y (replay base (viewOf g) r es)
-    unfolding appendAll
-    again-refused z h y e g l j =
-        let m = go .3 g l j in
-        let k = judged-refused (viewOf g) (x .steps) (x .count) (m .path) (m .shows .stepped) (omega (arith, few, go .2 .steps)) (getD es i 0) z (on-graph g l ∙ h) in
-        let u : appendUnder base (viewOf g) (m .path) (getD es i 0) ≡ refuse (Replay.Path z) = appendUnder-is base (viewOf g) (m .path) (getD es i 0) (under-bound (m .path) (m .shows)) ∙ ap (wrap Replay.Path) k in
-        let v : appendAll base (viewOf g) (m .path) (getD es i 0 ∷ drop (i + 1) es) ≡ refuse (Replay.Path z) = rw u in
-        let w : y ≡ refusedBy (Refused z) = e ∙ ap refusedBy h in
-        subst (Answers y) (sym v ∙ ap (appendAll base (viewOf g) (m .path)) (sym rest-is) ∙ m .same) (ap (λ (a : R.ReplayOutcome). a .answer) w, ap (λ (a : R.ReplayOutcome). a .path) w)
+-- on the rows of a loaded graph
+pub value-loaded : (g : Graph) (index : List ℕ) → Loaded g index → (r : ℕ) (es : List ℕ) → valueOf (nodeRow index) (edgeRow index) r es ≡ valueOf ((viewOf g) .node) ((viewOf g) .edge) r es
+value-loaded g index l r es = λ i. valueOf (nodes-are g index l i) (edges-are g index l i) r es
 
-    pub again-done : (s : Step) → b .effect ≡ Done s → Going index r es (b .path) (i + 1)
-    unfolding judged appendAll
-    again-done s h =
-        let f : judgedOf (nodeRow index) (x .steps) (x .count) (getD es i 0) (edgeRow index (getD es i 0)) ≡ Done s = sym grown-is ∙ h in
-        let p : b .path ≡ longerPath x (getD es i 0) (isJumpEdge (edgeRow index (getD es i 0))) s = ap (λ (y : G.Grown). y .path) (is ∙ ap (appendedBy x (getD es i 0) (isJumpEdge (edgeRow index (getD es i 0)))) f) in
-        subst (λ (y : Path). Going index r es y (i + 1)) (sym p)
-        (omega (arith, more), low f, more-sized x (getD es i 0) (isJumpEdge (edgeRow index (getD es i 0))) s (go .2), mid f)
-      where
-        low : judgedOf (nodeRow index) (x .steps) (x .count) (getD es i 0) (edgeRow index (getD es i 0)) ≡ Done s → Lowly (longerPath x (getD es i 0) (isJumpEdge (edgeRow index (getD es i 0))) s)
-        low f = written-low (x .steps) (x .count + 1) s (omega (arith, few, go .2 .steps)) (go .1) (judged-low (nodeRow index) (x .steps) (x .count) (getD es i 0) (edgeRow index (getD es i 0)) s (go .1) f)
-
-        mid : judgedOf (nodeRow index) (x .steps) (x .count) (getD es i 0) (edgeRow index (getD es i 0)) ≡ Done s → (g : Graph) → Loaded g index → JumpAt (viewOf g) → Mid g r es (longerPath x (getD es i 0) (isJumpEdge (edgeRow index (getD es i 0))) s) (i + 1)
-        mid f g l j =
-            let m = go .3 g l j in
-            let e = getD es i 0 in
-            let y = judged-done (viewOf g) (x .steps) (x .count) (m .path) (m .shows .stepped) (more-room x e (isJumpEdge (edgeRow index e)) s few (go .2)) e s (on-graph g l ∙ h) in
-            let q = shows-more x e (isJumpEdge (edgeRow index e)) s few (go .2) (viewOf g) j (m .path) (m .shows) (ap isJumpEdge (l .edge e)) y in
-            let u : appendUnder base (viewOf g) (m .path) e ≡ ok (q .0) = appendUnder-is base (viewOf g) (m .path) e (under-bound (m .path) (m .shows)) ∙ ap (wrap Replay.Path) (q .1) in
-            let v : appendAll base (viewOf g) (m .path) (e ∷ drop (i + 1) es) ≡ appendAll base (viewOf g) (q .0) (drop (i + 1) es) = rw u in
-            record { path = q .0; shows = q .2; same = sym v ∙ ap (appendAll base (viewOf g) (m .path)) (sym rest-is) ∙ m .same }
-
--- AT THE END
-pub replayed : (index : List ℕ) (r : ℕ) (es : List ℕ) (x : Path) (i : ℕ) → Going index r es x i → length es ≤ i → (y : R.ReplayOutcome) → y .answer ≡ Replayed.Done → y .path ≡ x → (g : Graph) → Loaded g index → JumpAt (viewOf g) → Answers y (replay base (viewOf g) r es)
-unfolding appendAll
-replayed index r es x i go h y a b g l j =
-    let m = go .3 g l j in
-    let z : appendAll base (viewOf g) (m .path) (drop i es) ≡ ok (m .path) = rw (drop-of-length-le es h) in
-    subst (Answers y) (sym z ∙ m .same) (a, subst (λ (v : Path). Shows v (m .path)) (sym b) (m .shows))
+pub loaded-says : (index : List ℕ) (r : ℕ) (es : List ℕ) (y : R.ReplayOutcome) → y ≡ valueOf (nodeRow index) (edgeRow index) r es → (g : Graph) → Loaded g index → JumpAt (viewOf g) → Answers y (replay base (viewOf g) r es)
+loaded-says index r es y e g l j = subst (λ (v : R.ReplayOutcome). Answers v (replay base (viewOf g) r es)) (sym (e ∙ value-loaded g index l r es)) (value-says (viewOf g) j r es)

@@ -18,7 +18,7 @@ use Rattle.path.specs.declared.path.Grown as G
 use Rattle.semantics.specs.Lists.{consIf}
 use Rattle.semantics.specs.Answer.{ok}
 use Rattle.semantics.specs.Graph.{View}
-use Rattle.semantics.specs.Path as Rules
+use Rattle.semantics.specs.Path as Model
 use Rattle.semantics.specs.Path.{along, jumped, append}
 use Rattle.semantics.specs.Path.Laws.{Appended, append-ok}
 use Rattle.semantics.specs.Calls.{Passage, edge, jump, passages, noPath}
@@ -55,12 +55,12 @@ length-step : (l : List ℕ) (k : ℕ) (s : Step) → length (withStep l k s) �
 length-step l k s = simp length-set
 
 -- the steps that an append adds, as they are answered
-passages-append : (l m : List Rules.Step) → passages (l ++ m) ≡ passages l ++ passages m
+passages-append : (l m : List Model.Step) → passages (l ++ m) ≡ passages l ++ passages m
 passages-append [] m = refl
 passages-append (along e n p ∷ l) m = ap (λ (x : List Passage). edge e ∷ x) (passages-append l m)
 passages-append (jumped n ∷ l) m = ap (λ (x : List Passage). jump n ∷ x) (passages-append l m)
 
-pub append-passages : (g : View) (j : JumpAt g) (p q : Rules.Path) (e : ℕ) → append g p e ≡ ok q → passages (q .steps) ≡ passages (p .steps) ++ (edge e ∷ consIf (isJumpEdge (g .edge e)) (jump (q .end)) [])
+pub append-passages : (g : View) (j : JumpAt g) (p q : Model.Path) (e : ℕ) → append g p e ≡ ok q → passages (q .steps) ≡ passages (p .steps) ++ (edge e ∷ consIf (isJumpEdge (g .edge e)) (jump (q .end)) [])
 append-passages g j p q e h =
     let k = append-ok g p q e h in
     on k (went g p q e (k .target .0) (k .precedence) (k .extended))
@@ -122,7 +122,7 @@ module _ (x : Path) (e : ℕ) (j : Bool) (s : Step) (few : x .count < 127) (z : 
       let d = older (x .count) (omega arith) in
       ap (passagesTo next) (sym q) ∙ (λ i. d i ++ (edge (a i) ∷ consIf (b i) (jump (c i .end)) []))
 
-  pub shows-more : (g : View) (at : JumpAt g) (p : Rules.Path) (sh : Shows x p) → j ≡ isJumpEdge (g .edge e) → Grown g (x .steps) (x .count) p (sh .stepped) more-room e s → (q : Rules.Path) × (append g p e ≡ ok q) × Shows next q
+  pub shows-more : (g : View) (at : JumpAt g) (p : Model.Path) (sh : Shows x p) → j ≡ isJumpEdge (g .edge e) → Grown g (x .steps) (x .count) p (sh .stepped) more-room e s → (q : Model.Path) × (append g p e ≡ ok q) × Shows next q
   shows-more g at p sh is y =
       let k = append-ok g p (y .path) e (y .appended) in (
         y .path,
@@ -138,7 +138,7 @@ module _ (x : Path) (e : ℕ) (j : Bool) (s : Step) (few : x .count < 127) (z : 
       )
 
 -- WHAT IS READ
-pub reads : (x : Path) (p : Rules.Path) → Shows x p → readPath x ≡ record { end = p .end; steps = passages (p .steps); symbols = p .stacks .symbols; scopes = p .stacks .scopes }
+pub reads : (x : Path) (p : Model.Path) → Shows x p → readPath x ≡ record { end = p .end; steps = passages (p .steps); symbols = p .stacks .symbols; scopes = p .stacks .scopes }
 reads x p sh = λ i. record { end = sh .end i; steps = sh .steps i; symbols = sym (sh .stepped .stacks) i .symbols; scopes = sym (sh .stepped .stacks) i .scopes }
 
 pub reads-empty : readPath emptyPath ≡ noPath

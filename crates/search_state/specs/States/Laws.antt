@@ -10,6 +10,7 @@ use Rattle.budget.specs.declared.path_budget.Budget.{Budget}
 use Rattle.budget.specs.declared.path_budget.Admitted.{Admitted}
 use Rattle.semantics.specs.declared.search.SearchLimits.{SearchLimits}
 use Rattle.budget.specs.Budget.{fresh, withMaxLength, withMaxPaths, withMaxComplete, completion}
+use Rattle.budget.specs.Budget.Laws.{limits-chained}
 use Rattle.search_state.specs.declared.state.SearchState.{SearchState}
 use Rattle.search_state.specs.declared.state.Recorded.the-variants.{Done, Full}
 use Rattle.search_state.specs.States.{newState, withBudget, asked, recordedBy, resultAfter}
@@ -38,5 +39,4 @@ module _ (s : SearchState) (a : Admitted) (is : a ≡ completion (s .kept) (s .b
 pub new-is : (l : SearchLimits) (results : ℕ) (a b c d : Budget) → a ≡ fresh → b ≡ withMaxLength (l .length) a → c ≡ withMaxPaths (l .paths) b → d ≡ withMaxComplete (l .complete) c
     → _≡_ {A = SearchState} (record { budget = d; cycles = 0; rejected = 0; kept = 0; results = results }) (newState l results)
 new-is l results a b c d p q r s =
-    ap (λ (x : Budget). record { budget = x; cycles = 0; rejected = 0; kept = 0; results = results })
-    (s ∙ ap (withMaxComplete (l .complete)) (r ∙ ap (withMaxPaths (l .paths)) (q ∙ ap (withMaxLength (l .length)) p)))
+    ap (λ (x : Budget). record { budget = x; cycles = 0; rejected = 0; kept = 0; results = results }) (limits-chained l a b c d p q r s)

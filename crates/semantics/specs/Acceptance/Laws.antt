@@ -11,6 +11,7 @@ use mathlib.Core.List.{List, [], _∷_}
 use lib.Dec.{leb, ltb, leb→le, ltb→lt}
 use lib.ListN.{length, getD}
 use lib.IntN.{ℤ}
+use borrow.Author.Tests.{not-true}
 use Rattle.semantics.specs.declared.graph.NodeId.{NodeId}
 use Rattle.semantics.specs.declared.graph.FileId.{FileId}
 use Rattle.semantics.specs.declared.graph.Node.{Node}
@@ -19,10 +20,11 @@ use Rattle.semantics.specs.declared.graph.Edge.{Edge}
 use Rattle.semantics.specs.declared.graph.Edge.the-variants as E
 use Rattle.semantics.specs.Lists.{and}
 use Rattle.semantics.specs.Lists.Laws.{eq→T, eqb-true, and-true}
-use Rattle.semantics.specs.Graph.{Graph, View, viewOf, fileOf, isExported}
+use Rattle.semantics.specs.Graph.{Graph, View, viewOf, traits, fileOf, lacksFile, isExported}
+use Rattle.semantics.specs.Graph.Laws.{fileless-shared}
 use Rattle.semantics.specs.PartialPaths.Laws.{belongs-cases, belongs-source}
 use Rattle.semantics.specs.Demand.{fileOwners, Suited}
-use Rattle.semantics.specs.Acceptance.{everyFrom, fileFits, placeFits, exportedIn, oneFile, edgeFits, nodeFits, countFits, accepts}
+use Rattle.semantics.specs.Acceptance.{everyFrom, isLive, fileFits, placeFits, exportedIn, oneFile, edgeFits, nodeFits, countFits, accepts}
 
 abbrev nodeTest : ℕ → View → ℕ → Node → Bool
 nodeTest files g i n = and (placeFits i n) (and (fileFits files (fileOf n)) (nodeFits g n))
@@ -93,6 +95,10 @@ module _ (g : Graph) (h : accepts g ≡ true) where
       on [] m e = absurd (omega (arith, m))
       on (a ∷ []) m e = absurd (omega (arith, m))
       on (a ∷ b ∷ l) m e = second b (and-true (placeFits 1 b) _ (and-true (nodeTest (g .files) (viewOf g) 1 b) _ (and-true (nodeTest (g .files) (viewOf g) 0 a) _ e .1) .0) .0)
+
+  -- so a live node that lacks a file is node 0 or node 1
+  pub fileless-first : (n : ℕ) → isLive ((viewOf g) .node n) ≡ true → lacksFile (fileOf ((viewOf g) .node n)) ≡ true → (n ≡ 0) ⊎ (n ≡ 1)
+  fileless-first n l e = ⊎-elim (λ k. inl (root-first n k)) (λ k. inr (jump-only n k)) (fileless-shared ((viewOf g) .node n) (not-true ((traits ((viewOf g) .node n)) .removed) l) e)
 
   -- an attached scope is exported: 19 has no occasion
   pub scope-exported : (n : ℕ) (f : FileId) (x : ℕ) (a : NodeId) (r : Bool) → (viewOf g) .node n ≡ N.PushScoped f x a r → isExported ((viewOf g) .node (a .0)) ≡ true

@@ -1,4 +1,5 @@
--- A fresh database in which every file was then replaced on this graph, without limits and unrefused, meets the premise of demand 3.
+-- A database in which every file was replaced on this graph, without limits and unrefused, meets the premise of demand 3: one that was fresh on
+-- this graph, and one that was made and filed on earlier graphs, as brokers refile daily.
 -- Document 01, "Partial paths", last paragraph, on the public calls and their words.
 use Prim.Native.Nat.{ℕ, _≤_, _<_}
 use mathlib.Core.Path.{_≡_, refl, sym, _∙_, ap, subst}
@@ -19,23 +20,30 @@ use Rattle.semantics.specs.Limits.{Bounds}
 use Rattle.semantics.specs.Answer.{Answer, ok, refuse}
 use Rattle.semantics.specs.Graph.{Graph, viewOf}
 use Rattle.semantics.specs.Enumeration.{State}
-use Rattle.semantics.specs.PartialPaths.{Route, Slot, filePartials, replaced}
+use Rattle.semantics.specs.PartialPaths.{Route, Slot, slot, filePartials, replaced}
 use Rattle.semantics.specs.PartialPaths.Laws.{file-found, file-partials, built-holds}
-use Rattle.semantics.specs.Demand.{fileOwners, Built, fresh, after, Holds}
+use Rattle.semantics.specs.Demand.{fileOwners, OwnersIn, Built, given, after, Holds}
 use Rattle.semantics.specs.Database.{slotsIn, checkDatabase, freshWords, hasRoom, replaceWords, filesOnly, usedIn, capacity}
-use Rattle.semantics.specs.Database.Laws.{checked-used, fresh-slots, slots-replaced, whole-records}
+use Rattle.semantics.specs.Database.Laws.{fresh-slots, slots-replaced, whole-records}
+use Rattle.semantics.specs.Database.Checked.{Checked, checked-words, checked-owners}
 use Rattle.semantics.specs.Calls.{FileRequest, fileSettingOf, created, stored, computed, onDatabase, freshCall, replaceCall}
 
 -- a replacement without limits
 abbrev pub unlimited : SearchOrder → ℕ → ℕ → FileRequest
 unlimited order work f = record { order = order; length = Absent; paths = Absent; work = work; file = f }
 
--- the words after a fresh call and some replace calls without limits, all answered with Done; the files replaced so far
-pub data Filed (bd : Bounds) (image : Answer ImageRefusal Graph) : List ℕ → List ℕ → Type 0 where
-  begun : (words : List ℕ) → (freshCall image words) .answer ≡ Creation.Done → Filed bd image ((freshCall image words) .database) []
-  refiled : {words done : List ℕ} (order : SearchOrder) (work f : ℕ) (t : PartialPathStats) → Filed bd image words done
+-- the words after some replace calls without limits on this image, all answered with Done, that began with any words at all; the files replaced so far
+pub data Refiled (bd : Bounds) (image : Answer ImageRefusal Graph) (before : List ℕ) : List ℕ → List ℕ → Type 0 where
+  begun : Refiled bd image before before []
+  refiled : {words done : List ℕ} (order : SearchOrder) (work f : ℕ) (t : PartialPathStats) → Refiled bd image before words done
       → (replaceCall bd filesOnly image (unlimited order work f) words) .answer ≡ Replacement.Done t
-      → Filed bd image ((replaceCall bd filesOnly image (unlimited order work f) words) .database) (f ∷ done)
+      → Refiled bd image before ((replaceCall bd filesOnly image (unlimited order work f) words) .database) (f ∷ done)
+
+-- such words that began as a fresh database of this image
+pub record Filed (bd : Bounds) (image : Answer ImageRefusal Graph) (words done : List ℕ) : Type 0 where
+  pub lent : List ℕ
+  pub created : (freshCall image lent) .answer ≡ Creation.Done
+  pub replaced : Refiled bd image ((freshCall image lent) .database) words done
 
 created-done : (b : Bool) (g : Graph) (words : List ℕ) → (created b g words) .answer ≡ Creation.Done → (created b g words) .database ≡ freshWords g (length words)
 unfolding created
@@ -46,7 +54,7 @@ record Replaced (bd : Bounds) (g : Graph) (q : FileRequest) (words new : List �
   pub state : State Route
   pub computed : filePartials bd (q .length) (fileSettingOf bd q) g (q .file) ≡ ok state
   pub written : replaceWords bd g (q .file) state words ≡ new
-  pub used : usedIn words ≤ capacity bd words
+  pub checked : Checked bd filesOnly g words
 
 module _ (bd : Bounds) (g : Graph) (q : FileRequest) (words : List ℕ) (t : PartialPathStats) where
   stored-done : (b : Bool) (s : State Route) → (stored bd b g q words s) .answer ≡ Replacement.Done t → replaceWords bd g (q .file) s words ≡ (stored bd b g q words s) .database
@@ -63,27 +71,53 @@ module _ (bd : Bounds) (g : Graph) (q : FileRequest) (words : List ℕ) (t : Par
   unfolding onDatabase
   database-done (ok db) k e =
       let c = computed-done (filePartials bd (q .length) (fileSettingOf bd q) g (q .file)) e in
-      record { state = c .0; computed = c .1; written = c .2; used = checked-used bd filesOnly g words db k }
+      record { state = c .0; computed = c .1; written = c .2; checked = checked-words bd filesOnly g words db k }
   database-done (refuse r) k e = absurd (let z : _≡_ {A = Bool} true false = cc in true≢false z)
 
   replace-done : (replaceCall bd filesOnly (ok g) q words) .answer ≡ Replacement.Done t → Replaced bd g q words ((replaceCall bd filesOnly (ok g) q words) .database)
   unfolding replaceCall
   replace-done e = database-done (checkDatabase bd filesOnly g words) refl e
 
-filed-built : (bd : Bounds) (g : Graph) {words done : List ℕ} → Filed bd (ok g) words done → Built bd g (slotsIn bd words) done × ((f : ℕ) → List·Memᴰ f done → f < g .files)
-unfolding freshCall
-filed-built bd g (begun words e) =
-    (subst (λ (db : List Slot). Built bd g db []) (sym (ap (slotsIn bd) (created-done (leb 3 (length words)) g words e) ∙ fresh-slots bd g (length words))) fresh, (λ f m. absurd (List·Memᴰ·not-nil m)))
-filed-built bd g (refiled {words = words} {done = done} order work f t b e) =
-    let ih = filed-built bd g b in
-    let r = replace-done bd g (unlimited order work f) words t e in
-    let c = fileSettingOf bd (unlimited order work f) in
-    let p = file-partials bd Absent c g f (r .state) (r .computed) in
-    let link : slotsIn bd (replaceWords bd g f (r .state) words) ≡ replaced f (slotsIn bd words) (r .state) =
-    slots-replaced bd g f (r .state) words (whole-records bd words (r .used)) (λ x m. ((file-found bd Absent c g f (r .state) (p .1)) .sound x m) .fits) in (
-      subst (λ (db : List Slot). Built bd g db (f ∷ done)) (sym link ∙ ap (slotsIn bd) (r .written)) (after f c (r .state) (ih .0) (p .1) refl refl),
-      (λ x m. ⊎-elim (λ (z : x ≡ f). subst (λ y. y < g .files) (sym z) (p .0)) (λ k. ih .1 x k) (List·Memᴰ·cases-cons m)),
-    )
+module _ (bd : Bounds) (g : Graph) where
+  -- a replacement on words is one on their slots
+  slots-after : (order : SearchOrder) (work f : ℕ) (words new : List ℕ) (r : Replaced bd g (unlimited order work f) words new) → replaced f (slotsIn bd words) (r .state) ≡ slotsIn bd new
+  slots-after order work f words new r =
+      let c = fileSettingOf bd (unlimited order work f) in
+      let p = file-partials bd Absent c g f (r .state) (r .computed) in
+      sym (slots-replaced bd g f (r .state) words (whole-records bd words (r .checked .used)) (λ x m. ((file-found bd Absent c g f (r .state) (p .1)) .sound x m) .fits)) ∙ ap (slotsIn bd) (r .written)
 
-pub filed-holds : (bd : Bounds) (g : Graph) (words done : List ℕ) → Filed bd (ok g) words done → ((f : ℕ) → f < g .files → List·Memᴰ f done) → Holds (fileOwners g) bd (viewOf g) (slotsIn bd words)
-filed-holds bd g words done b all = let k = filed-built bd g b in built-holds bd g (slotsIn bd words) done (k .0) all (k .1)
+  refiled-built : {before words done : List ℕ} → OwnersIn g (slotsIn bd before) → Refiled bd (ok g) before words done → Built bd g (slotsIn bd words) done
+  refiled-built known begun = given known
+  refiled-built known (refiled {words = words} {done = done} order work f t b e) =
+      let r = replace-done bd g (unlimited order work f) words t e in
+      let c = fileSettingOf bd (unlimited order work f) in
+      let p = file-partials bd Absent c g f (r .state) (r .computed) in
+      subst (λ (db : List Slot). Built bd g db (f ∷ done)) (slots-after order work f words _ r) (after f c (r .state) (refiled-built known b) (p .0) (p .1) refl refl)
+
+  -- words that this graph takes, before or after any of the replacements, show that those at the beginning named only its files
+  refiled-owners : {before words done : List ℕ} → Refiled bd (ok g) before words done → Checked bd filesOnly g words → OwnersIn g (slotsIn bd before)
+  refiled-owners {before = before} begun k = checked-owners bd g before k
+  refiled-owners (refiled {words = words} order work f t b e) k = refiled-owners b ((replace-done bd g (unlimited order work f) words t e) .checked)
+
+  -- so does the first replacement
+  first-owners : {before words done : List ℕ} → Refiled bd (ok g) before words done → (f : ℕ) → List·Memᴰ f done → OwnersIn g (slotsIn bd before)
+  first-owners begun f m = absurd (List·Memᴰ·not-nil m)
+  first-owners (refiled {words = words} order work f t b e) f′ m = refiled-owners b ((replace-done bd g (unlimited order work f) words t e) .checked)
+
+  fresh-owners : (lent : List ℕ) → (freshCall (ok g) lent) .answer ≡ Creation.Done → OwnersIn g (slotsIn bd ((freshCall (ok g) lent) .database))
+  unfolding freshCall
+  fresh-owners lent e f s t es m =
+      let z : slotsIn bd ((created (leb 3 (length lent)) g lent) .database) ≡ [] = ap (slotsIn bd) (created-done (leb 3 (length lent)) g lent e) ∙ fresh-slots bd g (length lent) in
+      absurd (List·Memᴰ·not-nil (subst (λ (db : List Slot). List·Memᴰ (slot f s t es) db) z m))
+
+  -- from any words: they hold every file's partial paths and no others, unless they meet 35 or 34
+  pub refiled-holds : (before words done : List ℕ) → Refiled bd (ok g) before words done → ((f : ℕ) → f < g .files → List·Memᴰ f done) → Checked bd filesOnly g words → Holds (fileOwners g) bd (viewOf g) (slotsIn bd words)
+  refiled-holds before words done b all k = built-holds bd g (slotsIn bd words) done (refiled-built (refiled-owners b k) b) all
+
+  -- of a graph that has a file, the replacements themselves have seen to that
+  pub refiled-some : (before words done : List ℕ) → Refiled bd (ok g) before words done → ((f : ℕ) → f < g .files → List·Memᴰ f done) → 0 < g .files → Holds (fileOwners g) bd (viewOf g) (slotsIn bd words)
+  refiled-some before words done b all some = built-holds bd g (slotsIn bd words) done (refiled-built (first-owners b 0 (all 0 some)) b) all
+
+  -- from a fresh database
+  pub filed-holds : (words done : List ℕ) → Filed bd (ok g) words done → ((f : ℕ) → f < g .files → List·Memᴰ f done) → Holds (fileOwners g) bd (viewOf g) (slotsIn bd words)
+  filed-holds words done b all = built-holds bd g (slotsIn bd words) done (refiled-built (fresh-owners (b .lent) (b .created)) (b .replaced)) all

@@ -1,25 +1,33 @@
 -- DEMAND 3, whole: from the bytes of an image and the words of a database to the used result slots of the two recorded-path calls.
 -- The third demand; document 01, "Partial paths", last paragraph.
 use Prim.Native.Nat.{ℕ, _<_}
-use mathlib.Core.Path.{_≡_, sym, subst}
-use mathlib.Core.Bool.{false}
+use mathlib.Core.Path.{_≡_, refl, sym, _∙_, ap, subst}
+use mathlib.Core.Bool.{Bool, true, false, true≢false}
 use mathlib.Core.List.{List, List·Memᴰ}
 use Rattle.semantics.specs.declared.search.SearchStats.{SearchStats}
 use Rattle.semantics.specs.declared.refusal.ImageRefusal.{ImageRefusal}
+use Rattle.semantics.specs.declared.refusal.DatabaseRefusal.{DatabaseRefusal}
 use Rattle.semantics.specs.declared.answer.Resolution.{Resolution}
 use Rattle.semantics.specs.declared.answer.Resolution.the-variants as Resolution
 use Rattle.semantics.specs.Limits.{Bounds}
-use Rattle.semantics.specs.Answer.{Answer, ok}
+use Rattle.semantics.specs.Answer.{Answer, ok, refuse}
+use Rattle.semantics.specs.Answer.Laws.{ok-inj}
 use Rattle.semantics.specs.Graph.{Graph, viewOf}
+use Rattle.semantics.specs.Graph.Laws.{viewOf-lawful}
+use Rattle.semantics.specs.Direct.{direct}
 use Rattle.semantics.specs.Recorded.{recorded}
 use Rattle.semantics.specs.Image.{checkImage}
 use Rattle.semantics.specs.Image.Laws.{image-accepted}
 use Rattle.semantics.specs.Words.{listsIn, slotWords}
-use Rattle.semantics.specs.Database.{slotsIn, filesOnly}
+use Rattle.semantics.specs.PartialPaths.{Slot}
+use Rattle.semantics.specs.Database.{slotsIn, filesOnly, checkDatabase}
+use Rattle.semantics.specs.Database.Checked.{Checked, checked-words}
 use Rattle.semantics.specs.Demand.{fileOwners, Demand, Holds}
-use Rattle.semantics.specs.Calls.{Request, Outcome, directCall, stitchedCall}
+use Rattle.semantics.specs.Demand.Rules.{Exactly, demand-exactly}
+use Rattle.semantics.specs.Calls.{Request, Outcome, settingOf, directCall, onSlots, stitchedCall}
 use Rattle.semantics.specs.Calls.Laws.{demand}
-use Rattle.semantics.specs.Calls.Filing.{Filed, filed-holds}
+use Rattle.semantics.specs.Calls.Statistics.{direct-identities}
+use Rattle.semantics.specs.Calls.Filing.{Refiled, Filed, refiled-holds, filed-holds}
 
 -- a recorded set (document 01): the edge lists in the used result slots of the added call
 abbrev pub recordedSet : Bounds → Outcome Resolution → List (List ℕ)
@@ -65,3 +73,52 @@ module _ (w : ℕ) (bd : Bounds) where
   -- the premise on databases is met by a fresh database in which every file was then replaced on this image, without limits and unrefused
   pub filed-premise : (im : List ℕ) (g : Graph) → checkImage w im ≡ ok g → (words done : List ℕ) → Filed bd (checkImage w im) words done → ((f : ℕ) → f < g .files → List·Memᴰ f done) → Holds (fileOwners g) bd (viewOf g) (slotsIn bd words)
   filed-premise im g h words done filed all = filed-holds bd g words done (subst (λ (a : Answer ImageRefusal Graph). Filed bd a words done) h filed) all
+
+  -- an unrefused stitched call has met neither 35 nor 34
+  stitched-checked : (g : Graph) (words : List ℕ) (q : Request) → Finished (stitchedCall bd recorded filesOnly (ok g) words q) → Checked bd filesOnly g words
+  unfolding stitchedCall onSlots
+  stitched-checked g words q f = on (checkDatabase bd filesOnly g words) refl (f .answered)
+    where
+      on : (a : Answer DatabaseRefusal (List Slot)) → checkDatabase bd filesOnly g words ≡ a → (onSlots bd recorded g q a) .answer ≡ Resolution.Done (f .paths) (f .stats) → Checked bd filesOnly g words
+      on (ok db) k e = checked-words bd filesOnly g words db k
+      on (refuse r) k e = absurd (let z : _≡_ {A = Bool} true false = cc in true≢false z)
+
+  -- THE DAILY REFILING: every file was replaced on this image in words that may have been made and filed on any earlier one
+  pub record Refiling (im before words : List ℕ) (q q′ : Request) : Type 0 where
+    pub graph : Graph
+    pub accepted : checkImage w im ≡ ok graph
+    pub same-reference : q .node ≡ q′ .node
+    pub same-length-limit : q .limits .length ≡ q′ .limits .length
+    pub done : List ℕ
+    pub replaced : Refiled bd (checkImage w im) before words done
+    pub every-file : (f : ℕ) → f < graph .files → List·Memᴰ f done
+    pub direct-finished : Finished (directRecorded im q)
+    pub stitched-finished : Finished (stitchedRecorded im words q′)
+
+  pub refiled-premises : (im before words : List ℕ) (q q′ : Request) → Refiling im before words q q′ → Premises im words q q′
+  refiled-premises im before words q q′ p =
+      let g = p .graph in
+      let filed = subst (λ (a : Answer ImageRefusal Graph). Refiled bd a before words (p .done)) (p .accepted) (p .replaced) in
+      let checked = stitched-checked g words q′ (subst (λ (a : Answer ImageRefusal Graph). Finished (stitchedCall bd recorded filesOnly a words q′)) (p .accepted) (p .stitched-finished)) in
+      record {
+        graph = g;
+        accepted = p .accepted;
+        same-reference = p .same-reference;
+        same-length-limit = p .same-length-limit;
+        database-holds = refiled-holds bd g before words (p .done) filed (p .every-file) checked;
+        direct-finished = p .direct-finished;
+        stitched-finished = p .stitched-finished;
+      }
+
+  pub demand-3-refiled : (im before words : List ℕ) (q q′ : Request) (p : Refiling im before words q q′) → Demand bd (viewOf (p .graph)) (q .node) (q .limits .length) (recordedSet bd (directRecorded im q)) (recordedSet bd (stitchedRecorded im words q′))
+  unfolding refiled-premises
+  demand-3-refiled im before words q q′ p = demand-3 im words q q′ (refiled-premises im before words q q′ p)
+
+  -- DEMAND 3 BY THE RULES: the recorded sets are the lists that the paper's inference rules take, with no bound on their length
+  pub demand-3-by-rules : (im words : List ℕ) (q q′ : Request) (p : Premises im words q q′) → Exactly (q .limits .length) (viewOf (p .graph)) (q .node) (recordedSet bd (directRecorded im q)) (recordedSet bd (stitchedRecorded im words q′))
+  demand-3-by-rules im words q q′ p =
+      let b = direct-identities bd recorded (checkImage w im) q (p .direct-finished .paths) (p .direct-finished .stats) (p .direct-finished .answered) in
+      let same : b .graph ≡ p .graph = ok-inj (b .graph) (p .graph) (sym (b .accepted) ∙ p .accepted) in
+      let found : direct bd (q .limits .length) (settingOf bd q) (viewOf (p .graph)) (q .node) ≡ ok (b .state) = subst (λ (g : Graph). direct bd (q .limits .length) (settingOf bd q) (viewOf g) (q .node) ≡ ok (b .state)) same (b .found) in
+      let uncounted : b .state .stats .countLimited ≡ false = ap (λ (t : SearchStats). t .countLimited) (b .stats) ∙ p .direct-finished .uncounted in
+      demand-exactly bd (q .limits .length) (settingOf bd q) (viewOf (p .graph)) (viewOf-lawful (p .graph)) (q .node) (b .state) found uncounted _ _ (demand-3 im words q q′ p)

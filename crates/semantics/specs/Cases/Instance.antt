@@ -1,7 +1,7 @@
 -- An instance of demand 3: all its premises hold of graph C and a database that was filed by the public calls.
 -- So the demand is not empty, and its conclusion there is what document 01 says of C.
 use native.Mathlib.Omega.{arith}
-use mathlib.Core.Path.{refl}
+use mathlib.Core.Path.{_≡_, refl}
 use mathlib.Core.Bool.{true, false}
 use mathlib.Core.List.{[], _∷_, List·Memᴰ·head}
 use Rattle.semantics.specs.declared.graph.Node.the-variants as N
@@ -14,8 +14,9 @@ use Rattle.semantics.specs.Image.{symbolBytes, checkImage}
 use Rattle.semantics.specs.Words.{zeros}
 use Rattle.semantics.specs.Calls.{Request, directCall, stitchedCall, freshCall, replaceCall}
 use Rattle.semantics.specs.Calls.Filing.{Filed, begun, refiled}
-use Rattle.semantics.specs.Calls.Whole.{Premises, filed-premise}
-use Rattle.semantics.specs.Cases.{imageC, live, request, oneFile, replacing, freshly}
+use Rattle.semantics.specs.Calls.Whole.{Premises, filed-premise, Refiling}
+use Rattle.semantics.specs.Cases.Graphs.{imageA, imageC, live}
+use Rattle.semantics.specs.Cases.Asked.{request, oneFile, replacing, freshly}
 
 -- DEMAND 3 HAS INSTANCES: its premises hold together of C, whose file was filed into a fresh database of 8 slots
 abbrev pub askedC : Request
@@ -31,7 +32,11 @@ graphC =
 
 filedC : Filed base (checkImage symbolBytes imageC) (oneFile imageC) (0 ∷ [])
 unfolding oneFile replacing freshly checkImage freshCall replaceCall
-filedC = refiled BreadthFirst 16384 0 (record { expanded = 5; found = 3; cycles = 0; lengthLimited = false; countLimited = false }) (begun (zeros 1051) refl) refl
+filedC = record {
+  lent = zeros 1051;
+  created = refl;
+  replaced = refiled BreadthFirst 16384 0 (record { expanded = 5; found = 3; cycles = 0; lengthLimited = false; countLimited = false }) begun refl;
+}
 
 pub premises-c : Premises symbolBytes base imageC (oneFile imageC) askedC askedC
 unfolding checkImage graphC oneFile replacing freshly directCall stitchedCall recorded
@@ -43,4 +48,27 @@ premises-c = record {
   database-holds = filed-premise symbolBytes base imageC graphC refl (oneFile imageC) (0 ∷ []) filedC (λ f h. List·Memᴰ·head (omega (arith, h)));
   direct-finished = record { paths = 2; stats = record { expanded = 5; complete = 2; rejected = 0; cycles = 1; lengthLimited = false; countLimited = false; completeLimited = false }; answered = refl; uncounted = refl; uncut = refl };
   stitched-finished = record { paths = 1; stats = record { expanded = 4; complete = 2; rejected = 0; cycles = 0; lengthLimited = false; countLimited = false; completeLimited = false }; answered = refl; uncounted = refl; uncut = refl };
+}
+
+-- THE DAILY REFILING HAS ONE TOO: a database that was filed on C, and then its file replaced on A
+graphA : Graph
+graphA =
+    record {
+      files = 1;
+      nodes = N.Root ∷ N.JumpToScope ∷ N.Push (fileId 0) 7 true ∷ N.Scope (fileId 0) true ∷ N.Pop (fileId 0) 7 true ∷ N.Pop (fileId 0) 8 true ∷ [];
+      edges = live 2 3 0 ∷ live 3 4 0 ∷ live 3 5 1 ∷ [];
+    }
+
+pub refiling-a : Refiling symbolBytes base imageA (oneFile imageC) ((replacing imageA 0 (oneFile imageC)) .database) askedC askedC
+unfolding checkImage graphA oneFile replacing freshly freshCall replaceCall directCall stitchedCall recorded
+refiling-a = record {
+  graph = graphA;
+  accepted = refl;
+  same-reference = refl;
+  same-length-limit = refl;
+  done = 0 ∷ [];
+  replaced = refiled BreadthFirst 16384 0 (record { expanded = 8; found = 5; cycles = 0; lengthLimited = false; countLimited = false }) begun refl;
+  every-file = λ f h. let z : f ≡ 0 = omega (arith, h) in List·Memᴰ·head z;
+  direct-finished = record { paths = 1; stats = record { expanded = 3; complete = 1; rejected = 1; cycles = 0; lengthLimited = false; countLimited = false; completeLimited = false }; answered = refl; uncounted = refl; uncut = refl };
+  stitched-finished = record { paths = 1; stats = record { expanded = 4; complete = 2; rejected = 2; cycles = 0; lengthLimited = false; countLimited = false; completeLimited = false }; answered = refl; uncounted = refl; uncut = refl };
 }

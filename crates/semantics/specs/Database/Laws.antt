@@ -22,7 +22,7 @@ use Rattle.semantics.specs.Words.{zeros, wholeSlots, slotsOf, recordWord
 use Rattle.semantics.specs.Words.Laws.{whole-fits, length-slots}
 use Rattle.semantics.specs.Database.{usedIn, nodesIn, filesIn, passIf, wellFormed, checkDatabase, chosen, capacity, decode, encodeSlot, records, slotsIn, zeroIf, clearRecord, flatten, replaceWords, freshWords}
 
-abbrev AllLong : ℕ → List (List ℕ) → Type 0
+abbrev pub AllLong : ℕ → List (List ℕ) → Type 0
 AllLong L [] = Unit {0}
 AllLong L (x ∷ xs) = (length x ≡ L) × AllLong L xs
 
@@ -38,7 +38,7 @@ slots-flatten L n (x ∷ xs) rest h =
     ∙ ap (λ (w : List ℕ). x ∷ slotsOf L (length xs + n) w) d
     ∙ ap (λ (w : List (List ℕ)). x ∷ w) (slots-flatten L n xs rest (h .1))
 
-slots-long : (L n : ℕ) (ws : List ℕ) → L * n ≤ length ws → AllLong L (slotsOf L n ws)
+pub slots-long : (L n : ℕ) (ws : List ℕ) → L * n ≤ length ws → AllLong L (slotsOf L n ws)
 unfolding slotsOf
 slots-long L zero ws h = tt
 slots-long L (suc n) ws h = (length-take-le L ws (omega (arith, mul-suc L n)), slots-long L n (drop L ws) (simp length-drop (omega (arith, mul-suc L n))))

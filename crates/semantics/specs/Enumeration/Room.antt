@@ -1,5 +1,5 @@
--- No more items are kept than there are result slots.
--- Serves the words of a result area: document 01, 32 of "Turned back".
+-- A slot is refused exactly when all are taken; no more items are kept than there are result slots.
+-- Document 01, 31 and 32 of "Turned back"; serves the words of a result area.
 use Prim.Native.Nat.{ℕ, zero, suc, _+_, _≤_, _<_}
 use native.Mathlib.Omega.{arith}
 use mathlib.Core.Path.{_≡_, refl, sym, subst}
@@ -7,13 +7,38 @@ use mathlib.Core.Bool.{Bool, true, false}
 use mathlib.Core.List.{List, [], _∷_, _++_}
 use lib.Dec.{T, ltb, ltb→lt}
 use lib.ListN.{length, length-append}
+use borrow.Author.Tests.{le-ltb, ltb-false}
 use Rattle.semantics.specs.declared.search.SearchOrder.{SearchOrder}
 use Rattle.semantics.specs.declared.search.SearchOrder.the-variants.{BreadthFirst, DepthFirst}
 use Rattle.semantics.specs.Limits.{below}
-use Rattle.semantics.specs.Answer.{Answer, ok}
-use Rattle.semantics.specs.Answer.Laws.{ok-inj, refuse-ok, andThen-ok}
+use Rattle.semantics.specs.Answer.{Answer, ok, refuse}
+use Rattle.semantics.specs.Answer.Laws.{ok-inj, refuse-ok, ok-refuse, andThen-ok}
 use Rattle.semantics.specs.Enumeration.{Try, cut, overlong, reject, stop, go, slots, Setting, State, Turn, over, expand, one, each, merge, turn, run, enumerate, blank, withStats, withTally, withPending, withKept, judged, addLooked, placeIf, place, pushItem, keepIf, keep, addComplete, admit, popped, final, follow, seed}
 use Rattle.semantics.specs.Enumeration.Laws.{place-ok}
+
+-- with n of the slots taken, one more is refused exactly when there are no more than n
+module _ {ℓ} {R : Type 0} {A : Type ℓ} (size n : ℕ) (r : R) (x : A) where
+  pub place-full : size ≤ n → place (slots size r) n x ≡ refuse r
+  unfolding place placeIf
+  place-full h = rw (le-ltb n size h)
+
+  pub place-refused : (q : R) → place (slots size r) n x ≡ refuse q → size ≤ n
+  unfolding place placeIf
+  place-refused q e = on (ltb n size) refl e
+    where
+      on : (b : Bool) → ltb n size ≡ b → placeIf b r x ≡ refuse q → size ≤ n
+      on true h k = absurd (ok-refuse q x k)
+      on false h k = ltb-false n size h
+
+-- 31 is given at a push when the waiting slots are all taken, and at no other push
+module _ {R W : Type 0} (size : ℕ) (r : R) (c : Setting R) (area : c .waiting ≡ slots size r) (w : W) (s : State W) where
+  pub push-full : size ≤ length (s .rest) + length (s .pending) → pushItem c w s ≡ refuse r
+  unfolding pushItem
+  push-full h = rw area (place-full size (length (s .rest) + length (s .pending)) r (withPending w s) h)
+
+  pub push-refused : (q : R) → pushItem c w s ≡ refuse q → size ≤ length (s .rest) + length (s .pending)
+  unfolding pushItem
+  push-refused q e = place-refused size (length (s .rest) + length (s .pending)) r (withPending w s) q (rw area at e)
 
 place-below {ℓ} : {R : Type 0} {A : Type ℓ} (size n : ℕ) (r : R) (x u : A) → place (slots size r) n x ≡ ok u → n < size
 unfolding place placeIf

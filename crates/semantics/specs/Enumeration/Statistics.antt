@@ -1,6 +1,6 @@
 -- The two identities between the statistics of an enumeration that is not refused.
 -- Document 01, "Budget and frontier", second paragraph; for every search, with the number of its starting items.
-use Prim.Native.Nat.{ℕ, zero, suc, _+_}
+use Prim.Native.Nat.{ℕ, zero, suc, _+_, _≤_}
 use native.Mathlib.Omega.{arith}
 use mathlib.Core.Path.{_≡_, refl, _∙_, ap, subst}
 use mathlib.Core.Bool.{Bool, true, false}
@@ -98,15 +98,16 @@ module _ {R W : Type 0} where
       record { outcome = omega (arith, m .outcome); looks = omega (arith, m .looks); pushes = m .pushes; waits = m .waits; expansions = m .expansions; rest = m .rest; flag = m .flag }
 
 module _ {W : Type 0} where
-  -- with k starting items: outcomes are edges looked at and the k pushes; pushes are expansions, waiting items, and one more where the path-count flag is set
+  -- with k starting items, which are among the pushes: outcomes are edges looked at and the k pushes; pushes are expansions, waiting items, and one more where the path-count flag is set
   pub record Balanced (k : ℕ) (s : State W) : Type 0 where
+    pub begun : k ≤ s .tally .pushed
     pub outcome : outcomes s ≡ s .tally .looked + k
     pub pushes : s .tally .pushed ≡ s .stats .expanded + length (s .rest) + length (s .pending) + bit (s .stats .countLimited)
 
   merge-balanced : (k : ℕ) (o : SearchOrder) (s : State W) → Balanced k s → Balanced k (merge o s)
   unfolding merge
-  merge-balanced k BreadthFirst s b = record { outcome = b .outcome; pushes = omega (arith, b .pushes, length-append (s .rest) (s .pending)) }
-  merge-balanced k DepthFirst s b = record { outcome = b .outcome; pushes = omega (arith, b .pushes, length-append (s .pending) (s .rest)) }
+  merge-balanced k BreadthFirst s b = record { begun = b .begun; outcome = b .outcome; pushes = omega (arith, b .pushes, length-append (s .rest) (s .pending)) }
+  merge-balanced k DepthFirst s b = record { begun = b .begun; outcome = b .outcome; pushes = omega (arith, b .pushes, length-append (s .pending) (s .rest)) }
 
   -- at the top of a round: nothing pending, no path-count flag
   record Ready (k : ℕ) (s : State W) : Type 0 where
@@ -118,7 +119,7 @@ module _ {R W : Type 0} where
   each-balanced : (k : ℕ) (c : Setting R) (s u : State W) (ts : List (Try R W)) → Balanced k s → each c s ts ≡ ok u → Balanced k u
   each-balanced k c s u ts b e =
       let m = each-moved c s u ts e in
-      record { outcome = omega (arith, m .outcome, m .looks, b .outcome); pushes = rw (m .flag) (omega (arith, m .pushes, m .waits, m .expansions, m .rest, b .pushes)) }
+      record { begun = omega (arith, m .pushes, b .begun); outcome = omega (arith, m .outcome, m .looks, b .outcome); pushes = rw (m .flag) (omega (arith, m .pushes, m .waits, m .expansions, m .rest, b .pushes)) }
 
 module _ {W : Type 0} where
   abbrev TurnBalanced : ℕ → Turn W → Type 0
@@ -134,8 +135,8 @@ module _ {R W : Type 0} where
       total = omega (arith, r .balanced .pushes, ap length (r .none-pending), ap bit (r .unflagged))
 
       admitted : (b : Bool) (w : W) (ws : List W) → s .rest ≡ w ∷ ws → TurnBalanced k (admit b s w ws)
-      admitted true w ws e = record { balanced = record { outcome = r .balanced .outcome; pushes = rw (r .unflagged) (omega (arith, total, ap length e)) }; none-pending = refl; unflagged = r .unflagged }
-      admitted false w ws e = record { outcome = r .balanced .outcome; pushes = omega (arith, total, ap length e) }
+      admitted true w ws e = record { balanced = record { begun = r .balanced .begun; outcome = r .balanced .outcome; pushes = rw (r .unflagged) (omega (arith, total, ap length e)) }; none-pending = refl; unflagged = r .unflagged }
+      admitted false w ws e = record { begun = r .balanced .begun; outcome = r .balanced .outcome; pushes = omega (arith, total, ap length e) }
 
       go-on : (l : List W) → s .rest ≡ l → TurnBalanced k (popped c s l)
       go-on [] e = r .balanced
@@ -187,5 +188,5 @@ module _ {R W : Type 0} where
   enumerate-balanced c tries fuel ws u e =
       let a = andThen-ok (seed c blank ws) (λ s. run c tries fuel (merge (c .order) s)) u e in
       let m = seed-moved c blank (a .0) ws (a .1) in
-      let b : Balanced (length ws) (a .0) = record { outcome = omega (arith, m .outcome, m .looks); pushes = rw (m .flag) (omega (arith, m .pushes, m .waits, m .expansions, m .rest)) } in
+      let b : Balanced (length ws) (a .0) = record { begun = omega (arith, m .pushes); outcome = omega (arith, m .outcome, m .looks); pushes = rw (m .flag) (omega (arith, m .pushes, m .waits, m .expansions, m .rest)) } in
       run-balanced (length ws) c tries u fuel (merge (c .order) (a .0)) (merge-ready (length ws) (c .order) (a .0) b (m .flag)) (a .2)

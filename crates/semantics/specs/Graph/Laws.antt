@@ -4,7 +4,7 @@ use Prim.Native.Nat.{ℕ, zero, suc, _+_, _<_}
 use native.Mathlib.Nat.{add-zero, zero-add, add-suc, suc-add}
 use native.Mathlib.Omega.{arith}
 use mathlib.Core.Path.{_≡_, refl, sym, _∙_, ap}
-use mathlib.Core.Logic.{⊎-elim}
+use mathlib.Core.Logic.{_⊎_, inl, inr, ⊎-elim}
 use mathlib.Core.Bool.{Bool, true, false, true≢false, false≢true}
 use mathlib.Core.Option.{some}
 use mathlib.Core.List.{List, [], _∷_, List·Memᴰ, List·Memᴰ·head, List·Memᴰ·not-nil}
@@ -18,7 +18,7 @@ use Rattle.semantics.specs.declared.graph.Edge.{Edge}
 use Rattle.semantics.specs.declared.graph.Edge.the-variants as E
 use Rattle.semantics.specs.Lists.{consIf, or}
 use Rattle.semantics.specs.Lists.Laws.{eqb-true, consIf-tail, consIf-cases, or-true}
-use Rattle.semantics.specs.Graph.{nodeId, Graph, viewOf, outgoing, traits, fileOf, isReference, isDefinition, isExported, isStart, isEndpoint, Ascending, Lawful}
+use Rattle.semantics.specs.Graph.{nodeId, Graph, viewOf, outgoing, traits, fileOf, lacksFile, isReference, isDefinition, isExported, isStart, isEndpoint, Ascending, Lawful}
 
 out-has : (n i k : ℕ) (s t : NodeId) (p : ℤ) (es : List Edge) → getD es k E.Removed ≡ E.Live s t p → eqb (s .0) n ≡ true → List·Memᴰ (i + k) (outgoing n i es)
 unfolding outgoing
@@ -105,3 +105,35 @@ reference-start (N.DropScopes f) e = absurd (false≢true e)
 
 pub definition-endpoint : (n : Node) → isDefinition n ≡ true → isEndpoint n ≡ true
 definition-endpoint n e = rw e (ap (or ((traits n) .shared)) (or-true ((traits n) .exported)) ∙ or-true ((traits n) .shared))
+
+-- the endpoints are root, jump, the exported scopes and the definitions, and no others
+pub endpoint-cases : (n : Node) → isEndpoint n ≡ true → (n ≡ N.Root) ⊎ (n ≡ N.JumpToScope) ⊎ (isExported n ≡ true) ⊎ (isDefinition n ≡ true)
+endpoint-cases N.Removed e = absurd (false≢true e)
+endpoint-cases N.Root e = inl refl
+endpoint-cases N.JumpToScope e = inr (inl refl)
+endpoint-cases (N.Scope f x) e = inr (inr (inl (exported-alone x e)))
+  where
+    exported-alone : (x : Bool) → or x false ≡ true → x ≡ true
+    exported-alone true e = refl
+    exported-alone false e = e
+endpoint-cases (N.Push f s r) e = absurd (false≢true e)
+endpoint-cases (N.Pop f s d) e = inr (inr (inr e))
+endpoint-cases (N.PushScoped f s a r) e = absurd (false≢true e)
+endpoint-cases (N.PopScoped f s d) e = inr (inr (inr e))
+endpoint-cases (N.DropScopes f) e = absurd (false≢true e)
+
+pub exported-endpoint : (n : Node) → isExported n ≡ true → isEndpoint n ≡ true
+exported-endpoint n e = rw e (or-true ((traits n) .shared))
+
+-- of live nodes only root and jump lack a file
+pub fileless-shared : (n : Node) → (traits n) .removed ≡ false → lacksFile (fileOf n) ≡ true → (n ≡ N.Root) ⊎ (n ≡ N.JumpToScope)
+unfolding lacksFile
+fileless-shared N.Removed l e = absurd (false≢true (sym l))
+fileless-shared N.Root l e = inl refl
+fileless-shared N.JumpToScope l e = inr refl
+fileless-shared (N.Scope f x) l e = absurd (false≢true e)
+fileless-shared (N.Push f s r) l e = absurd (false≢true e)
+fileless-shared (N.Pop f s d) l e = absurd (false≢true e)
+fileless-shared (N.PushScoped f s a r) l e = absurd (false≢true e)
+fileless-shared (N.PopScoped f s d) l e = absurd (false≢true e)
+fileless-shared (N.DropScopes f) l e = absurd (false≢true e)

@@ -31,7 +31,7 @@ use Rattle.semantics.specs.Graph.Laws.{viewOf-lawful}
 use Rattle.semantics.specs.Enumeration.{go, Setting, State}
 use Rattle.semantics.specs.Enumeration.Laws.{Leads, here, on, enumerate-full, enumerate-sound, enumerate-unlimited}
 use Rattle.semantics.specs.PartialPaths.{Route, Slot, dead, slot, isOfFile, belongs, targetOf, longer, ifRoom, ifShort, unlessCycle, judgeRoute, routeTries, startsFrom, routeAt, startRoutes, partials, fileRoutes, ifKnown, filePartials, clear, deadIf, slotOf, replaced}
-use Rattle.semantics.specs.Demand.{Owners, fileOwners, Walk, stay, step, Partial, Holds, Built, fresh, after}
+use Rattle.semantics.specs.Demand.{Owners, fileOwners, Walk, stay, step, Partial, Holds, Built, given, after}
 
 pub walk-snoc : (g : View) (mine : ℕ → Bool) (e : ℕ) (t : NodeId) (p : ℤ) {n m : ℕ} {es : List ℕ} → Walk g mine n es m → g .edge e ≡ E.Live (nodeId m) t p → mine e ≡ true → Walk g mine n (es ++ (e ∷ [])) (t .0)
 walk-snoc g mine e t p stay h b = step p h b stay
@@ -248,16 +248,18 @@ module _ (bd : Bounds) (lim : Limit) (c : Setting PartialPathRefusal) (g : Graph
       on true e k = (ltb→lt f (g .files) (eq→T (ltb f (g .files)) e), k)
       on false e k = absurd (refuse-ok (UnknownFile (fileId f)) u k)
 
--- a slot that survives a clearing
-clear-from : (f f′ s t : ℕ) (es : List ℕ) (db : List Slot) → List·Memᴰ (slot f′ s t es) (clear f db) → List·Memᴰ (slot f′ s t es) db
+-- A DATABASE IN WHICH EVERY FILE WAS REPLACED
+
+-- a slot that survives a clearing is another file's
+clear-from : (f f′ s t : ℕ) (es : List ℕ) (db : List Slot) → List·Memᴰ (slot f′ s t es) (clear f db) → List·Memᴰ (slot f′ s t es) db × (eqb f′ f ≡ false)
 unfolding clear
 clear-from f f′ s t es [] m = absurd (List·Memᴰ·not-nil m)
-clear-from f f′ s t es (dead ∷ db) m = ⊎-elim (λ e. List·Memᴰ·head e) (λ k. List·Memᴰ·tail (clear-from f f′ s t es db k)) (List·Memᴰ·cases-cons m)
-clear-from f f′ s t es (slot x s′ t′ es′ ∷ db) m = ⊎-elim (λ e. List·Memᴰ·head (was (eqb x f) e)) (λ k. List·Memᴰ·tail (clear-from f f′ s t es db k)) (List·Memᴰ·cases-cons m)
+clear-from f f′ s t es (dead ∷ db) m = ⊎-elim (λ e. absurd (let z : _≡_ {A = Bool} true false = cc in true≢false z)) (λ k. let r = clear-from f f′ s t es db k in (List·Memᴰ·tail (r .0), r .1)) (List·Memᴰ·cases-cons m)
+clear-from f f′ s t es (slot x s′ t′ es′ ∷ db) m = ⊎-elim (λ e. let r = was (eqb x f) refl e in (List·Memᴰ·head (r .0), r .1)) (λ k. let r = clear-from f f′ s t es db k in (List·Memᴰ·tail (r .0), r .1)) (List·Memᴰ·cases-cons m)
   where
-    was : (b : Bool) → slot f′ s t es ≡ deadIf b (slot x s′ t′ es′) → slot f′ s t es ≡ slot x s′ t′ es′
-    was true e = absurd (let z : _≡_ {A = Bool} true false = cc in true≢false z)
-    was false e = e
+    was : (b : Bool) → eqb x f ≡ b → slot f′ s t es ≡ deadIf b (slot x s′ t′ es′) → (slot f′ s t es ≡ slot x s′ t′ es′) × (eqb f′ f ≡ false)
+    was true h e = absurd (let z : _≡_ {A = Bool} true false = cc in true≢false z)
+    was false h e = (e, let z : f′ ≡ x = cc in ap (λ q. eqb q f) z ∙ h)
 
 clear-keeps : (f f′ s t : ℕ) (es : List ℕ) (db : List Slot) → eqb f′ f ≡ false → List·Memᴰ (slot f′ s t es) db → List·Memᴰ (slot f′ s t es) (clear f db)
 unfolding clear
@@ -268,37 +270,48 @@ clear-keeps f f′ s t es (slot x s′ t′ es′ ∷ db) n m = ⊎-elim (λ e. 
     stays : slot f′ s t es ≡ slot x s′ t′ es′ → slot f′ s t es ≡ deadIf (eqb x f) (slot x s′ t′ es′)
     stays e = let z : f′ ≡ x = cc in let y : eqb x f ≡ false = ap (λ q. eqb q f) (sym z) ∙ n in e ∙ ap (λ b. deadIf b (slot x s′ t′ es′)) (sym y)
 
-built-only : (bd : Bounds) (g : Graph) {db : List Slot} {done : List ℕ} → Built bd g db done → (f s t : ℕ) (es : List ℕ) → List·Memᴰ (slot f s t es) db → List·Memᴰ f done × Partial bd Absent (viewOf g) (fileOwners g) f (record { start = s; current = t; edges = es })
-unfolding replaced
-built-only bd g fresh f s t es m = absurd (List·Memᴰ·not-nil m)
-built-only bd g (after {db = db} {done = done} f′ c u b h n k) f s t es m = ⊎-elim (λ i. let y = built-only bd g b f s t es (clear-from f′ f s t es db i) in (List·Memᴰ·tail (y .0), y .1)) is-new (List·Memᴰ·append-cases (clear f′ db) m)
-  where
-    is-new : List·Memᴰ (slot f s t es) (map (slotOf f′) (u .kept)) → List·Memᴰ f (f′ ∷ done) × Partial bd Absent (viewOf g) (fileOwners g) f (record { start = s; current = t; edges = es })
-    is-new i =
-        let x = mem-map (slotOf f′) (slot f s t es) (u .kept) i in
-        let e : slot f s t es ≡ slot f′ (x .0 .start) (x .0 .current) (x .0 .edges) = x .2 in
-        let p = (file-found bd Absent c g f′ u h) .sound (x .0) (x .1) in
-        let ff : f ≡ f′ = cc in
-        let ss : s ≡ x .0 .start = cc in
-        let t₁ : t ≡ x .0 .current = cc in
-        let ee : es ≡ x .0 .edges = cc in
-        let r : record { start = s; current = t; edges = es } ≡ x .0 = λ j. record { start = ss j; current = t₁ j; edges = ee j } in
-        (List·Memᴰ·head ff, rw (ff, r) p)
+module _ (bd : Bounds) (g : Graph) where
+  abbrev Found-in : ℕ → ℕ → ℕ → List ℕ → Type 0
+  Found-in f s t es = Partial bd Absent (viewOf g) (fileOwners g) f (record { start = s; current = t; edges = es })
 
-built-every : (bd : Bounds) (g : Graph) {db : List Slot} {done : List ℕ} → Built bd g db done → (f : ℕ) (r : Route) → List·Memᴰ f done → Partial bd Absent (viewOf g) (fileOwners g) f r → List·Memᴰ (slot f (r .start) (r .current) (r .edges)) db
-unfolding replaced
-built-every bd g fresh f r m p = absurd (List·Memᴰ·not-nil m)
-built-every bd g (after {db = db} {done = done} f′ c u b h n k) f r m p = by-file (eqb f f′) refl (λ i. built-every bd g b f r i p)
-  where
-    by-file : (x : Bool) → eqb f f′ ≡ x → (List·Memᴰ f done → List·Memᴰ (slot f (r .start) (r .current) (r .edges)) db) → List·Memᴰ (slot f (r .start) (r .current) (r .edges)) (clear f′ db ++ map (slotOf f′) (u .kept))
-    by-file true e ih =
-        let z = eqb-true f f′ e in
-        Memᴰ·append-right (clear f′ db) (rw z (map-mem (slotOf f′) r (u .kept) (file-unlimited bd Absent c g f′ u h n k r (rw z at p))))
-    by-file false e ih = Memᴰ·append-left (map (slotOf f′) (u .kept)) (clear-keeps f′ f (r .start) (r .current) (r .edges) db e (ih (older (List·Memᴰ·cases-cons m))))
-      where
-        older : (f ≡ f′) ⊎ List·Memᴰ f done → List·Memᴰ f done
-        older (inl q) = absurd (true≢false (sym (eqb-same f) ∙ ap (eqb f) q ∙ e))
-        older (inr q) = q
+  -- every slot names a file of the graph, and one of a file that was replaced is a partial path of it
+  built-only : {db : List Slot} {done : List ℕ} → Built bd g db done → (f s t : ℕ) (es : List ℕ) → List·Memᴰ (slot f s t es) db → (f < g .files) × (List·Memᴰ f done → Found-in f s t es)
+  unfolding replaced
+  built-only (given h) f s t es m = (h f s t es m, λ i. absurd (List·Memᴰ·not-nil i))
+  built-only (after {db = db} {done = done} f′ c u b l h n k) f s t es m = ⊎-elim (older (λ i. built-only b f s t es i)) is-new (List·Memᴰ·append-cases (clear f′ db) m)
+    where
+      older : (List·Memᴰ (slot f s t es) db → (f < g .files) × (List·Memᴰ f done → Found-in f s t es)) → List·Memᴰ (slot f s t es) (clear f′ db) → (f < g .files) × (List·Memᴰ f (f′ ∷ done) → Found-in f s t es)
+      older ih i =
+          let r = clear-from f′ f s t es db i in
+          let y = ih (r .0) in
+          (y .0, λ j. ⊎-elim (λ (q : f ≡ f′). absurd (true≢false (sym (eqb-same f) ∙ ap (eqb f) q ∙ r .1))) (λ q. y .1 q) (List·Memᴰ·cases-cons j))
 
-pub built-holds : (bd : Bounds) (g : Graph) (db : List Slot) (done : List ℕ) → Built bd g db done → ((f : ℕ) → f < g .files → List·Memᴰ f done) → ((f : ℕ) → List·Memᴰ f done → f < g .files) → Holds (fileOwners g) bd (viewOf g) db
-built-holds bd g db done b all none-other = record { every = λ f r l p. built-every bd g b f r (all f l) p; only = λ f s t es m. let y = built-only bd g b f s t es m in (none-other f (y .0), y .1) }
+      is-new : List·Memᴰ (slot f s t es) (map (slotOf f′) (u .kept)) → (f < g .files) × (List·Memᴰ f (f′ ∷ done) → Found-in f s t es)
+      is-new i =
+          let x = mem-map (slotOf f′) (slot f s t es) (u .kept) i in
+          let e : slot f s t es ≡ slot f′ (x .0 .start) (x .0 .current) (x .0 .edges) = x .2 in
+          let p = (file-found bd Absent c g f′ u h) .sound (x .0) (x .1) in
+          let ff : f ≡ f′ = cc in
+          let ss : s ≡ x .0 .start = cc in
+          let t₁ : t ≡ x .0 .current = cc in
+          let ee : es ≡ x .0 .edges = cc in
+          let r : record { start = s; current = t; edges = es } ≡ x .0 = λ j. record { start = ss j; current = t₁ j; edges = ee j } in
+          (subst (λ q. q < g .files) (sym ff) l, λ j. rw (ff, r) p)
+
+  built-every : {db : List Slot} {done : List ℕ} → Built bd g db done → (f : ℕ) (r : Route) → List·Memᴰ f done → Partial bd Absent (viewOf g) (fileOwners g) f r → List·Memᴰ (slot f (r .start) (r .current) (r .edges)) db
+  unfolding replaced
+  built-every (given h) f r m p = absurd (List·Memᴰ·not-nil m)
+  built-every (after {db = db} {done = done} f′ c u b l h n k) f r m p = by-file (eqb f f′) refl (λ i. built-every b f r i p)
+    where
+      by-file : (x : Bool) → eqb f f′ ≡ x → (List·Memᴰ f done → List·Memᴰ (slot f (r .start) (r .current) (r .edges)) db) → List·Memᴰ (slot f (r .start) (r .current) (r .edges)) (clear f′ db ++ map (slotOf f′) (u .kept))
+      by-file true e ih =
+          let z = eqb-true f f′ e in
+          Memᴰ·append-right (clear f′ db) (rw z (map-mem (slotOf f′) r (u .kept) (file-unlimited bd Absent c g f′ u h n k r (rw z at p))))
+      by-file false e ih = Memᴰ·append-left (map (slotOf f′) (u .kept)) (clear-keeps f′ f (r .start) (r .current) (r .edges) db e (ih (older (List·Memᴰ·cases-cons m))))
+        where
+          older : (f ≡ f′) ⊎ List·Memᴰ f done → List·Memᴰ f done
+          older (inl q) = absurd (true≢false (sym (eqb-same f) ∙ ap (eqb f) q ∙ e))
+          older (inr q) = q
+
+  pub built-holds : (db : List Slot) (done : List ℕ) → Built bd g db done → ((f : ℕ) → f < g .files → List·Memᴰ f done) → Holds (fileOwners g) bd (viewOf g) db
+  built-holds db done b all = record { every = λ f r l p. built-every b f r (all f l) p; only = λ f s t es m. let y = built-only b f s t es m in (y .0, y .1 (all f (y .0))) }

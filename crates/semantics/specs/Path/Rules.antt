@@ -186,40 +186,40 @@ module _ (g : View) (p : Path) (e : ℕ) where
   unfolding extend apply land
   at-jump t pr X Y k s = rw (k, s)
 
-  pub steps-append : (n : ℕ) (S : Stacks) → Steps g p e n S → (q : Path) × (append g p e ≡ ok q) × (q .end ≡ n) × (q .stacks ≡ S)
+  pub steps-append : (n : ℕ) (S : Stacks) → Steps g (p .end) (p .stacks) e n S → (q : Path) × (append g p e ≡ ok q) × (q .end ≡ n) × (q .stacks ≡ S)
   unfolding extend jumpTop jumpTo
-  steps-append n S (onto {t = t} {pr = pr} {S = S′} h j a) =
+  steps-append n S (onto {t = t} {pr = pr} {T = S′} h j a) =
       (behind (t .0) pr S′, is-extend t pr h ∙ ap (λ z. andThen z (λ st. land g (t .0) (g .node (t .0)) (behind (t .0) pr st))) (applies-apply g (t .0) (g .node (t .0)) (p .stacks) S′ a) ∙ land-other (g .node (t .0)) (t .0) (behind (t .0) pr S′) j, refl, refl)
   steps-append n S (through {t = t} {pr = pr} {X = X} {Y = Y} {s = s} h j k x) =
       (_, is-extend t pr h ∙ at-jump (t .0) pr X (s ∷ Y) j k ∙ ap (λ b. jumpTo b s Y (behind (t .0) pr (with X (s ∷ Y)))) x, refl, refl)
 
-  pub append-steps : (q : Path) → append g p e ≡ ok q → Steps g p e (q .end) (q .stacks)
+  pub append-steps : (q : Path) → append g p e ≡ ok q → Steps g (p .end) (p .stacks) e (q .end) (q .stacks)
   unfolding append appendEdge appendFrom
   append-steps q h = by-edge (g .edge e) refl h
     where
-      jumped-to : (t : NodeId) (pr : ℤ) (s : ℕ) (X : List Symbol) (Y : List ℕ) → g .edge e ≡ E.Live (nodeId (p .end)) t pr → g .node (t .0) ≡ N.JumpToScope → p .stacks ≡ with X (s ∷ Y) → (b : Bool) → isExported (g .node s) ≡ b → jumpTo b s Y (behind (t .0) pr (with X (s ∷ Y))) ≡ ok q → Steps g p e (q .end) (q .stacks)
-      jumped-to t pr s X Y f j k true x l = unfold jumpTo in subst (λ (z : Path). Steps g p e (z .end) (z .stacks)) (ok-inj _ q l) (through f j k x)
+      jumped-to : (t : NodeId) (pr : ℤ) (s : ℕ) (X : List Symbol) (Y : List ℕ) → g .edge e ≡ E.Live (nodeId (p .end)) t pr → g .node (t .0) ≡ N.JumpToScope → p .stacks ≡ with X (s ∷ Y) → (b : Bool) → isExported (g .node s) ≡ b → jumpTo b s Y (behind (t .0) pr (with X (s ∷ Y))) ≡ ok q → Steps g (p .end) (p .stacks) e (q .end) (q .stacks)
+      jumped-to t pr s X Y f j k true x l = unfold jumpTo in subst (λ (z : Path). Steps g (p .end) (p .stacks) e (z .end) (z .stacks)) (ok-inj _ q l) (through f j k x)
       jumped-to t pr s X Y f j k false x l = absurd (refuse-ok (UnknownAttachedScope (nodeId s)) q (unfold jumpTo in l))
 
-      at-scopes : (t : NodeId) (pr : ℤ) (X : List Symbol) (Y : List ℕ) → g .edge e ≡ E.Live (nodeId (p .end)) t pr → g .node (t .0) ≡ N.JumpToScope → p .stacks ≡ with X Y → jumpTop g (t .0) Y (behind (t .0) pr (with X Y)) ≡ ok q → Steps g p e (q .end) (q .stacks)
+      at-scopes : (t : NodeId) (pr : ℤ) (X : List Symbol) (Y : List ℕ) → g .edge e ≡ E.Live (nodeId (p .end)) t pr → g .node (t .0) ≡ N.JumpToScope → p .stacks ≡ with X Y → jumpTop g (t .0) Y (behind (t .0) pr (with X Y)) ≡ ok q → Steps g (p .end) (p .stacks) e (q .end) (q .stacks)
       at-scopes t pr X [] f j k l = absurd (refuse-ok (EmptyScopeStack t) q (unfold jumpTop in l))
       at-scopes t pr X (s ∷ Y) f j k l = jumped-to t pr s X Y f j k (isExported (g .node s)) refl (unfold jumpTop in l)
 
-      by-kind : (t : NodeId) (pr : ℤ) → g .edge e ≡ E.Live (nodeId (p .end)) t pr → (g .node (t .0) ≡ N.JumpToScope) ⊎ (g .node (t .0) ≡ N.JumpToScope → ⊥) → extend g p e (t .0) pr ≡ ok q → Steps g p e (q .end) (q .stacks)
+      by-kind : (t : NodeId) (pr : ℤ) → g .edge e ≡ E.Live (nodeId (p .end)) t pr → (g .node (t .0) ≡ N.JumpToScope) ⊎ (g .node (t .0) ≡ N.JumpToScope → ⊥) → extend g p e (t .0) pr ≡ ok q → Steps g (p .end) (p .stacks) e (q .end) (q .stacks)
       by-kind t pr f (inl j) k = at-scopes t pr (p .stacks .symbols) (p .stacks .scopes) f j refl (sym (at-jump (t .0) pr (p .stacks .symbols) (p .stacks .scopes) j refl) ∙ k)
       by-kind t pr f (inr j) k =
           let a = andThen-ok (apply g (t .0) (g .node (t .0)) (p .stacks)) (λ st. land g (t .0) (g .node (t .0)) (behind (t .0) pr st)) q (unfold extend in k) in
-          subst (λ (z : Path). Steps g p e (z .end) (z .stacks)) (ok-inj (behind (t .0) pr (a .0)) q (sym (land-other (g .node (t .0)) (t .0) (behind (t .0) pr (a .0)) j) ∙ a .2)) (onto f j (apply-applies g (t .0) (g .node (t .0)) (p .stacks) (a .0) (a .1)))
+          subst (λ (z : Path). Steps g (p .end) (p .stacks) e (z .end) (z .stacks)) (ok-inj (behind (t .0) pr (a .0)) q (sym (land-other (g .node (t .0)) (t .0) (behind (t .0) pr (a .0)) j) ∙ a .2)) (onto f j (apply-applies g (t .0) (g .node (t .0)) (p .stacks) (a .0) (a .1)))
 
-      by-source : (s t : NodeId) (pr : ℤ) → g .edge e ≡ E.Live s t pr → (b : Bool) → eqb (s .0) (p .end) ≡ b → appendFrom b g p e (s .0) (t .0) pr ≡ ok q → Steps g p e (q .end) (q .stacks)
+      by-source : (s t : NodeId) (pr : ℤ) → g .edge e ≡ E.Live s t pr → (b : Bool) → eqb (s .0) (p .end) ≡ b → appendFrom b g p e (s .0) (t .0) pr ≡ ok q → Steps g (p .end) (p .stacks) e (q .end) (q .stacks)
       by-source s t pr f true l k = by-kind t pr (f ∙ ap (λ n. E.Live (nodeId n) t pr) (eqb-true (s .0) (p .end) l)) (is-jump (g .node (t .0))) k
       by-source s t pr f false l k = absurd (refuse-ok (IncorrectSource (nodeId (p .end)) s) q k)
 
-      by-edge : (x : Edge) → g .edge e ≡ x → appendEdge g p e x ≡ ok q → Steps g p e (q .end) (q .stacks)
+      by-edge : (x : Edge) → g .edge e ≡ x → appendEdge g p e x ≡ ok q → Steps g (p .end) (p .stacks) e (q .end) (q .stacks)
       by-edge E.Removed f k = absurd (refuse-ok (UnknownEdge (edgeId e)) q k)
       by-edge (E.Live s t pr) f k = by-source s t pr f (eqb (s .0) (p .end)) refl k
 
-  pub stops-append : (r : PathRefusal) → Stops g p e r → append g p e ≡ refuse r
+  pub stops-append : (r : PathRefusal) → Stops g (p .end) (p .stacks) e r → append g p e ≡ refuse r
   unfolding append appendEdge appendFrom extend jumpTop jumpTo
   stops-append r (unknown-edge h) = rw h
   stops-append r (wrong-source {s = s} h n) = rw (h, differ (s .0) (p .end) n)
@@ -227,33 +227,33 @@ module _ (g : View) (p : Path) (e : ℕ) where
   stops-append r (no-scope {t = t} {pr = pr} {X = X} h j k) = is-extend t pr h ∙ at-jump (t .0) pr X [] j k
   stops-append r (lost-scope {t = t} {pr = pr} {X = X} {Y = Y} {s = s} h j k x) = is-extend t pr h ∙ at-jump (t .0) pr X (s ∷ Y) j k ∙ ap (λ b. jumpTo b s Y (behind (t .0) pr (with X (s ∷ Y)))) x
 
-  same-stops : (r q : PathRefusal) → Stops g p e r → _≡_ {A = Answer PathRefusal Path} (refuse r) (refuse q) → Stops g p e q
-  same-stops r q a h = subst (Stops g p e) (refuse-inj {A = Path} r q h) a
+  same-stops : (r q : PathRefusal) → Stops g (p .end) (p .stacks) e r → _≡_ {A = Answer PathRefusal Path} (refuse r) (refuse q) → Stops g (p .end) (p .stacks) e q
+  same-stops r q a h = subst (Stops g (p .end) (p .stacks) e) (refuse-inj {A = Path} r q h) a
 
-  pub append-stops : (r : PathRefusal) → append g p e ≡ refuse r → Stops g p e r
+  pub append-stops : (r : PathRefusal) → append g p e ≡ refuse r → Stops g (p .end) (p .stacks) e r
   unfolding append appendEdge appendFrom jumpTop jumpTo extend
   append-stops r h = by-edge (g .edge e) refl h
     where
-      jumped-to : (t : NodeId) (pr : ℤ) (s : ℕ) (X : List Symbol) (Y : List ℕ) → g .edge e ≡ E.Live (nodeId (p .end)) t pr → g .node (t .0) ≡ N.JumpToScope → p .stacks ≡ with X (s ∷ Y) → (b : Bool) → isExported (g .node s) ≡ b → jumpTo b s Y (behind (t .0) pr (with X (s ∷ Y))) ≡ refuse r → Stops g p e r
+      jumped-to : (t : NodeId) (pr : ℤ) (s : ℕ) (X : List Symbol) (Y : List ℕ) → g .edge e ≡ E.Live (nodeId (p .end)) t pr → g .node (t .0) ≡ N.JumpToScope → p .stacks ≡ with X (s ∷ Y) → (b : Bool) → isExported (g .node s) ≡ b → jumpTo b s Y (behind (t .0) pr (with X (s ∷ Y))) ≡ refuse r → Stops g (p .end) (p .stacks) e r
       jumped-to t pr s X Y f j k true x l = absurd (ok-refuse r _ l)
       jumped-to t pr s X Y f j k false x l = same-stops _ r (lost-scope f j k x) l
 
-      at-scopes : (t : NodeId) (pr : ℤ) (X : List Symbol) (Y : List ℕ) → g .edge e ≡ E.Live (nodeId (p .end)) t pr → g .node (t .0) ≡ N.JumpToScope → p .stacks ≡ with X Y → jumpTop g (t .0) Y (behind (t .0) pr (with X Y)) ≡ refuse r → Stops g p e r
+      at-scopes : (t : NodeId) (pr : ℤ) (X : List Symbol) (Y : List ℕ) → g .edge e ≡ E.Live (nodeId (p .end)) t pr → g .node (t .0) ≡ N.JumpToScope → p .stacks ≡ with X Y → jumpTop g (t .0) Y (behind (t .0) pr (with X Y)) ≡ refuse r → Stops g (p .end) (p .stacks) e r
       at-scopes t pr X [] f j k l = same-stops (EmptyScopeStack t) r (no-scope f j k) l
       at-scopes t pr X (s ∷ Y) f j k l = jumped-to t pr s X Y f j k (isExported (g .node s)) refl l
 
-      by-kind : (t : NodeId) (pr : ℤ) → g .edge e ≡ E.Live (nodeId (p .end)) t pr → (g .node (t .0) ≡ N.JumpToScope) ⊎ (g .node (t .0) ≡ N.JumpToScope → ⊥) → extend g p e (t .0) pr ≡ refuse r → Stops g p e r
+      by-kind : (t : NodeId) (pr : ℤ) → g .edge e ≡ E.Live (nodeId (p .end)) t pr → (g .node (t .0) ≡ N.JumpToScope) ⊎ (g .node (t .0) ≡ N.JumpToScope → ⊥) → extend g p e (t .0) pr ≡ refuse r → Stops g (p .end) (p .stacks) e r
       by-kind t pr f (inl j) k = at-scopes t pr (p .stacks .symbols) (p .stacks .scopes) f j refl (sym (at-jump (t .0) pr (p .stacks .symbols) (p .stacks .scopes) j refl) ∙ k)
       by-kind t pr f (inr j) k =
           ⊎-elim (λ (a : apply g (t .0) (g .node (t .0)) (p .stacks) ≡ refuse r). target f (apply-fails g (t .0) (g .node (t .0)) (p .stacks) r a))
           (λ a. absurd (ok-refuse r (behind (t .0) pr (a .0)) (sym (land-other (g .node (t .0)) (t .0) (behind (t .0) pr (a .0)) j) ∙ a .2)))
           (andThen-refuse (apply g (t .0) (g .node (t .0)) (p .stacks)) (λ st. land g (t .0) (g .node (t .0)) (behind (t .0) pr st)) r k)
 
-      by-source : (s t : NodeId) (pr : ℤ) → g .edge e ≡ E.Live s t pr → (b : Bool) → eqb (s .0) (p .end) ≡ b → appendFrom b g p e (s .0) (t .0) pr ≡ refuse r → Stops g p e r
+      by-source : (s t : NodeId) (pr : ℤ) → g .edge e ≡ E.Live s t pr → (b : Bool) → eqb (s .0) (p .end) ≡ b → appendFrom b g p e (s .0) (t .0) pr ≡ refuse r → Stops g (p .end) (p .stacks) e r
       by-source s t pr f true l k = by-kind t pr (f ∙ ap (λ n. E.Live (nodeId n) t pr) (eqb-true (s .0) (p .end) l)) (is-jump (g .node (t .0))) k
       by-source s t pr f false l k = same-stops _ r (wrong-source f (differ-not (s .0) (p .end) l)) k
 
-      by-edge : (x : Edge) → g .edge e ≡ x → appendEdge g p e x ≡ refuse r → Stops g p e r
+      by-edge : (x : Edge) → g .edge e ≡ x → appendEdge g p e x ≡ refuse r → Stops g (p .end) (p .stacks) e r
       by-edge E.Removed f k = same-stops _ r (unknown-edge f) k
       by-edge (E.Live s t pr) f k = by-source s t pr f (eqb (s .0) (p .end)) refl k
 

@@ -66,7 +66,7 @@ module _ (g : View) (A B A′ B′ : List ℕ → Type 0) (c : Carries g A B A�
   applies-scoped k S T (pop-scoped {X = X} {Z = Z}) s = record { stack = c .takes Z (s .lists .0 Z refl); lists = attached-keeps B B′ (c .keeps) X (s .lists .1) }
   applies-scoped k S T (drop-scopes {X = X}) s = record { stack = c .clears; lists = attached-keeps B B′ (c .keeps) X (s .lists) }
 
-  steps-scoped : (p : Path) (e n : ℕ) (T : Stacks) → Steps g p e n T → Scoped A B (p .stacks) → Scoped A′ B′ T
+  steps-scoped : (p : Path) (e n : ℕ) (T : Stacks) → Steps g (p .end) (p .stacks) e n T → Scoped A B (p .stacks) → Scoped A′ B′ T
   steps-scoped p e n T (onto {t = t} h j a) s = applies-scoped (g .node (t .0)) (p .stacks) T a s
   steps-scoped p e n T (through {X = X} {Y = Y} {s = m} h j k x) s =
       let u : Scoped A B (with X (m ∷ Y)) = subst (Scoped A B) k s in
@@ -148,7 +148,7 @@ module _ (g : Graph) (good : accepts g ≡ true) (n : NodeId) where
   fails-not m k S r h unexpected e = let z : _≡_ {A = Bool} true false = cc in true≢false z
   fails-not m k S r h missing e = let z : _≡_ {A = Bool} true false = cc in true≢false z
 
-  stops-not : (p : Path) (e : ℕ) (r : PathRefusal) → Scoped (Exported (viewOf g)) (Exported (viewOf g)) (p .stacks) → Stops (viewOf g) p e r → r ≡ UnknownAttachedScope n → ⊥
+  stops-not : (p : Path) (e : ℕ) (r : PathRefusal) → Scoped (Exported (viewOf g)) (Exported (viewOf g)) (p .stacks) → Stops (viewOf g) (p .end) (p .stacks) e r → r ≡ UnknownAttachedScope n → ⊥
   stops-not p e r s (unknown-edge h) i = let z : _≡_ {A = Bool} true false = cc in true≢false z
   stops-not p e r s (wrong-source h d) i = let z : _≡_ {A = Bool} true false = cc in true≢false z
   stops-not p e r s (target {t = t} {r = r′} h f) i = fails-not (t .0) ((viewOf g) .node (t .0)) (p .stacks) r′ refl f i

@@ -1,25 +1,29 @@
 -- The Rust's stitched search keeps the numbers of the partial paths used: on every database whose live slots have an edge, as 35 sees to,
 -- it runs as the one without them. Document 01, "Partial paths": "one already used, or sharing an edge, is a cycle cut".
-use Prim.Native.Nat.{ℕ, suc, _+_, _≤_}
+use Prim.Native.Nat.{ℕ, zero, suc, _+_, _≤_}
 use native.Mathlib.Nat.{add-zero, zero-add, add-suc, suc-add}
-use mathlib.Core.Path.{_≡_, refl, sym, _∙_, ap, subst}
-use mathlib.Core.Bool.{Bool, true, false, false≢true}
-use mathlib.Core.List.{List, [], _∷_, _++_}
+use mathlib.Core.Path.{_≡_, refl, sym, _∙_, ap, ap₂, subst}
+use mathlib.Core.Bool.{Bool, true, false, true≢false, false≢true}
+use mathlib.Core.List.{List, [], _∷_, _++_, map, List·Memᴰ, List·Memᴰ·head, List·Memᴰ·tail}
 use lib.Dec.{eqb}
 use lib.ListN.{length, getD}
 use Rattle.semantics.specs.declared.search.Limit.{Limit}
+use Rattle.semantics.specs.declared.refusal.PathRefusal.{PathRefusal}
 use Rattle.semantics.specs.declared.refusal.SearchRefusal.{SearchRefusal}
+use Rattle.semantics.specs.declared.refusal.SearchRefusal.the-variants as Search
 use Rattle.semantics.specs.Lists.{has, or, consIf, shares}
 use Rattle.semantics.specs.Lists.Laws.{has-append, eqb-true, shares-more, shares-own}
 use Rattle.semantics.specs.Limits.{Bounds}
-use Rattle.semantics.specs.Answer.{ok}
-use Rattle.semantics.specs.Graph.{View}
-use Rattle.semantics.specs.Path.{Path, appendAll}
+use Rattle.semantics.specs.Answer.{Answer, ok, refuse, andThen, wrap}
+use Rattle.semantics.specs.Graph.{Graph, View}
+use Rattle.semantics.specs.Path.{Path, appendAll, fromReference}
 use Rattle.semantics.specs.Path.Laws.{appendAll-edges}
-use Rattle.semantics.specs.Enumeration.{Try, cut, overlong, reject, stop, go, Setting, enumerate}
-use Rattle.semantics.specs.Enumeration.Simulation.{nil, cons, TryRel, cuts, overlongs, rejects, stops, goes, TriesRel, done, next, AnswerRel, enumerate-rel}
+use Rattle.semantics.specs.Enumeration.{Try, cut, overlong, reject, stop, go, Setting, State, enumerate}
+use Rattle.semantics.specs.Enumeration.Simulation.{All2, nil, cons, TryRel, cuts, overlongs, rejects, stops, goes, TriesRel, done, next, AnswerRel, oks, refuses, enumerate-rel}
 use Rattle.semantics.specs.PartialPaths.{Slot, dead, slot}
-use Rattle.semantics.specs.Stitching.{unlessCycle, judgeSlot, slotTries}
+use Rattle.semantics.specs.Stitching.{unlessCycle, judgeSlot, slotTries, stitched}
+use Rattle.semantics.specs.Database.{slotsIn}
+use Rattle.semantics.specs.Database.Checked.{Checked, checked-edge}
 use Rattle.semantics.specs.Stitching.Laws.{judge-go}
 
 pub record Work : Type 0 where
@@ -116,3 +120,50 @@ module _ (bd : Bounds) (lim : Limit) (g : View) (db : List Slot) (edged : (i f s
   pub used-redundant : (c : Setting SearchRefusal) (fuel : ℕ) (p : Path) → AnswerRel Same (enumerate c (usedTries bd lim g 0 db) fuel (record { path = p; used = [] } ∷ [])) (enumerate c (slotTries bd lim g db) fuel (p ∷ []))
   unfolding has
   used-redundant c fuel p = enumerate-rel Same c (usedTries bd lim g 0 db) (slotTries bd lim g db) like fuel (record { path = p; used = [] } ∷ []) (p ∷ []) (cons (refl, λ j h. absurd (false≢true h)) nil)
+
+-- THE RUST'S SEARCH, which keeps the numbers, and what it answers without them
+unfoldable pub stitchedByNumber : Bounds → Limit → Setting SearchRefusal → View → List Slot → ℕ → Answer SearchRefusal (State Work)
+unfolding usedTries enumerate fromReference
+stitchedByNumber bd lim c g db r = andThen (wrap Search.Path (fromReference g r)) (λ p. enumerate c (usedTries bd lim g 0 db) (bd .expansions) (record { path = p; used = [] } ∷ []))
+
+abbrev pub pathOf : Work → Path
+pathOf w = w .path
+
+abbrev pub numberless : Answer SearchRefusal (State Work) → Answer SearchRefusal (State Path)
+numberless (ok s) = ok (record { rest = map pathOf (s .rest); pending = map pathOf (s .pending); kept = map pathOf (s .kept); stats = s .stats; tally = s .tally })
+numberless (refuse r) = refuse r
+
+module _ (L : Work → Path → Type 0) (same : (w : Work) (p : Path) → L w p → w .path ≡ p) where
+  lists-numberless : (ws : List Work) (ps : List Path) → All2 L ws ps → map pathOf ws ≡ ps
+  lists-numberless ws ps nil = refl
+  lists-numberless ws ps (cons {w = w} {v = p} {ws = ws′} {vs = ps′} h t) = ap₂ (λ (x : Path) (y : List Path). x ∷ y) (same w p h) (lists-numberless ws′ ps′ t)
+
+  answers-numberless : (a : Answer SearchRefusal (State Work)) (b : Answer SearchRefusal (State Path)) → AnswerRel L a b → numberless a ≡ b
+  answers-numberless a b (oks {s = s} {t = t} h) = λ i. ok (record {
+    rest = lists-numberless (s .rest) (t .rest) (h .rest) i;
+    pending = lists-numberless (s .pending) (t .pending) (h .pending) i;
+    kept = lists-numberless (s .kept) (t .kept) (h .kept) i;
+    stats = h .stats i;
+    tally = h .tally i;
+  })
+  answers-numberless a b (refuses r) = refl
+
+-- a slot of a list stands in it
+slot-there : (db : List Slot) (i f s t : ℕ) (es : List ℕ) → getD db i dead ≡ slot f s t es → List·Memᴰ (slot f s t es) db
+slot-there [] i f s t es e = absurd (let z : _≡_ {A = Bool} true false = cc in true≢false z)
+slot-there (x ∷ db) zero f s t es e = List·Memᴰ·head (sym e)
+slot-there (x ∷ db) (suc i) f s t es e = List·Memᴰ·tail (slot-there db i f s t es e)
+
+-- on words that meet neither 35 nor 34 both searches answer alike, every path in its order, every statistic and flag
+pub numbers-redundant : (bd : Bounds) (known : ℕ → ℕ → Bool) (graph : Graph) (words : List ℕ) → Checked bd known graph words → (lim : Limit) (c : Setting SearchRefusal) (g : View) (r : ℕ)
+    → numberless (stitchedByNumber bd lim c g (slotsIn bd words) r) ≡ stitched bd lim c g (slotsIn bd words) r
+unfolding stitchedByNumber stitched
+numbers-redundant bd known graph words k lim c g r = on (fromReference g r)
+  where
+    edged : (i f s t : ℕ) (es : List ℕ) → getD (slotsIn bd words) i dead ≡ slot f s t es → 1 ≤ length es
+    edged i f s t es e = checked-edge bd known graph words k f s t es (slot-there (slotsIn bd words) i f s t es e)
+
+    on : (a : Answer PathRefusal Path)
+        → numberless (andThen (wrap Search.Path a) (λ p. enumerate c (usedTries bd lim g 0 (slotsIn bd words)) (bd .expansions) (record { path = p; used = [] } ∷ []))) ≡ andThen (wrap Search.Path a) (λ p. enumerate c (slotTries bd lim g (slotsIn bd words)) (bd .expansions) (p ∷ []))
+    on (ok p) = answers-numberless (Same bd lim g (slotsIn bd words) edged) (λ w q h. h .0) _ _ (used-redundant bd lim g (slotsIn bd words) edged c (bd .expansions) p)
+    on (refuse x) = refl

@@ -301,3 +301,20 @@ replacement-back Replacement.Full = refl
 
 pub replacement-alike : (a b : Replacement) → toldReplacement a ≡ toldReplacement b → a ≡ b
 replacement-alike = told-alike toldReplacement readReplacement replacement-back
+
+-- a linear search never gives 31
+pub linear-never-31 : (r : LinearRefusal) → eqb (number (toldLinear r)) 31 ≡ false
+linear-never-31 (Linear.Path (Path.UnknownNode n)) = refl
+linear-never-31 (Linear.Path (Path.NotReference n)) = refl
+linear-never-31 (Linear.Path (Path.UnknownEdge e)) = refl
+linear-never-31 (Linear.Path (Path.IncorrectSource x y)) = refl
+linear-never-31 (Linear.Path (Path.EmptySymbolStack n)) = refl
+linear-never-31 (Linear.Path (Path.IncorrectPoppedSymbol n)) = refl
+linear-never-31 (Linear.Path (Path.UnexpectedAttachedScopes n)) = refl
+linear-never-31 (Linear.Path (Path.MissingAttachedScopes n)) = refl
+linear-never-31 (Linear.Path (Path.EmptyScopeStack n)) = refl
+linear-never-31 (Linear.Path (Path.UnknownAttachedScope n)) = refl
+linear-never-31 (Linear.MultipleEdges n) = refl
+linear-never-31 Linear.TooLong = refl
+linear-never-31 Linear.NoResultSlot = refl
+linear-never-31 Linear.TooManyExpansions = refl

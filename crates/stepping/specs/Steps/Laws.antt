@@ -19,7 +19,7 @@ use Rattle.semantics.specs.Lists.{pick}
 use Rattle.semantics.specs.Answer.{Answer, ok, refuse, andThen}
 use Rattle.semantics.specs.Graph.{nodeId, View, isExported}
 use Rattle.semantics.specs.Path.{Symbol, Stacks, along, jumped, Path, withoutScopes, withScopes, popEqual, popTop, pushAttached, apply, jumpTo, jumpTop, land, extend}
-use Rattle.semantics.specs.Path as Rules
+use Rattle.semantics.specs.Path as Model
 use Rattle.storage.specs.Rows.{KIND, cell, nodeRow, isPlain}
 use Rattle.storage.specs.Rows.Laws.{by-kind}
 use Rattle.stepping.specs.declared.step.Step.{Step}
@@ -164,7 +164,7 @@ module _ (f : ℕ → Step) (m : ℕ) (low : (j : ℕ) → j < m → Low (f j) j
 -- WHAT THE CELLS SAY IS WHAT THE RULES SAY
 
 -- a jump step is added behind the edge's
-abbrev pub landed : Node → ℕ → List Rules.Step → List Rules.Step
+abbrev pub landed : Node → ℕ → List Model.Step → List Model.Step
 landed N.Removed end l = l
 landed N.Root end l = l
 landed N.JumpToScope end l = l ++ (jumped end ∷ [])

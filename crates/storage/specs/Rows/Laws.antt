@@ -7,9 +7,9 @@ use mathlib.Core.Path.{_≡_, refl, sym, ap, _∙_, subst}
 use mathlib.Core.Logic.{inl, inr}
 use mathlib.Core.Bool.{Bool, true, false}
 use mathlib.Core.List.{List, [], _∷_}
-use borrow.Author.Tests.{eq-eqb, ne-eqb, lt-ltb, le-ltb}
+use borrow.Author.Tests.{eq-eqb, ne-eqb, lt-ltb, le-ltb, lt-leb, le-leb, leb-true}
 use types.Run.{OneOf}
-use lib.Dec.{eqb, ltb}
+use lib.Dec.{eqb, leb, ltb}
 use lib.IntN.{ℤ}
 use lib.ListN.{length, getD, replicate, length-replicate, getD-replicate, List·getD-eq-default}
 use Rattle.semantics.specs.declared.graph.NodeId.{NodeId}
@@ -18,11 +18,11 @@ use Rattle.semantics.specs.declared.graph.Node.the-variants as N
 use Rattle.semantics.specs.declared.graph.Edge.the-variants as E
 use Rattle.semantics.specs.Bytes.{signed}
 use Rattle.semantics.specs.Lists.{pick, or, has}
-use Rattle.semantics.specs.Lists.Laws.{or-true}
+use Rattle.semantics.specs.Lists.Laws.{or-true, and-true}
 use Rattle.semantics.specs.Graph.{nodeId, fileId, fileOf, isFile, isDefinition, isExported, isStart, isEndpoint}
-use Rattle.semantics.specs.Image.{nodesOf, edgesOf}
+use Rattle.semantics.specs.Image.{firstRecord, nodesOf, edgesOf}
 pub use Rattle.image.specs.Rows.Laws.{cell-out, cell-same, cell-other}
-use Rattle.storage.specs.Rows.{BLOCK, KIND, FLAG, FILE, SYMBOL, SCOPE, SOURCE, TARGET, PRECEDENCE, INDEX, FEW, SMALL, cell, nodeOf, edgeOf, nodeRow, edgeRow, targetRow, isPlain, Fresh, Takes}
+use Rattle.storage.specs.Rows.{BLOCK, KIND, FLAG, FILE, SYMBOL, SCOPE, SOURCE, TARGET, PRECEDENCE, INDEX, FEW, SMALL, cell, nodeOf, edgeOf, nodeRow, edgeRow, targetRow, isPlain, Fresh, Takes, isSmall}
 
 -- A RECORD'S WORDS, in its block and behind the last one
 pub node-in : (l : List ℕ) (n kind : ℕ) → getD l (BLOCK * n + KIND) 0 ≡ kind
@@ -104,6 +104,32 @@ small-takes im few = record {
   fresh = zeros-fresh SMALL (omega arith);
   room = λ h. record { nodes = omega (arith, few .0, length-replicate {A = ℕ} SMALL 0); edges = omega (arith, few .1, length-replicate {A = ℕ} SMALL 0) };
 }
+
+-- WHICH IMAGES ARE SMALL
+module _ (im : List ℕ) where
+  pub small-headless : length im < firstRecord → false ≡ isSmall im
+  unfolding isSmall
+  small-headless h = simp (lt-leb firstRecord (length im) h)
+
+  pub small-nodes : firstRecord ≤ length im → FEW < nodesOf im → false ≡ isSmall im
+  unfolding isSmall
+  small-nodes h n = simp (le-leb firstRecord (length im) h, lt-leb (nodesOf im) FEW n)
+
+  pub small-edges : firstRecord ≤ length im → nodesOf im ≤ FEW → FEW < edgesOf im → false ≡ isSmall im
+  unfolding isSmall
+  small-edges h n e = simp (le-leb firstRecord (length im) h, le-leb (nodesOf im) FEW n, lt-leb (edgesOf im) FEW e)
+
+  pub small-both : firstRecord ≤ length im → nodesOf im ≤ FEW → edgesOf im ≤ FEW → true ≡ isSmall im
+  unfolding isSmall
+  small-both h n e = simp (le-leb firstRecord (length im) h, le-leb (nodesOf im) FEW n, le-leb (edgesOf im) FEW e)
+
+-- what a test of `isSmall` that succeeded says
+pub few-records : (im : List ℕ) {b : Bool} → b ≡ isSmall im → b ≡ true → (nodesOf im ≤ FEW) × (edgesOf im ≤ FEW)
+unfolding isSmall
+few-records im e h =
+    let x = and-true (leb firstRecord (length im)) _ (sym e ∙ h) in
+    let y = and-true (leb (nodesOf im) FEW) _ (x .1) in
+    (leb-true (nodesOf im) FEW (y .0), leb-true (edgesOf im) FEW (y .1))
 
 -- A NODE BY ITS KIND: what holds at each of the nine kinds, and of a removed node behind them, holds of what the words stand for
 module _ (P : ℕ → Node → Type 0) (l : List ℕ) (n : ℕ)

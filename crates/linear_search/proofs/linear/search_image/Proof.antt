@@ -1,4 +1,5 @@
 -- `linear_search::linear::search_image`: the index that the image asks for.
+use Rattle.storage.specs.Rows.Laws.{few-records}
 use borrow.Author.Needs.{needs}
 use Rattle.linear_search.proofs.linear.search_image.Statement.{statement}
 use Rattle.linear_search.proofs.linear.search_image.Tie as tie
@@ -7,7 +8,7 @@ is-small-requires : tie.Need-is-small-requires
 is-small-requires c κs = search needs
 
 search-small-requires : tie.Need-search-small-requires
-search-small-requires c κs = c .before .before .is-small .ensures (c .before .if1 .taken)
+search-small-requires c κs = few-records _ (c .before .before .is-small .ensures) (c .before .if1 .taken)
 
 same-length : tie.Need-same-length
 same-length c = search needs

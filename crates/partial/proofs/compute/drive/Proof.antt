@@ -6,7 +6,7 @@ use lib.ListN.{length, take}
 use Rattle.partial_state.specs.declared.extraction.Frame.{Frame}
 use Rattle.partial_state.specs.Extractions.{at, slottedBy, goingAt, takenAt}
 use Rattle.partial.specs.Rounds.{Driving}
-use Rattle.partial.specs.Rounds.Laws.{room-frame, Turning, turn-filed, turn-start, turn-over, turn-many, turn-framed, turn-short, turn-given, turn-refused, turn-counts, turn-again}
+use Rattle.partial.specs.Rounds.Laws.{room-frame, Turning, filed-tests, turn-filed, turn-start, turn-over, turn-many, turn-framed, turn-short, turn-given, turn-refused, turn-counts, turn-again}
 use borrow.Author.Needs.{needs}
 use Rattle.partial.proofs.compute.drive.Statement.{statement}
 use Rattle.partial.proofs.compute.drive.Tie as tie
@@ -29,25 +29,24 @@ loop-holds c =
 is-filed-requires : tie.Need-is-filed-requires Inv-loop μ-loop
 is-filed-requires c κs = search needs
 
--- src/compute.rt:132:13
+stats-requires : tie.Need-stats-requires Inv-loop μ-loop
+stats-requires c κs = search needs
+
 same-length : tie.Need-same-length Inv-loop μ-loop
-same-length c = c .before .before .loop .inv .0
+same-length c = c .before .before .before .loop .inv .0
 
--- src/compute.rt:132:13
 same-length-2 : tie.Need-same-length-2 Inv-loop μ-loop
-same-length-2 c = c .before .before .loop .inv .1
+same-length-2 c = c .before .before .before .loop .inv .1
 
--- src/compute.rt:132:13
 same-length-3 : tie.Need-same-length-3 Inv-loop μ-loop
-same-length-3 c = c .before .before .loop .inv .2
+same-length-3 c = c .before .before .before .loop .inv .2
 
--- src/compute.rt:132:13
 returns : tie.Need-returns Inv-loop μ-loop
 returns c =
-    let a = c .before .before .before .before .before .before .before .args in
-    let l = c .before .before .loop in
-    let h = c .before .is-filed .ensures (c .if1 .taken) in
-    λ v. turn-filed (a .index .now) (a .filing) (a .item .now) (at (a .frame) (a .extraction)) (a .work .now) (a .words .now) v (at (slottedBy (l .slot) (a .frame)) (l .on)) (l .work) (l .words) (l .inv .3 v) (h .0) (h .1)
+    let a = c .before .before .before .before .before .before .before .before .args in
+    let l = c .before .before .before .loop in
+    let h = filed-tests (a .filing) (l .on .found) (sym (c .before .before .is-filed .ensures) ∙ c .before .if1 .taken) in
+    λ v. turn-filed (a .index .now) (a .filing) (a .item .now) (at (a .frame) (a .extraction)) (a .work .now) (a .words .now) v (at (slottedBy (l .slot) (a .frame)) (l .on)) (l .work) (l .words) (l .inv .3 v) (h .0) (h .1) (c .stats .result)
 
 -- src/compute.rt:134:13
 with-slot-requires : tie.Need-with-slot-requires Inv-loop μ-loop
@@ -67,8 +66,8 @@ enum-known-last : tie.Need-enum-known-last Inv-loop μ-loop
 enum-known-last c = search needs
 
 -- src/compute.rt:136:56
-stats-requires : tie.Need-stats-requires Inv-loop μ-loop
-stats-requires c κs = search needs
+stats-requires-2 : tie.Need-stats-requires-2 Inv-loop μ-loop
+stats-requires-2 c κs = search needs
 
 -- src/compute.rt:136:34
 same-length-4 : tie.Need-same-length-4 Inv-loop μ-loop
@@ -88,7 +87,7 @@ returns-2 c =
     let a = c .before .before .before .before .before .before .before .before .before .before .before .before .before .before .before .before .before .before .before .args in
     let p = c .before .before .before .before .before .before .before .before .before .before .before .before .before .before .before .before .before .before .before .pre in
     let l = c .before .before .before .before .before .before .before .before .before .before .before .before .before .before .loop in
-    λ v. turn-over (a .index .now) (a .filing) (a .item .now) (at (a .frame) (a .extraction)) (a .work .now) (a .words .now) v (at (c .before .before .before .before .before .before .before .before .before .before .before .with-slot .result) (l .on)) (l .work) (l .words) (subst (λ (f : Frame). Turning (a .index .now) (a .filing) (a .item .now) (at (a .frame) (a .extraction)) (a .work .now) (a .words .now) v (at f (l .on)) (l .work) (l .words)) (sym (c .before .before .before .before .before .before .before .before .before .before .before .with-slot .ensures)) (l .inv .3 v)) (takenAt (c .before .before .before .before .before .before .before .before .before .before .before .with-slot .result) (c .before .before .before .before .before .before .before .before .take-front .result)) (take (c .before .before .before .before .before .before .before .before .before .before .before .with-slot .result .slot) (c .before .before .before .before .before .before .before .before .take-front .last .1 .1 .0)) (c .before .before .before .before .before .before .before .before .take-front .last .1 .0) (c .before .before .before .before .before .before .before .before .take-front .ensures) (at (c .before .before .before .before .before .before .before .before .before .before .before .with-slot .result) (c .before .before .last .given .0 .0)) (ap (takenAt (c .before .before .before .before .before .before .before .before .before .before .before .with-slot .result)) (c .before .before .last .given .1)) (c .stats .result) (c .stats .ensures)
+    λ v. turn-over (a .index .now) (a .filing) (a .item .now) (at (a .frame) (a .extraction)) (a .work .now) (a .words .now) v (at (c .before .before .before .before .before .before .before .before .before .before .before .with-slot .result) (l .on)) (l .work) (l .words) (subst (λ (f : Frame). Turning (a .index .now) (a .filing) (a .item .now) (at (a .frame) (a .extraction)) (a .work .now) (a .words .now) v (at f (l .on)) (l .work) (l .words)) (sym (c .before .before .before .before .before .before .before .before .before .before .before .with-slot .ensures)) (l .inv .3 v)) (takenAt (c .before .before .before .before .before .before .before .before .before .before .before .with-slot .result) (c .before .before .before .before .before .before .before .before .take-front .result)) (take (c .before .before .before .before .before .before .before .before .before .before .before .with-slot .result .slot) (c .before .before .before .before .before .before .before .before .take-front .last .1 .1 .0)) (c .before .before .before .before .before .before .before .before .take-front .last .1 .0) (c .before .before .before .before .before .before .before .before .take-front .ensures) (at (c .before .before .before .before .before .before .before .before .before .before .before .with-slot .result) (c .before .before .last .given .0 .0)) (ap (takenAt (c .before .before .before .before .before .before .before .before .before .before .before .with-slot .result)) (c .before .before .last .given .1)) (c .stats2 .result) (c .stats2 .ensures)
 
 -- src/compute.rt:137:56
 enum-told : tie.Need-enum-told Inv-loop μ-loop
@@ -196,6 +195,7 @@ drive-spec =
     μ-loop
     loop-holds
     is-filed-requires
+    stats-requires
     same-length
     same-length-2
     same-length-3
@@ -203,7 +203,7 @@ drive-spec =
     with-slot-requires
     take-front-requires
     enum-known-last
-    stats-requires
+    stats-requires-2
     same-length-4
     same-length-5
     same-length-6

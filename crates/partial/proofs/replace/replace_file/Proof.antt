@@ -1,4 +1,5 @@
 -- the answer of the index that the image asks for
+use Rattle.storage.specs.Rows.Laws.{few-records}
 use mathlib.Core.Path.{ap}
 use Rattle.semantics.specs.Told.{toldReplacement}
 use Rattle.semantics.specs.declared.answer.Replacement.{Replacement}
@@ -10,7 +11,7 @@ is-small-requires : tie.Need-is-small-requires
 is-small-requires c κs = search needs
 
 replace-small-requires : tie.Need-replace-small-requires
-replace-small-requires c κs = c .before .before .before .is-small .ensures (c .before .before .if1 .taken)
+replace-small-requires c κs = few-records _ (c .before .before .before .is-small .ensures) (c .before .before .if1 .taken)
 
 same-length : tie.Need-same-length
 same-length c = search needs

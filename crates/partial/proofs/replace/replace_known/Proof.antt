@@ -1,6 +1,6 @@
 use Prim.Native.Nat.{_<_, _^_}
 use native.Mathlib.Omega.{arith}
-use Rattle.partial.specs.Requests.Laws.{replaced-unknown, counting-computes, counting-ends, replaced-refused, counted-asks, replaced-full, storing, replaced-done}
+use Rattle.partial.specs.Requests.Laws.{replaced-unknown, counting-computes, replaced-refused, counted-asks, replaced-full, storing, replaced-done}
 use borrow.Author.Needs.{needs}
 use Rattle.partial.proofs.replace.replace_known.Statement.{statement}
 use Rattle.partial.proofs.replace.replace_known.Tie as tie
@@ -20,10 +20,6 @@ compute-requires c κs = let a = c .before .before .before .before .before .befo
 -- src/replace.rt:74:27
 enum-known-r : tie.Need-enum-known-r
 enum-known-r c = search needs
-
--- src/replace.rt:88:27
-enum-told : tie.Need-enum-told
-enum-told c = search needs
 
 -- src/replace.rt:75:24
 enum-known-stats : tie.Need-enum-known-stats
@@ -73,18 +69,6 @@ same-length-6 c = search needs
 returns-4 : tie.Need-returns-4
 returns-4 c = let a = c .before .before .before .before .before .before .before .before .before .before .before .before .before .before .before .before .before .before .before .before .args in let p = c .before .before .before .before .before .before .before .before .before .before .before .before .before .before .before .before .before .before .before .before .pre in λ v. replaced-full (a .index .now) (a .sizes) (a .file) (a .config) (a .work .now) (a .words .now) v (omega (arith, c .before .before .before .before .before .before .before .before .before .before .before .before .before .before .before .if1 .left)) (c .before .before .before .before .before .before .before .before .before .before .before .before .before .number .result) (c .before .before .before .before .before .before .before .before .before .before .before .before .before .number .ensures .0) (c .before .before .before .before .before .before .before .before .before .before .compute .result) (c .before .before .before .before .before .before .before .before .before .before .compute .last .1 .1 .1 .1 .1 .0) (c .before .before .before .before .before .before .before .before .before .before .compute .ensures) (c .before .before .before .before .stats .given .0 .0) (c .before .before .before .before .stats .given .1) (c .before .has-room .result) (c .before .has-room .ensures) (c .if2 .left)
 
--- src/replace.rt:53:1
-same-length-7 : tie.Need-same-length-7
-same-length-7 c = search needs
-
--- src/replace.rt:53:1
-same-length-8 : tie.Need-same-length-8
-same-length-8 c = search needs
-
--- src/replace.rt:53:1
-returns-5 : tie.Need-returns-5
-returns-5 c = let a = c .before .before .before .before .before .before .before .before .before .before .before .before .before .before .before .before .args in let p = c .before .before .before .before .before .before .before .before .before .before .before .before .before .before .before .before .pre in λ v. absurd (counting-ends (a .index .now) (a .sizes) (a .file) (a .config) (a .work .now) (a .words .now) v (omega (arith, c .before .before .before .before .before .before .before .before .before .before .before .if1 .left)) (c .before .before .before .before .before .before .before .before .before .number .result) (c .before .before .before .before .before .before .before .before .before .number .ensures .0) (c .before .before .before .before .before .before .compute .result) (c .before .before .before .before .before .before .compute .last .1 .1 .1 .1 .1 .0) (c .before .before .before .before .before .before .compute .ensures) (c .enum-told .given .1))
-
 pub replace-known-spec : {M : Type 1} → statement M
 replace-known-spec =
     tie.close
@@ -99,13 +83,9 @@ replace-known-spec =
     same-length
     same-length-2
     returns-2
-    enum-told
     same-length-3
     same-length-4
     returns-3
     same-length-5
     same-length-6
-    returns-4
-    same-length-7
-    same-length-8
-    returns-5)
+    returns-4)

@@ -1,6 +1,6 @@
 -- `path::judgement::is_complete`: the index that the image asks for.
 use borrow.Author.Needs.{needs}
-use Rattle.storage.specs.Rows.Laws.{small-takes, large-takes}
+use Rattle.storage.specs.Rows.Laws.{few-records, small-takes, large-takes}
 use Rattle.path.proofs.judgement.is_complete.Statement.{statement}
 use Rattle.path.proofs.judgement.is_complete.Tie as tie
 
@@ -11,7 +11,7 @@ slice-aggregate-is-complete-in : tie.Need-slice-aggregate-is-complete-in
 slice-aggregate-is-complete-in c = search needs
 
 is-complete-in-requires : tie.Need-is-complete-in-requires
-is-complete-in-requires c κs = small-takes (c .before .before .before .before .before .args .image .now) (c .before .before .is-small .ensures (c .before .if1 .taken))
+is-complete-in-requires c κs = small-takes (c .before .before .before .before .before .args .image .now) (few-records _ (c .before .before .is-small .ensures) (c .before .if1 .taken))
 
 returns : tie.Need-returns
 returns c = search needs

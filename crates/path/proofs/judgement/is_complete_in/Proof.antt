@@ -28,7 +28,7 @@ cast-get-step : tie.Need-cast-get-step
 cast-get-step c = search needs
 
 get-step-requires : tie.Need-get-step-requires
-get-step-requires c κs = let a = c .before .before .before .before .before .before .before .before .before .before .before .before .before .before .before .args in let z = answer-accepted (checkImage symbolBytes (a .image .now)) (c .before .before .before .before .before .before .before .before .before .before .load-fresh .result) (c .before .before .before .before .before .before .enum-told .given .0 .0) (c .before .before .before .before .before .before .enum-told .given .0 .1 .0) (c .before .before .before .before .before .before .enum-told .given .0 .1 .1 .0) (c .before .before .before .before .before .before .before .before .before .before .load-fresh .ensures .0) (c .before .before .before .before .before .before .enum-told .given .1) in let g = z .graph in let l = c .before .before .before .before .before .before .before .before .before .before .load-fresh .ensures .1 g (z .is) in let j = accepted-jump symbolBytes (a .image .now) g (z .is) in room (viewOf g) (a .reference) (a .edges .now) (c .before .before .before .before .replay-loaded .result) (c .before .before .before .before .replay-loaded .ensures g l j)
+get-step-requires c κs = let a = c .before .before .before .before .before .before .before .before .before .before .before .before .before .before .before .args in let z = answer-accepted (checkImage symbolBytes (a .image .now)) (c .before .before .before .before .before .before .before .before .before .before .load-fresh .result) (c .before .before .before .before .before .before .enum-told .given .0 .0) (c .before .before .before .before .before .before .enum-told .given .0 .1 .0) (c .before .before .before .before .before .before .enum-told .given .0 .1 .1 .0) (c .before .before .before .before .before .before .before .before .before .before .load-fresh .ensures .0) (c .before .before .before .before .before .before .enum-told .given .1) in let g = z .graph in let l = c .before .before .before .before .before .before .before .before .before .before .load-fresh .ensures .1 g (z .is) in let j = accepted-jump symbolBytes (a .image .now) g (z .is) in room (viewOf g) (a .reference) (a .edges .now) (c .before .before .before .before .replay-loaded .result) (c .before .before .before .before .replay-loaded .ensures .1 g l j)
 
 is-complete-requires : tie.Need-is-complete-requires
 is-complete-requires c κs = let a = c .before .before .before .before .before .before .before .before .before .before .before .before .before .before .before .before .before .args in let z = answer-accepted (checkImage symbolBytes (a .image .now)) (c .before .before .before .before .before .before .before .before .before .before .before .before .load-fresh .result) (c .before .before .before .before .before .before .before .before .enum-told .given .0 .0) (c .before .before .before .before .before .before .before .before .enum-told .given .0 .1 .0) (c .before .before .before .before .before .before .before .before .enum-told .given .0 .1 .1 .0) (c .before .before .before .before .before .before .before .before .before .before .before .before .load-fresh .ensures .0) (c .before .before .before .before .before .before .before .before .enum-told .given .1) in let g = z .graph in let l = c .before .before .before .before .before .before .before .before .before .before .before .before .load-fresh .ensures .1 g (z .is) in l .long
@@ -46,7 +46,7 @@ same-length-2 : tie.Need-same-length-2
 same-length-2 c = search needs
 
 returns-2 : tie.Need-returns-2
-returns-2 c = let a = c .before .before .before .before .before .before .before .before .before .before .before .before .before .before .before .before .before .before .before .args in let z = answer-accepted (checkImage symbolBytes (a .image .now)) (c .before .before .before .before .before .before .before .before .before .before .before .before .before .before .load-fresh .result) (c .before .before .before .before .before .before .before .before .before .before .enum-told .given .0 .0) (c .before .before .before .before .before .before .before .before .before .before .enum-told .given .0 .1 .0) (c .before .before .before .before .before .before .before .before .before .before .enum-told .given .0 .1 .1 .0) (c .before .before .before .before .before .before .before .before .before .before .before .before .before .before .load-fresh .ensures .0) (c .before .before .before .before .before .before .before .before .before .before .enum-told .given .1) in let g = z .graph in let l = c .before .before .before .before .before .before .before .before .before .before .before .before .before .before .load-fresh .ensures .1 g (z .is) in let j = accepted-jump symbolBytes (a .image .now) g (z .is) in ap toldJudgement (c .judged .ensures ∙ ap (judgedAs (c .before .before .before .before .before .before .before .before .replay-loaded .result .answer)) (c .before .is-complete .ensures ∙ ap (completeStep (nodeRow (c .before .before .before .before .before .before .before .before .before .before .before .before .before .before .load-fresh .last .1 .0))) (c .before .before .before .get-step .ensures)) ∙ complete-answers _ (checkImage symbolBytes (a .image .now)) g (z .is) l (a .reference) (a .edges .now) (c .before .before .before .before .before .before .before .before .replay-loaded .result) (c .before .before .before .before .before .before .before .before .replay-loaded .ensures g l j))
+returns-2 c = let a = c .before .before .before .before .before .before .before .before .before .before .before .before .before .before .before .before .before .before .before .args in let z = answer-accepted (checkImage symbolBytes (a .image .now)) (c .before .before .before .before .before .before .before .before .before .before .before .before .before .before .load-fresh .result) (c .before .before .before .before .before .before .before .before .before .before .enum-told .given .0 .0) (c .before .before .before .before .before .before .before .before .before .before .enum-told .given .0 .1 .0) (c .before .before .before .before .before .before .before .before .before .before .enum-told .given .0 .1 .1 .0) (c .before .before .before .before .before .before .before .before .before .before .before .before .before .before .load-fresh .ensures .0) (c .before .before .before .before .before .before .before .before .before .before .enum-told .given .1) in let g = z .graph in let l = c .before .before .before .before .before .before .before .before .before .before .before .before .before .before .load-fresh .ensures .1 g (z .is) in let j = accepted-jump symbolBytes (a .image .now) g (z .is) in ap toldJudgement (c .judged .ensures ∙ ap (judgedAs (c .before .before .before .before .before .before .before .before .replay-loaded .result .answer)) (c .before .is-complete .ensures ∙ ap (completeStep (nodeRow (c .before .before .before .before .before .before .before .before .before .before .before .before .before .before .load-fresh .last .1 .0))) (c .before .before .before .get-step .ensures)) ∙ complete-answers _ (checkImage symbolBytes (a .image .now)) g (z .is) l (a .reference) (a .edges .now) (c .before .before .before .before .before .before .before .before .replay-loaded .result) (c .before .before .before .before .before .before .before .before .replay-loaded .ensures .1 g l j))
 
 pub is-complete-in-spec : {M : Type 1} → statement M
 is-complete-in-spec =

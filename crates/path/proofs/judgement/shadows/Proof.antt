@@ -1,6 +1,6 @@
 -- `path::judgement::shadows`: the index that the image asks for.
 use borrow.Author.Needs.{needs}
-use Rattle.storage.specs.Rows.Laws.{small-takes, large-takes}
+use Rattle.storage.specs.Rows.Laws.{few-records, small-takes, large-takes}
 use Rattle.path.proofs.judgement.shadows.Statement.{statement}
 use Rattle.path.proofs.judgement.shadows.Tie as tie
 
@@ -11,7 +11,7 @@ slice-aggregate-shadows-in : tie.Need-slice-aggregate-shadows-in
 slice-aggregate-shadows-in c = search needs
 
 shadows-in-requires : tie.Need-shadows-in-requires
-shadows-in-requires c κs = small-takes (c .before .before .before .before .before .before .args .image .now) (c .before .before .is-small .ensures (c .before .if1 .taken))
+shadows-in-requires c κs = small-takes (c .before .before .before .before .before .before .args .image .now) (few-records _ (c .before .before .is-small .ensures) (c .before .if1 .taken))
 
 returns : tie.Need-returns
 returns c = search needs

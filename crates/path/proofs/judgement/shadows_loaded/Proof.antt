@@ -1,9 +1,5 @@
-use Prim.Native.Nat.{ℕ}
-use native.Mathlib.Omega.{arith}
-use mathlib.Core.Path.{_≡_, sym, ap, _∙_}
-use mathlib.Core.Logic.{⊎-elim}
-use denote.Enum.Declared
-use Rattle.semantics.proofs.answer.Replayed as replayed
+use mathlib.Core.Path.{ap, _∙_}
+use Rattle.path.proofs.Answered.{not-done}
 use Rattle.semantics.specs.Limits.{base}
 use Rattle.semantics.specs.Path.{replay}
 use Rattle.semantics.specs.Graph.{viewOf}
@@ -26,7 +22,7 @@ judged-requires c κs = search needs
 
 -- src/judgement.rt:43:9
 returns : tie.Need-returns
-returns c = λ g l j. let a = c .before .before .before .before .before .before .args in c .judged .ensures ∙ left-stops (c .before .before .replay-loaded .result) (replay base (viewOf g) (a .left) (a .left-edges .now)) (replay base (viewOf g) (a .right) (a .right-edges .now)) (c .before .before .replay-loaded .ensures g l j) (λ e. ⊎-elim (λ k. let z : _≡_ {A = ℕ} 0 1 = sym (ap (Declared.tagOf replayed.the-type) e) ∙ k in omega (arith, z)) (λ k. let z : _≡_ {A = ℕ} 0 2 = sym (ap (Declared.tagOf replayed.the-type) e) ∙ k in omega (arith, z)) (c .before .match .keys2))
+returns c = λ g l j. let a = c .before .before .before .before .before .before .args in c .judged .ensures ∙ left-stops (c .before .before .replay-loaded .result) (replay base (viewOf g) (a .left) (a .left-edges .now)) (replay base (viewOf g) (a .right) (a .right-edges .now)) (c .before .before .replay-loaded .ensures .1 g l j) (not-done (c .before .before .replay-loaded .result .answer) (c .before .match .keys2))
 
 -- src/judgement.rt:45:18
 replay-loaded-requires-2 : tie.Need-replay-loaded-requires-2
@@ -42,7 +38,7 @@ judged-requires-2 c κs = search needs
 
 -- src/judgement.rt:37:1
 returns-2 : tie.Need-returns-2
-returns-2 c = λ g l j. let a = c .before .before .before .before .before .before .before .before .before .args in c .judged2 .ensures ∙ ap (judgedAs (c .before .before .replay-loaded2 .result .answer)) (c .before .shadows .ensures) ∙ right-judged (a .index .now) g l j (a .left) (a .right) (a .left-edges .now) (a .right-edges .now) (c .before .before .before .before .before .replay-loaded .result) (c .before .before .replay-loaded2 .result) (c .before .before .before .before .before .replay-loaded .ensures g l j) (c .before .before .before .enum-told .given .1) (c .before .before .replay-loaded2 .ensures g l j)
+returns-2 c = λ g l j. let a = c .before .before .before .before .before .before .before .before .before .args in c .judged2 .ensures ∙ ap (judgedAs (c .before .before .replay-loaded2 .result .answer)) (c .before .shadows .ensures) ∙ right-judged (a .index .now) g l j (a .left) (a .right) (a .left-edges .now) (a .right-edges .now) (c .before .before .before .before .before .replay-loaded .result) (c .before .before .replay-loaded2 .result) (c .before .before .before .before .before .replay-loaded .ensures .1 g l j) (c .before .before .before .enum-told .given .1) (c .before .before .replay-loaded2 .ensures .1 g l j)
 
 pub shadows-loaded-spec : {M : Type 1} → statement M
 shadows-loaded-spec =

@@ -1,6 +1,6 @@
 -- `path::replay::replay`: the index that the image asks for.
 use borrow.Author.Needs.{needs}
-use Rattle.storage.specs.Rows.Laws.{small-takes, large-takes}
+use Rattle.storage.specs.Rows.Laws.{few-records, small-takes, large-takes}
 use Rattle.path.proofs.replay.replay.Statement.{statement}
 use Rattle.path.proofs.replay.replay.Tie as tie
 
@@ -11,7 +11,7 @@ slice-aggregate-replay-in : tie.Need-slice-aggregate-replay-in
 slice-aggregate-replay-in c = search needs
 
 replay-in-requires : tie.Need-replay-in-requires
-replay-in-requires c κs = small-takes (c .before .before .before .before .before .args .image .now) (c .before .before .is-small .ensures (c .before .if1 .taken))
+replay-in-requires c κs = small-takes (c .before .before .before .before .before .args .image .now) (few-records _ (c .before .before .is-small .ensures) (c .before .if1 .taken))
 
 returns : tie.Need-returns
 returns c = search needs

@@ -1,6 +1,6 @@
 -- `search::direct::search_image`: the index that the image asks for.
 use borrow.Author.Needs.{needs}
-use Rattle.storage.specs.Rows.Laws.{small-takes, large-takes}
+use Rattle.storage.specs.Rows.Laws.{few-records, small-takes, large-takes}
 use Rattle.search.proofs.direct.search_image.Statement.{statement}
 use Rattle.search.proofs.direct.search_image.Tie as tie
 
@@ -11,7 +11,7 @@ slice-aggregate-search-in : tie.Need-slice-aggregate-search-in
 slice-aggregate-search-in c = search needs
 
 search-in-requires : tie.Need-search-in-requires
-search-in-requires c κs = small-takes (c .before .before .before .before .before .before .before .before .args .image .now) (c .before .before .before .before .is-small .ensures (c .before .before .before .if1 .taken))
+search-in-requires c κs = small-takes (c .before .before .before .before .before .before .before .before .args .image .now) (few-records _ (c .before .before .before .before .is-small .ensures) (c .before .before .before .if1 .taken))
 
 same-length : tie.Need-same-length
 same-length c = search needs

@@ -1,4 +1,5 @@
 -- what is asked is what the numbers say; the answer is what the call tells
+use Rattle.storage.specs.Rows.Laws.{few-records}
 use mathlib.Core.Path.{_≡_, ap, _∙_}
 use lib.ListN.{length}
 use Rattle.semantics.specs.declared.answer.Replacement.{Replacement}
@@ -22,7 +23,7 @@ config-requires : tie.Need-config-requires
 config-requires c κs = search needs
 
 replace-small-requires : tie.Need-replace-small-requires
-replace-small-requires c κs = c .before .before .before .before .is-small .ensures (c .before .before .before .if1 .taken)
+replace-small-requires c κs = few-records _ (c .before .before .before .before .is-small .ensures) (c .before .before .before .if1 .taken)
 
 tell-replacement-requires : tie.Need-tell-replacement-requires
 tell-replacement-requires c κs = search needs

@@ -32,7 +32,7 @@ returns : tie.Need-returns
 returns c =
     let a = c .before .before .before .before .before .before .before .before .before .before .before .before .before .before .args in (
       c .before .before .write2 .ensures ∙ ap (λ (l : List ℕ). written (length (a .answer .now)) l) (c .before .before .before .before .of-replayed .ensures ∙ c .before .before .before .before .before .before .before .before .before .replay .ensures .0),
-      c .before .before .before .before .before .before .before .write .ensures ∙ ap (λ (p : ReplayedPath). written (length (a .path .now)) (pathWords p)) (c .before .before .before .before .before .before .before .before .before .replay .ensures .1),
+      c .before .before .before .before .before .before .before .write .ensures ∙ ap (λ (p : ReplayedPath). written (length (a .path .now)) (pathWords p)) (c .before .before .before .before .before .before .before .before .before .replay .ensures .1 .0),
     )
 
 pub pozhdaghi-replay-spec : {M : Type 1} → statement M

@@ -1,4 +1,5 @@
 -- the answer of the index that the image asks for
+use Rattle.storage.specs.Rows.Laws.{few-records}
 use borrow.Author.Needs.{needs}
 use Rattle.service.proofs.searching.pozhdaghi_linear_recorded.Statement.{statement}
 use Rattle.service.proofs.searching.pozhdaghi_linear_recorded.Tie as tie
@@ -7,7 +8,7 @@ is-small-requires : tie.Need-is-small-requires
 is-small-requires c κs = search needs
 
 linear-small-requires : tie.Need-linear-small-requires
-linear-small-requires c κs = c .before .before .before .is-small .ensures (c .before .before .if1 .taken)
+linear-small-requires c κs = few-records _ (c .before .before .before .is-small .ensures) (c .before .before .if1 .taken)
 
 same-length : tie.Need-same-length
 same-length c = search needs

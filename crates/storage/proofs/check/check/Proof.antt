@@ -2,7 +2,7 @@
 use borrow.Author.Needs.{needs}
 use mathlib.Core.Path.{ap}
 use Rattle.semantics.specs.Told.{toldChecked}
-use Rattle.storage.specs.Rows.Laws.{small-takes, large-takes}
+use Rattle.storage.specs.Rows.Laws.{few-records, small-takes, large-takes}
 use Rattle.storage.proofs.check.check.Statement.{statement}
 use Rattle.storage.proofs.check.check.Tie as tie
 
@@ -13,7 +13,7 @@ slice-aggregate-load-fresh : tie.Need-slice-aggregate-load-fresh
 slice-aggregate-load-fresh c = search needs
 
 load-fresh-requires : tie.Need-load-fresh-requires
-load-fresh-requires c κs = small-takes (c .before .before .before .before .args .image .now) (c .before .before .is-small .ensures (c .before .if1 .taken))
+load-fresh-requires c κs = small-takes (c .before .before .before .before .args .image .now) (few-records _ (c .before .before .is-small .ensures) (c .before .if1 .taken))
 
 returns : tie.Need-returns
 returns c = ap toldChecked (c .before .load-fresh .ensures .0)

@@ -1,5 +1,5 @@
 -- `Budget::admit_length` meets its contract: a walk of its MIR, by hand. The borrow is opened, the budget is copied and passed by value,
--- and the borrow is closed at the budget that came back. Of `admitted_length` it knows only that it meets its contract. Assumes nothing.
+-- and the borrow is closed at the budget that came back. Of `length_answer` it knows only that it meets its contract. Assumes nothing.
 use mathlib.Core.Path.{_≡_, refl, ap}
 use Prim.Native.Nat.{ℕ, _<_, _^_}
 use mathlib.Core.List.{[], _∷_, List}
@@ -46,10 +46,10 @@ use Rattle.budget.proofs.path_budget.Budget as T
 use Rattle.budget.proofs.path_budget.Budget.Laws as T′
 use Rattle.budget.proofs.path_budget.Admitted as U
 use Rattle.budget.proofs.path_budget.Admitted.Laws as U′
-use Rattle.budget.proofs.path_budget.Budget.admitted_length as g
-use Rattle.budget.proofs.path_budget.Budget.admitted_length.Symbol as g-def
-use Rattle.budget.proofs.path_budget.Budget.admitted_length.Symbol.{name as #g}
-use Rattle.budget.proofs.path_budget.Budget.admitted_length.Met as g-thm
+use Rattle.budget.proofs.path_budget.Budget.length_answer as g
+use Rattle.budget.proofs.path_budget.Budget.length_answer.Symbol as g-def
+use Rattle.budget.proofs.path_budget.Budget.length_answer.Symbol.{name as #g}
+use Rattle.budget.proofs.path_budget.Budget.length_answer.Met as g-thm
 use Rattle.budget.proofs.path_budget.Budget.admit_length.Key.{name as #f}
 use Rattle.budget.proofs.path_budget.Budget.admit_length as f
 use Rattle.budget.proofs.path_budget.Budget.admit_length.Statement as stated
@@ -133,4 +133,4 @@ admit-length-spec 𝓤 H 𝓜 𝓖 𝓡 =
     entered 𝓤 H (tripleOf 𝓤 H (𝓖 .A) f.signature (f.spec 𝓤 H (𝓖 .A) (𝓜 .mem) (𝓡 .run)))
     (tables 𝓤 H 𝓜 𝓡 code.env .C) (tables 𝓤 H 𝓜 𝓡 code.env .Λ) #f code.function (code.unfolded 𝓤 H 𝓜 𝓡)
     (f-meets 𝓤 H (𝓖 .A) (givenOf 𝓤 H 𝓜 𝓖) (𝓜 .mem) (𝓡 .run) (tablesOf 𝓤 H 𝓜 (tables 𝓤 H 𝓜 𝓡 code.env))
-    (cited 𝓤 H (G 𝓤 H (𝓖 .A) (𝓜 .mem) (𝓡 .run)) 𝓜 𝓡 code.env #g g-def.routine code.calls-budget·path-budget·Budget·admitted-length (g-thm.met 𝓤 H 𝓜 𝓖 𝓡)))
+    (cited 𝓤 H (G 𝓤 H (𝓖 .A) (𝓜 .mem) (𝓡 .run)) 𝓜 𝓡 code.env #g g-def.routine code.calls-budget·path-budget·Budget·length-answer (g-thm.met 𝓤 H 𝓜 𝓖 𝓡)))

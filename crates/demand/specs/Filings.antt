@@ -1,0 +1,177 @@
+-- Every file of an image filed by the public calls, whatever the words were before, and that such a database meets the premise of demand 3.
+-- Document 01, "Partial paths", last paragraph.
+use Prim.Native.Nat.{ℕ, zero, suc, _+_, _-_, _≤_, _<_}
+use native.Mathlib.Omega.{arith}
+use mathlib.Core.Path.{_≡_, refl, sym, ap, subst, _∙_}
+use mathlib.Core.Logic.{_⊎_, inl, inr, ⊎-elim}
+use mathlib.Core.Bool.{Bool, true, false, true≢false}
+use mathlib.Core.List.{List, [], _∷_, List·Memᴰ, List·Memᴰ·head, List·Memᴰ·tail}
+use borrow.Author.Tests.{ltb-true, ltb-false}
+use lib.Dec.{ltb}
+use lib.ListN.{length}
+use Rattle.semantics.specs.declared.search.SearchOrder.{SearchOrder}
+use Rattle.semantics.specs.declared.search.PartialPathStats.{PartialPathStats}
+use Rattle.semantics.specs.declared.answer.Creation.{Creation}
+use Rattle.semantics.specs.declared.answer.Creation.the-variants as Creation
+use Rattle.semantics.specs.declared.answer.Replacement.{Replacement}
+use Rattle.semantics.specs.declared.answer.Replacement.the-variants as Replacement
+use Rattle.semantics.specs.Limits.{base}
+use Rattle.semantics.specs.Answer.{Answer, ok}
+use Rattle.semantics.specs.Graph.{Graph, viewOf}
+use Rattle.semantics.specs.declared.refusal.ImageRefusal.{ImageRefusal}
+use Rattle.semantics.specs.Image.{symbolBytes, checkImage}
+use Rattle.semantics.specs.Demand.{fileOwners, Holds}
+use Rattle.semantics.specs.Database.{slotsIn, filesOnly}
+use Rattle.semantics.specs.Database.Checked.{Checked}
+use Rattle.semantics.specs.Calls.{Change, freshCall, replaceCall}
+use Rattle.semantics.specs.Calls.Filing.{Refiled, Filed, begun, refiled, unlimited, refiled-holds, refiled-some, filed-holds}
+
+-- was the call answered with Done
+abbrev pub isCreated : Creation → Bool
+isCreated Creation.Done = true
+isCreated (Creation.Image r) = false
+isCreated Creation.Malformed = false
+
+abbrev pub isReplaced : Replacement → Bool
+isReplaced (Replacement.Done stats) = true
+isReplaced (Replacement.Image r) = false
+isReplaced (Replacement.Database r) = false
+isReplaced (Replacement.Refused r) = false
+isReplaced Replacement.Full = false
+
+-- a file replaced without limits
+abbrev pub refiling : List ℕ → SearchOrder → ℕ → List ℕ → List ℕ → Change Replacement
+refiling im order f work words = replaceCall base filesOnly (checkImage symbolBytes im) (unlimited order (length work) f) words
+
+-- whether every call was answered with Done, and every word of the work area and of the database
+pub record Filings : Type 0 where
+  pub all : Bool
+  pub work : List ℕ
+  pub words : List ℕ
+
+abbrev pub onward : Bool → Change Replacement → (List ℕ → List ℕ → Filings) → Filings
+onward true c next = next (c .work) (c .database)
+onward false c next = record { all = false; work = c .work; words = c .database }
+
+-- k files from file f on, replaced one after another; the first call that is refused ends it
+unfoldable pub refilings : List ℕ → SearchOrder → ℕ → ℕ → List ℕ → List ℕ → Filings
+refilings im order f zero work words = record { all = true; work = work; words = words }
+refilings im order f (suc k) work words = onward (isReplaced (refiling im order f work words .answer)) (refiling im order f work words) (refilings im order (suc f) k)
+
+abbrev pub begunWith : Bool → List ℕ → List ℕ → (List ℕ → Filings) → Filings
+begunWith true work words next = next words
+begunWith false work words next = record { all = false; work = work; words = words }
+
+-- the words made a fresh database, and every file filed in it
+unfoldable pub filings : List ℕ → SearchOrder → ℕ → List ℕ → List ℕ → Filings
+unfolding refilings
+filings im order files work words =
+    begunWith (isCreated (freshCall (checkImage symbolBytes im) words .answer)) work (freshCall (checkImage symbolBytes im) words .database) (refilings im order 0 files work)
+
+-- THE PREMISE OF DEMAND 3, of the words that are left, for every graph of so many files that the image holds
+abbrev pub Fills : List ℕ → ℕ → List ℕ → Type 0
+Fills im files words = (g : Graph) → checkImage symbolBytes im ≡ ok g → files ≡ g .files → Holds (fileOwners g) base (viewOf g) (slotsIn base words)
+
+-- where the words began as any at all: of a graph without files nothing was replaced, so that its check must have passed
+abbrev pub Refills : List ℕ → ℕ → List ℕ → Type 0
+Refills im files words = (g : Graph) → checkImage symbolBytes im ≡ ok g → files ≡ g .files → (0 < g .files) ⊎ Checked base filesOnly g words → Holds (fileOwners g) base (viewOf g) (slotsIn base words)
+
+-- THE LOOP
+module _ (im : List ℕ) (order : SearchOrder) (files f : ℕ) (work words : List ℕ) where
+  pub refilings-end : files ≤ f → record { all = true; work = work; words = words } ≡ refilings im order f (files - f) work words
+  unfolding refilings
+  refilings-end h = let z : files - f ≡ 0 = omega (arith, h) in ap (λ k. refilings im order f k work words) (sym z)
+
+  module _ (more : f < files) where
+    next-is : refilings im order f (files - f) work words ≡ onward (isReplaced (refiling im order f work words .answer)) (refiling im order f work words) (refilings im order (suc f) (files - (f + 1)))
+    unfolding refilings
+    next-is = let z : files - f ≡ suc (files - (f + 1)) = omega (arith, more) in ap (λ k. refilings im order f k work words) z
+
+    pub refilings-stop : isReplaced (refiling im order f work words .answer) ≡ false → record { all = false; work = refiling im order f work words .work; words = refiling im order f work words .database } ≡ refilings im order f (files - f) work words
+    refilings-stop h = sym (next-is ∙ ap (λ b. onward b (refiling im order f work words) (refilings im order (suc f) (files - (f + 1)))) h)
+
+    pub refilings-next : isReplaced (refiling im order f work words .answer) ≡ true → refilings im order (f + 1) (files - (f + 1)) (refiling im order f work words .work) (refiling im order f work words .database) ≡ refilings im order f (files - f) work words
+    refilings-next h =
+        let z : suc f ≡ f + 1 = omega arith in
+        ap (λ k. refilings im order k (files - (f + 1)) (refiling im order f work words .work) (refiling im order f work words .database)) (sym z)
+        ∙ sym (next-is ∙ ap (λ b. onward b (refiling im order f work words) (refilings im order (suc f) (files - (f + 1)))) h)
+
+-- ALL WERE REPLACED
+replaced-stats : (a : Replacement) → isReplaced a ≡ true → (t : PartialPathStats) × (a ≡ Replacement.Done t)
+replaced-stats (Replacement.Done t) e = (t, refl)
+replaced-stats (Replacement.Image r) e = absurd (true≢false (sym e))
+replaced-stats (Replacement.Database r) e = absurd (true≢false (sym e))
+replaced-stats (Replacement.Refused r) e = absurd (true≢false (sym e))
+replaced-stats Replacement.Full e = absurd (true≢false (sym e))
+
+created-done : (a : Creation) → isCreated a ≡ true → a ≡ Creation.Done
+created-done Creation.Done e = refl
+created-done (Creation.Image r) e = absurd (true≢false (sym e))
+created-done Creation.Malformed e = absurd (true≢false (sym e))
+
+-- files below f were replaced
+abbrev UpTo : ℕ → List ℕ → Type 0
+UpTo f done = (x : ℕ) → x < f → List·Memᴰ x done
+
+up-to : (f : ℕ) (done : List ℕ) → UpTo f done → UpTo (suc f) (f ∷ done)
+up-to f done u x h = on (ltb x f) refl
+  where
+    on : (b : Bool) → ltb x f ≡ b → List·Memᴰ x (f ∷ done)
+    on true e = List·Memᴰ·tail (u x (ltb-true x f e))
+    on false e = let k = ltb-false x f e in let z : x ≡ f = omega (arith, h, k) in List·Memᴰ·head z
+
+module _ (im : List ℕ) (order : SearchOrder) (before : List ℕ) where
+  abbrev Replacing : ℕ → List ℕ → Type 0
+  Replacing f words = (done : List ℕ) × Refiled base (checkImage symbolBytes im) before words done × UpTo f done
+
+  all-replaced : (k f : ℕ) (work words : List ℕ) → Replacing f words → refilings im order f k work words .all ≡ true → Replacing (f + k) (refilings im order f k work words .words)
+  unfolding refilings
+  all-replaced zero f work words r e = let z : f ≡ f + 0 = omega arith in subst (λ n. Replacing n words) z r
+  all-replaced (suc k) f work words r e = on (isReplaced (refiling im order f work words .answer)) refl e
+      (λ r′ a. all-replaced k (suc f) (refiling im order f work words .work) (refiling im order f work words .database) r′ a)
+    where
+      on : (b : Bool) → isReplaced (refiling im order f work words .answer) ≡ b → onward b (refiling im order f work words) (refilings im order (suc f) k) .all ≡ true
+          → (Replacing (suc f) (refiling im order f work words .database) → refilings im order (suc f) k (refiling im order f work words .work) (refiling im order f work words .database) .all ≡ true
+          → Replacing (suc f + k) (refilings im order (suc f) k (refiling im order f work words .work) (refiling im order f work words .database) .words))
+          → Replacing (f + suc k) (onward b (refiling im order f work words) (refilings im order (suc f) k) .words)
+      on true h a ih =
+          let t = replaced-stats (refiling im order f work words .answer) h in
+          let z : suc f + k ≡ f + suc k = omega arith in
+          subst (λ n. Replacing n (refilings im order (suc f) k (refiling im order f work words .work) (refiling im order f work words .database) .words)) z
+          (ih (f ∷ r .0, refiled order (length work) f (t .0) (r .1) (t .1), up-to f (r .0) (r .2)) a)
+      on false h a ih = absurd (true≢false (sym a))
+
+-- from any words
+pub refilings-fill : (im : List ℕ) (order : SearchOrder) (files : ℕ) (work words : List ℕ) → refilings im order 0 files work words .all ≡ true → Refills im files (refilings im order 0 files work words .words)
+refilings-fill im order files work words e g h n ok-check =
+    let r = all-replaced im order words files 0 work words ([], begun, λ x k. absurd (omega (arith, k))) e in
+    let b = subst (λ (a : Answer ImageRefusal Graph). Refiled base a words (refilings im order 0 files work words .words) (r .0)) h (r .1) in
+    let all : (f : ℕ) → f < g .files → List·Memᴰ f (r .0) = λ f k. r .2 f (omega (arith, k, n)) in
+    ⊎-elim (λ k. refiled-some base g words _ (r .0) b all k) (λ k. refiled-holds base g words _ (r .0) b all k) ok-check
+
+-- from a fresh database
+pub filings-fill : (im : List ℕ) (order : SearchOrder) (files : ℕ) (work words : List ℕ) → filings im order files work words .all ≡ true → Fills im files (filings im order files work words .words)
+unfolding filings
+filings-fill im order files work words e g h n = on (isCreated (freshCall (checkImage symbolBytes im) words .answer)) refl e
+  where
+    new : List ℕ
+    new = freshCall (checkImage symbolBytes im) words .database
+
+    on : (b : Bool) → isCreated (freshCall (checkImage symbolBytes im) words .answer) ≡ b → begunWith b work new (refilings im order 0 files work) .all ≡ true
+        → Holds (fileOwners g) base (viewOf g) (slotsIn base (begunWith b work new (refilings im order 0 files work) .words))
+    on true c a =
+        let r = all-replaced im order new files 0 work new ([], begun, λ x k. absurd (omega (arith, k))) a in
+        let all : (f : ℕ) → f < g .files → List·Memᴰ f (r .0) = λ f k. r .2 f (omega (arith, k, n)) in
+        let filed : Filed base (checkImage symbolBytes im) (refilings im order 0 files work new .words) (r .0) = record { lent = words; created = created-done (freshCall (checkImage symbolBytes im) words .answer) c; replaced = r .1 } in
+        filed-holds base g _ (r .0) (subst (λ (x : Answer ImageRefusal Graph). Filed base x (refilings im order 0 files work new .words) (r .0)) h filed) all
+    on false c a = absurd (true≢false (sym a))
+
+-- THE TWO WAYS OF A FRESH START
+module _ (im : List ℕ) (order : SearchOrder) (files : ℕ) (work words : List ℕ) where
+  pub filings-fresh : isCreated (freshCall (checkImage symbolBytes im) words .answer) ≡ true → refilings im order 0 files work (freshCall (checkImage symbolBytes im) words .database) ≡ filings im order files work words
+  unfolding filings
+  filings-fresh h = sym (ap (λ b. begunWith b work (freshCall (checkImage symbolBytes im) words .database) (refilings im order 0 files work)) h)
+
+  pub filings-refused : isCreated (freshCall (checkImage symbolBytes im) words .answer) ≡ false → record { all = false; work = work; words = freshCall (checkImage symbolBytes im) words .database } ≡ filings im order files work words
+  unfolding filings
+  filings-refused h = sym (ap (λ b. begunWith b work (freshCall (checkImage symbolBytes im) words .database) (refilings im order 0 files work)) h)

@@ -1,0 +1,59 @@
+// Both recorded calls from one reference. Demand 3, first sentence: what stands in the used result slots of either, where the length limits are
+// the same, whatever orders, count limits and areas each search was given.
+ghost use mathlib.Core.Path.{_≡_};
+ghost use Rattle.semantics.specs.Told.{toldResolution};
+ghost use Rattle.demand.specs.Agreement.{directAsked, stitchedAsked, Agrees};
+use search::direct;
+use semantics::answer::Resolution;
+use semantics::graph::NodeId;
+use semantics::search::SearchLimits;
+use semantics::search::SearchOrder;
+use stitching::stitched;
+
+// How a search is asked for.
+pub struct Asked {
+    pub order: SearchOrder,
+    pub limits: SearchLimits,
+}
+
+pub struct Answers {
+    pub direct: Resolution,
+    pub stitched: Resolution,
+}
+
+// The recorded sets of direct and of stitched search, each in areas of its own.
+pub fn record_both(
+    image: &[u8],
+    words: &[u32],
+    reference: NodeId,
+    first: Asked,
+    second: Asked,
+    waiting: &mut [u32],
+    found: &mut [u32],
+    stitching: &mut [u32],
+    joined: &mut [u32],
+) -> Answers
+    ensures { λ r. ⌜ toldResolution (r .direct) ≡ toldResolution (directAsked (now (image .entry)) (reference .0) first (now (waiting .entry)) (now (found .entry)) .answer) ⌝ }
+    ensures { λ _. ⌜ now (waiting .exit) ≡ directAsked (now (image .entry)) (reference .0) first (now (waiting .entry)) (now (found .entry)) .work ⌝ }
+    ensures { λ _. ⌜ now (found .exit) ≡ directAsked (now (image .entry)) (reference .0) first (now (waiting .entry)) (now (found .entry)) .result ⌝ }
+    ensures { λ r. ⌜ toldResolution (r .stitched) ≡ toldResolution (stitchedAsked (now (image .entry)) (now (words .entry)) (reference .0) second (now (stitching .entry)) (now (joined .entry)) .answer) ⌝ }
+    ensures { λ _. ⌜ now (stitching .exit) ≡ stitchedAsked (now (image .entry)) (now (words .entry)) (reference .0) second (now (stitching .entry)) (now (joined .entry)) .work ⌝ }
+    ensures { λ _. ⌜ now (joined .exit) ≡ stitchedAsked (now (image .entry)) (now (words .entry)) (reference .0) second (now (stitching .entry)) (now (joined .entry)) .result ⌝ }
+    ensures { λ r. ⌜ (first .limits .length ≡ second .limits .length → Agrees (now (image .entry)) (now (words .entry)) (reference .0) (first .limits .length) (r .direct) (now (found .exit)) (r .stitched) (now (joined .exit))) ⌝ }
+{
+    let order = first.order;
+    let limits = first.limits;
+    let direct = direct::search_recorded(image, reference, order, limits, waiting, found);
+    let other_order = second.order;
+    let other_limits = second.limits;
+    let stitched = stitched::search_recorded(
+        image,
+        words,
+        reference,
+        other_order,
+        other_limits,
+        stitching,
+        joined,
+    );
+    Answers { direct, stitched }
+}
