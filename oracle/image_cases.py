@@ -49,6 +49,7 @@ from images import (DROP_SCOPES, GRAPH_A, GRAPH_B, GRAPH_C, POP, POP_SCOPED,
                     PUSH, PUSH_SCOPED, REMOVED, ROOT_AND_JUMP, SCOPE, Edge,
                     Graph, Node, image, random_graph)
 from refusals import FIRST_RECORD, LONGEST, checked
+from wrong_case import write_both
 
 FOLDER = pathlib.Path(__file__).resolve().parent.parent / "crates" / "storage_cases"
 # As many bytes as the program reads.
@@ -57,19 +58,30 @@ FILES_AT, NODES_AT, EDGES_AT = 5, 7, 9
 LEAST, GREATEST = -(2**31), 2**31 - 1
 
 
+# The one kind of case, and its name in what is printed.
+IMAGES = "I"
+NAMES = {IMAGES: "images"}
+
+
 class CaseList:
     """The cases so far, and how many there are by tag and by number."""
 
     def __init__(self):
         self.written = bytearray()
         self.last = b""
+        self.latest = 0, "", []
         self.tags = collections.Counter()
         self.numbers = collections.Counter()
         self.places = {4: set(), 5: set()}
 
+    def sums(self):
+        """How many cases there are."""
+        return {IMAGES: sum(self.tags.values())}
+
     def _add(self, tag, told, data):
         """One case, with the answer that the second reading gives."""
         answer = checked(data)
+        self.latest = len(self.written), IMAGES, answer
         self.written += tag + told + bytes([len(answer)])
         for number in answer:
             self.written += number.to_bytes(4, "big")
@@ -435,8 +447,7 @@ def main():
     count = sum(cases.tags.values())
     if len(cases.written) > MOST_BYTES:
         raise SystemExit(f"{len(cases.written)} bytes are more than the program reads")
-    (FOLDER / "stdin").write_bytes(cases.written)
-    (FOLDER / "stdout").write_text(f"images {count} different 0\n", encoding="ascii")
+    write_both(FOLDER, cases, NAMES, each_apart=False)
     print(f"{count} cases in {len(cases.written)} bytes")
     print("by tag:", dict(sorted(cases.tags.items())))
     print("by number:", dict(sorted(cases.numbers.items())))

@@ -90,6 +90,7 @@ from path_cases import LAST, damaged_images, error_told, listed, longs
 from refusals import Refused, checked
 from search_cases import (FILLS, SCOPED, SLOT, TWO_LOOPS, area_told, around,
                           limit_bytes, limit_word, wide)
+from wrong_case import write_both
 
 FOLDER = pathlib.Path(__file__).resolve().parent.parent / "crates" / "partial_cases"
 # As many bytes as the program reads, words as it lends, numbers as an answer may have.
@@ -177,6 +178,7 @@ class CaseList:
         self.oracle = oracle
         self.rng = random.Random(1)
         self.written = bytearray()
+        self.latest = 0, "", []
         self.graph, self.checked, self.words = None, [], []
         self.numbers = {kind: collections.Counter() for kind in NAMES}
         self.flags, self.paths = collections.Counter(), collections.Counter()
@@ -210,6 +212,7 @@ class CaseList:
         """One call with its answer, and the words that it leaves."""
         if len(answer) > MOST_NUMBERS:
             raise ValueError("the program has no room for this")
+        self.latest = len(self.written), kind, answer
         self.written += kind.encode() + asked + words_told(answer)
         self.longest = max(self.longest, len(answer))
         self.words = after
@@ -723,11 +726,7 @@ def write_files(cases):
         if set(cases.numbers[kind]) != wanted:
             raise SystemExit(f"{kind}: not just the wanted numbers: "
                              f"{wanted ^ set(cases.numbers[kind])}")
-    printed = "".join(f"{NAMES[kind]} {count} different 0\n"
-                      for kind, count in cases.sums().items())
-    FOLDER.mkdir(parents=True, exist_ok=True)
-    (FOLDER / "stdin").write_bytes(cases.written)
-    (FOLDER / "stdout").write_text(printed, encoding="ascii")
+    write_both(FOLDER, cases, NAMES, each_apart=False)
 
 
 def add_all(cases):

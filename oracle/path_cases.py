@@ -69,6 +69,7 @@ from images import (DROP_SCOPES, GRAPH_A, GRAPH_B, GRAPH_C, POP, POP_SCOPED,
                     Edge, Graph, Node, Oracle, fields, image, random_graph)
 from image_cases import mixed_graph
 from refusals import checked
+from wrong_case import write_both
 
 FOLDER = pathlib.Path(__file__).resolve().parent.parent / "crates" / "path_cases"
 # As many bytes as the program reads, and as many numbers as an answer may have.
@@ -148,6 +149,7 @@ class CaseList:
     def __init__(self, oracle):
         self.oracle = oracle
         self.written = bytearray()
+        self.latest = 0, "", []
         self.checked = []
         self.known = {}
         self.numbers = {kind: collections.Counter() for kind in NAMES}
@@ -191,6 +193,7 @@ class CaseList:
         """One case: its paths and the answer."""
         if len(answer) > MOST_NUMBERS:
             raise ValueError("the program has no room for the answer")
+        self.latest = len(self.written), kind, answer
         self.written += kind.encode()
         for reference, edges in paths:
             self.written += longs([reference]) + edge_list(edges)
@@ -535,10 +538,7 @@ def write_files(cases):
     for kind, numbers in cases.numbers.items():
         if set(numbers) != WANTED:
             raise SystemExit(f"{kind}: not just the wanted numbers: {WANTED ^ set(numbers)}")
-    printed = "".join(f"{NAMES[kind]} {count} different 0\n"
-                      for kind, count in cases.sums().items())
-    (FOLDER / "stdin").write_bytes(cases.written)
-    (FOLDER / "stdout").write_text(printed, encoding="ascii")
+    write_both(FOLDER, cases, NAMES, each_apart=True)
 
 
 def add_all(cases):

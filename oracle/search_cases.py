@@ -80,6 +80,7 @@ from path_cases import (BESIDE_JUMPS, CHAINS, GREATEST, LAST, LEAST,
                         longs)
 from refusals import Refused, checked
 from searches import MOST_EDGES, Request, searched
+from wrong_case import write_both
 
 FOLDER = pathlib.Path(__file__).resolve().parent.parent / "crates" / "search_cases"
 # As many bytes as the program reads, words as it lends, numbers as an answer may have.
@@ -155,6 +156,7 @@ class CaseList:
         self.oracle = oracle
         self.rng = random.Random(1)
         self.written = bytearray()
+        self.latest = 0, "", []
         self.graph, self.checked = None, []
         self.numbers = {kind: collections.Counter() for kind in NAMES}
         self.flags, self.paths = collections.Counter(), collections.Counter()
@@ -210,6 +212,7 @@ class CaseList:
         answer = self.answer(kind, request, work, result)
         if max(work, result) > MOST_WORDS or len(answer) > MOST_NUMBERS:
             raise ValueError("the program has no room for this")
+        self.latest = len(self.written), kind, answer
         self.written += (kind.encode() + longs([reference]) + order.encode()
                          + b"".join(map(limit_bytes, limits))
                          + longs([self.rng.choice(FILLS), work, result])
@@ -492,11 +495,7 @@ def write_files(cases):
     for kind, numbers in cases.numbers.items():
         if set(numbers) != WANTED[kind]:
             raise SystemExit(f"{kind}: not just the wanted numbers: {WANTED[kind] ^ set(numbers)}")
-    printed = "".join(f"{NAMES[kind]} {count} different 0\n"
-                      for kind, count in cases.sums().items())
-    FOLDER.mkdir(parents=True, exist_ok=True)
-    (FOLDER / "stdin").write_bytes(cases.written)
-    (FOLDER / "stdout").write_text(printed, encoding="ascii")
+    write_both(FOLDER, cases, NAMES, each_apart=True)
 
 
 def add_all(cases):

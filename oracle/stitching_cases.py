@@ -82,6 +82,7 @@ from search_cases import (FAN, FILLS, SCOPED, SLOT, TWICE_COMPLETE, TWO_LOOPS,
                           limit_bytes, limit_word, rust_told, wide)
 from searches import MOST_EDGES, Request, direct
 from stitched import stitched
+from wrong_case import write_both
 
 FOLDER = pathlib.Path(__file__).resolve().parent.parent / "crates" / "stitching_cases"
 # As many bytes as the program reads, words as it lends, numbers as an answer may have.
@@ -135,6 +136,7 @@ class CaseList:
         self.oracle = oracle
         self.rng = random.Random(1)
         self.written = bytearray()
+        self.latest = 0, "", []
         self.graph, self.checked, self.words = None, [], []
         self.numbers = {kind: collections.Counter() for kind in NAMES}
         self.flags, self.paths = collections.Counter(), collections.Counter()
@@ -201,6 +203,7 @@ class CaseList:
         answer = self.answer(kind, request, work, result)
         if max(work, result) > MOST_AREA or len(answer) > MOST_NUMBERS:
             raise ValueError("the program has no room for this")
+        self.latest = len(self.written), kind, answer
         self.written += (kind.encode() + longs([reference]) + order.encode()
                          + b"".join(map(limit_bytes, limits))
                          + longs([self.rng.choice(FILLS), work, result]) + words_told(answer))
@@ -554,11 +557,7 @@ def write_files(cases):
     for kind, numbers in cases.numbers.items():
         if set(numbers) != WANTED:
             raise SystemExit(f"{kind}: not just the wanted numbers: {WANTED ^ set(numbers)}")
-    printed = "".join(f"{NAMES[kind]} {count} different 0\n"
-                      for kind, count in cases.sums().items())
-    FOLDER.mkdir(parents=True, exist_ok=True)
-    (FOLDER / "stdin").write_bytes(cases.written)
-    (FOLDER / "stdout").write_text(printed, encoding="ascii")
+    write_both(FOLDER, cases, NAMES, each_apart=False)
 
 
 def add_all(cases):

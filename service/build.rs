@@ -1,8 +1,9 @@
-//! Proves the crate `service`, writes `target/staticlib/libservice.a`, and
-//! links it. With `POZHDAGHI_LIB_DIR` the archive is taken from that folder
-//! and nothing is proved here.
+//! Proves the crate `service`, which writes `target/staticlib/libservice.a`, and
+//! links a copy of it. With `POZHDAGHI_LIB_DIR` the archive of that folder is
+//! linked, and nothing is proved here.
 
 use std::env;
+use std::fs;
 use std::path::{Path, PathBuf};
 use std::process::{exit, Command};
 
@@ -26,15 +27,15 @@ fn given(folder: PathBuf) -> PathBuf {
     folder
 }
 
-/// The folder that `rt staticlib` writes to. Without a proof there is no
-/// archive, and the build ends here.
+/// The folder with the proved archive: a copy of what `rt staticlib` writes, so
+/// that the archive is there as long as this build counts as up to date. Without
+/// a proof there is no archive, and the build ends here.
 fn prove() -> PathBuf {
     let package = env::var_os("CARGO_MANIFEST_DIR").unwrap_or_default();
     let repository = Path::new(&package).join("..");
-    println!(
-        "cargo:rerun-if-changed={}",
-        repository.join("crates").display()
-    );
+    for read in ["crates", "crates.txt"] {
+        println!("cargo:rerun-if-changed={}", repository.join(read).display());
+    }
     let proved = Command::new("rt")
         .args(["staticlib", "service"])
         .current_dir(&repository)
@@ -43,5 +44,11 @@ fn prove() -> PathBuf {
         eprintln!("`rt staticlib service` failed: {proved:?}");
         exit(1);
     }
-    repository.join("target").join("staticlib")
+    let own = PathBuf::from(env::var_os("OUT_DIR").unwrap_or_default());
+    let written = repository.join("target/staticlib/libservice.a");
+    if let Err(error) = fs::copy(&written, own.join("libservice.a")) {
+        eprintln!("{}: {error}", written.display());
+        exit(1);
+    }
+    own
 }

@@ -7,6 +7,23 @@
 //! (`crates/service/src`). A refusal has the number and the values of document
 //! 01, "Turned back". The library's own work takes about 200 KB of the caller's
 //! stack.
+//!
+//! An area that a call writes overlaps no other area that it is lent: the
+//! contracts speak of each by itself. Here the borrow checker sees to it, which
+//! takes the first of these calls and turns back the second:
+//!
+//! ```
+//! let (mut work, mut result) = ([7; 128], [7; 128]);
+//! let request = pozhdaghi::Request::default();
+//! let found = pozhdaghi::direct(&[], 2, &request, &mut work, &mut result);
+//! assert_eq!(found.map_err(|refusal| refusal.number), Err(2));
+//! ```
+//! ```compile_fail,E0499
+//! let mut area = [7; 128];
+//! let request = pozhdaghi::Request::default();
+//! let found = pozhdaghi::direct(&[], 2, &request, &mut area, &mut area);
+//! assert_eq!(found.map_err(|refusal| refusal.number), Err(2));
+//! ```
 
 mod answer;
 mod calls;

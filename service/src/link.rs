@@ -30,10 +30,10 @@ unsafe extern "C" {
         image_len: usize,
         left: u32,
         left_edges: *const u32,
-        left_len: usize,
+        left_edges_len: usize,
         right: u32,
         right_edges: *const u32,
-        right_len: usize,
+        right_edges_len: usize,
         answer: *mut u64,
         answer_len: usize,
     );

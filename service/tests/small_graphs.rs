@@ -2,25 +2,8 @@
 
 mod common;
 
-use common::{definition, image, is_zero, reference, scope, slots};
-use pozhdaghi::{Limits, Order, Refusal, Request, Resolution, DATABASE_HEAD, RECORD_WORDS};
-
-fn graph_a() -> Vec<u8> {
-    let nodes = [reference(7), scope(true), definition(7), definition(8)];
-    image(&nodes, &[(2, 3, 0), (3, 4, 0), (3, 5, 1)])
-}
-
-fn graph_b() -> Vec<u8> {
-    let nodes = [reference(7), scope(true), definition(7)];
-    image(&nodes, &[(2, 3, 0), (2, 3, 1), (3, 4, 0), (3, 4, 1)])
-}
-
-fn graph_c() -> Vec<u8> {
-    image(
-        &[reference(7), definition(7)],
-        &[(2, 0, 0), (0, 0, 0), (0, 3, 0)],
-    )
-}
+use common::{area, database, filed, graph_a, graph_b, graph_c, is_zero, refusal, slots};
+use pozhdaghi::{Counts, Limits, Order, PartialStatistics, Request, Resolution, Statistics};
 
 fn limited(length: Option<u64>, paths: Option<u64>, complete: Option<u64>) -> Request {
     Request {
@@ -33,39 +16,70 @@ fn limited(length: Option<u64>, paths: Option<u64>, complete: Option<u64>) -> Re
     }
 }
 
-/// Direct search from node 2: the answer and the paths.
+/// The paths, and every word behind them.
+fn paths(result: &[u32]) -> Vec<Vec<u32>> {
+    let paths: Vec<Vec<u32>> = pozhdaghi::paths(result).map(<[u32]>::to_vec).collect();
+    assert_eq!(result, area(&paths, result.len()));
+    paths
+}
+
+/// Direct search from node 2: the answer and the returned paths.
 fn direct(image: &[u8], request: &Request) -> (Resolution, Vec<Vec<u32>>) {
     let (mut work, mut result) = (slots(128), slots(128));
     let found = pozhdaghi::direct(image, 2, request, &mut work, &mut result).expect("not refused");
     assert!(is_zero(&work));
-    (
-        found,
-        pozhdaghi::paths(&result).map(<[u32]>::to_vec).collect(),
-    )
+    (found, paths(&result))
 }
 
-/// A database in which file 0 was replaced.
-fn filed(image: &[u8], request: &Request) -> Vec<u32> {
-    let mut words = vec![7; DATABASE_HEAD + 16 * RECORD_WORDS];
-    pozhdaghi::fresh(image, &mut words).expect("not refused");
-    pozhdaghi::replace_file(image, 0, request, &mut slots(16), &mut words).expect("not refused");
-    words
+/// The recorded paths of a direct search from node 2.
+fn recorded(image: &[u8]) -> Vec<Vec<u32>> {
+    let (mut work, mut result) = (slots(4), slots(4));
+    pozhdaghi::direct_recorded(image, 2, &Request::default(), &mut work, &mut result)
+        .expect("not refused");
+    paths(&result)
+}
+
+/// Stitched search from node 2: the answer, the returned and the recorded paths.
+fn stitched(image: &[u8]) -> (Resolution, Vec<Vec<u32>>, Vec<Vec<u32>>) {
+    let (words, request) = (filed(image), Request::default());
+    let (mut work, mut result) = (slots(8), slots(8));
+    let found = pozhdaghi::stitched(image, &words, 2, &request, &mut work, &mut result)
+        .expect("not refused");
+    let returned = paths(&result);
+    pozhdaghi::stitched_recorded(image, &words, 2, &request, &mut work, &mut result)
+        .expect("not refused");
+    assert!(is_zero(&work));
+    (found, returned, paths(&result))
+}
+
+/// What the three numbers of a search without limits and cuts make.
+fn counted(paths: u64, [expanded, complete, rejected]: [u64; 3]) -> Resolution {
+    let statistics = Statistics {
+        expanded,
+        complete,
+        rejected,
+        ..Statistics::default()
+    };
+    Resolution { paths, statistics }
 }
 
 #[test]
 fn graph_a_directly() {
     let image = graph_a();
     assert_eq!(image.len(), 77);
+    let counts = Counts {
+        files: 1,
+        nodes: 6,
+        edges: 3,
+    };
+    assert_eq!(pozhdaghi::check(&image), Ok(counts));
     for order in [Order::BreadthFirst, Order::DepthFirst] {
         let limits = Limits::default();
         let (found, paths) = direct(&image, &Request { order, limits });
-        let counted = found.statistics;
-        assert_eq!(
-            (counted.expanded, counted.complete, counted.rejected),
-            (3, 1, 1)
-        );
+        assert_eq!(found, counted(1, [3, 1, 1]));
         assert_eq!(paths, [[0, 1]]);
     }
+    assert_eq!(recorded(&image), [[0, 1]]);
 }
 
 #[test]
@@ -74,6 +88,10 @@ fn graph_a_with_limits() {
     let counted = |request| direct(&image, &request).0.statistics;
     let short = counted(limited(Some(1), None, None));
     assert_eq!((short.expanded, short.length_limited), (2, true));
+    assert_eq!(
+        direct(&image, &limited(Some(2), None, None)),
+        direct(&image, &Request::default())
+    );
     let none = counted(limited(None, Some(0), None));
     assert_eq!((none.expanded, none.count_limited), (0, true));
     let two = counted(limited(None, Some(2), None));
@@ -84,78 +102,109 @@ fn graph_a_with_limits() {
     assert!(!counted(limited(None, Some(3), None)).count_limited);
 }
 
+/// Linear search takes no other edge of A than direct search appends.
 #[test]
-fn graph_a_in_parts() {
-    let image = graph_a();
-    let request = Request::default();
-    let words = filed(&image, &request);
-    let parts: [&[u32]; 5] = [&[0], &[1], &[2], &[0, 1], &[0, 2]];
-    for (number, part) in parts.iter().enumerate() {
-        assert_eq!(pozhdaghi::lookup(&words, number as u32), *part);
+fn graph_a_linearly() {
+    let (image, request) = (graph_a(), Request::default());
+    let mut result = slots(2);
+    for call in [pozhdaghi::linear, pozhdaghi::linear_recorded] {
+        let found = call(&image, 2, &request, &mut result);
+        assert_eq!(found, Ok(counted(1, [3, 1, 1])));
+        assert_eq!(paths(&result), [[0, 1]]);
     }
-    let (mut work, mut result) = (slots(4), slots(4));
-    let found = pozhdaghi::stitched(&image, &words, 2, &request, &mut work, &mut result)
-        .expect("not refused");
-    let counted = found.statistics;
-    assert_eq!(
-        (counted.expanded, counted.complete, counted.rejected),
-        (4, 2, 2)
-    );
-    assert_eq!(pozhdaghi::paths(&result).collect::<Vec<_>>(), [&[0, 1]]);
 }
 
 #[test]
-fn graph_b_shadows_and_linear() {
+fn graph_a_in_parts() {
+    let image = graph_a();
+    let parts: [&[u32]; 5] = [&[0], &[1], &[2], &[0, 1], &[0, 2]];
+    let ends = [(2, 3), (3, 4), (3, 5), (2, 4), (2, 5)];
+    let slots: Vec<common::Slot> = parts
+        .iter()
+        .zip(ends)
+        .map(|(&edges, (start, end))| Some((0, start, end, edges)))
+        .collect();
+    let words = filed(&image);
+    assert_eq!(words, database(6, 1, &slots, 16));
+    for (number, part) in parts.iter().enumerate() {
+        assert_eq!(pozhdaghi::lookup(&words, number as u32), *part);
+    }
+    let (found, returned, recorded) = stitched(&image);
+    assert_eq!(found, counted(1, [4, 2, 2]));
+    assert_eq!((returned, recorded), (vec![vec![0, 1]], vec![vec![0, 1]]));
+}
+
+#[test]
+fn graph_a_file_counted() {
+    let image = graph_a();
+    let mut words = filed(&image);
+    let replaced =
+        pozhdaghi::replace_file(&image, 0, &Request::default(), &mut slots(8), &mut words);
+    let statistics = PartialStatistics {
+        expanded: 8,
+        found: 5,
+        ..PartialStatistics::default()
+    };
+    assert_eq!(replaced, Ok(statistics));
+}
+
+#[test]
+fn graph_a_replayed() {
+    let image = graph_a();
+    assert_eq!(
+        pozhdaghi::replay(&image, 2, &[0, 2]),
+        Err(refusal(15, &[5]))
+    );
+    assert_eq!(
+        pozhdaghi::replay(&image, 2, &[1]),
+        Err(refusal(13, &[2, 3]))
+    );
+}
+
+/// Four paths are recorded, of which the last shadows all others.
+#[test]
+fn graph_b_returned_and_recorded() {
     let image = graph_b();
-    let (found, paths) = direct(&image, &Request::default());
-    assert_eq!((found.statistics.expanded, found.statistics.complete), (7, 4));
-    assert_eq!(paths, [[1, 3]]);
-    let (kept, none) = direct(&image, &limited(None, None, Some(3)));
-    assert!(kept.statistics.complete_limited && none.is_empty());
-    assert_eq!(
-        pozhdaghi::linear(&image, 2, &Request::default(), &mut slots(4)),
-        Err(Refusal {
-            number: 20,
-            values: [2, 0]
-        })
-    );
-    assert_eq!(
-        pozhdaghi::shadows(&image, (2, &[1, 3]), (2, &[0, 3])),
-        Ok(true)
-    );
+    let all = [[0, 2], [0, 3], [1, 2], [1, 3]];
+    let (found, returned) = direct(&image, &Request::default());
+    assert_eq!(found, counted(1, [7, 4, 0]));
+    assert_eq!(returned, [[1, 3]]);
+    assert_eq!(recorded(&image), all);
+    let (_, returned, recorded) = stitched(&image);
+    assert_eq!(returned, [[1, 3]]);
+    assert_eq!(recorded, all);
+}
+
+#[test]
+fn graph_b_limited_and_linear() {
+    let image = graph_b();
+    let (found, none) = direct(&image, &limited(None, None, Some(3)));
+    assert_eq!(found.statistics.complete, 4);
+    assert!(found.statistics.complete_limited && none.is_empty());
+    for call in [pozhdaghi::linear, pozhdaghi::linear_recorded] {
+        let mut result = slots(4);
+        assert_eq!(
+            call(&image, 2, &Request::default(), &mut result),
+            Err(refusal(20, &[2]))
+        );
+        assert!(is_zero(&result));
+    }
+}
+
+#[test]
+fn graph_b_shadows() {
+    let image = graph_b();
+    let shadows = |left: &[u32], right: &[u32]| pozhdaghi::shadows(&image, (2, left), (2, right));
+    assert_eq!(shadows(&[1, 3], &[0, 3]), Ok(true));
+    assert_eq!(shadows(&[0, 3], &[1, 3]), Ok(false));
+    // A smaller precedence does not end the walk.
+    assert_eq!(shadows(&[0, 3], &[1, 2]), Ok(true));
 }
 
 #[test]
 fn graph_c_recorded() {
     let image = graph_c();
-    let request = Request::default();
-    let words = filed(&image, &request);
-    let (mut work, mut result) = (slots(4), slots(4));
-    pozhdaghi::direct_recorded(&image, 2, &request, &mut work, &mut result).expect("not refused");
     let directly: [&[u32]; 2] = [&[0, 2], &[0, 1, 2]];
-    assert_eq!(pozhdaghi::paths(&result).collect::<Vec<_>>(), directly);
-    pozhdaghi::stitched_recorded(&image, &words, 2, &request, &mut work, &mut result)
-        .expect("not refused");
-    assert_eq!(pozhdaghi::paths(&result).collect::<Vec<_>>(), [&[0, 2]]);
-}
-
-#[test]
-fn refusals_leave_areas_zero() {
-    let image = graph_b();
-    let request = Request::default();
-    for (waiting, results, number) in [(0, 4, 31), (1, 4, 31), (4, 3, 32)] {
-        let (mut work, mut result) = (slots(waiting), slots(results));
-        let refusal = pozhdaghi::direct(&image, 2, &request, &mut work, &mut result);
-        assert_eq!(refusal.map_err(|refusal| refusal.number), Err(number));
-        assert!(is_zero(&work) && is_zero(&result));
-    }
-    let before = filed(&image, &request);
-    let mut words = before.clone();
-    let unknown = pozhdaghi::replace_file(&image, 1, &request, &mut slots(4), &mut words);
-    assert_eq!(unknown.map_err(|refusal| refusal.number), Err(21));
-    assert_eq!(words, before);
-    assert_eq!(
-        pozhdaghi::check(&image[..11]).map_err(|refusal| refusal.number),
-        Err(2)
-    );
+    assert_eq!(recorded(&image), directly);
+    assert_eq!(stitched(&image).2, [[0, 2]]);
 }

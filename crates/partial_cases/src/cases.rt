@@ -9,10 +9,7 @@ use case_list::answer;
 use case_list::lent;
 use case_list::list;
 use case_list::settings;
-use semantics::graph::FileId;
 use semantics::graph::PartialPathId;
-use semantics::search::Limit;
-use semantics::search::SearchOrder;
 
 pub const FRESH: u8 = b'F';
 
@@ -30,6 +27,11 @@ const FILL: usize = 24;
 
 const WORK: usize = 28;
 
+// Where the limits stand in what is asked.
+const LENGTH_ASKED: usize = 1;
+
+const PATHS_ASKED: usize = 3;
+
 // The number that comes first: of a file, or of a partial path.
 fn first(list: &[u8], at: usize) -> u32
     requires { ⌜ at < mostBytes ⌝ }
@@ -37,10 +39,10 @@ fn first(list: &[u8], at: usize) -> u32
     list::long(list, at + 1)
 }
 
-pub fn file(list: &[u8], at: usize) -> FileId
+pub fn file(list: &[u8], at: usize) -> u32
     requires { ⌜ at < mostBytes ⌝ }
 {
-    FileId(first(list, at))
+    first(list, at)
 }
 
 pub fn number(list: &[u8], at: usize) -> PartialPathId
@@ -49,22 +51,13 @@ pub fn number(list: &[u8], at: usize) -> PartialPathId
     PartialPathId(first(list, at))
 }
 
-pub fn order(list: &[u8], at: usize) -> SearchOrder
+// The order and the two limits, as the exported call is asked.
+pub fn put_asked(list: &[u8], at: usize, asked: &mut [u64])
     requires { ⌜ at < mostBytes ⌝ }
 {
-    settings::order(list, at + ORDER)
-}
-
-pub fn max_length(list: &[u8], at: usize) -> Limit
-    requires { ⌜ at < mostBytes ⌝ }
-{
-    settings::limit(list, at + MAX_LENGTH)
-}
-
-pub fn max_paths(list: &[u8], at: usize) -> Limit
-    requires { ⌜ at < mostBytes ⌝ }
-{
-    settings::limit(list, at + MAX_PATHS)
+    settings::put_order(list, at + ORDER, asked);
+    settings::put_limit(list, at + MAX_LENGTH, asked, LENGTH_ASKED);
+    settings::put_limit(list, at + MAX_PATHS, asked, PATHS_ASKED);
 }
 
 pub fn fill(list: &[u8], at: usize) -> u32

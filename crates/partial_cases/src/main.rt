@@ -19,8 +19,7 @@ use case_list::sums::sum;
 use database::fresh::fresh;
 use database::lookup::lookup;
 use libc::STDIN_FILENO;
-use partial::replace::replace_file;
-use semantics::answer::Replacement;
+use service::filing::pozhdaghi_replace_file;
 
 // The whole list is held here.
 const MOST_BYTES: usize = 600000;
@@ -33,6 +32,11 @@ const MOST_WORK: usize = 16896;
 
 // Room for an answer.
 const MOST_NUMBERS: usize = 8192;
+
+// The numbers that the exported call is asked, and those of its longest answer.
+const ASKED: usize = 7;
+
+const TOLD: usize = 9;
 
 // Writes what a fresh database is answered by and what it alters, and answers how many numbers that are.
 fn answer_fresh(
@@ -51,16 +55,23 @@ fn answer_fresh(
     areas::put_changes(out, told, before, words)
 }
 
-fn replace(list: &[u8], at: usize, image: Part, work: &mut [u32], words: &mut [u32]) -> Replacement
+// The exported call, on what it is asked as numbers; its answer is written into `told`.
+fn replace(
+    list: &[u8],
+    at: usize,
+    image: Part,
+    work: &mut [u32],
+    words: &mut [u32],
+    told: &mut [u64],
+)
     requires { ⌜ (at < mostBytes) × (image .from ≤ image .to) × (image .to ≤ length (now list)) ⌝ }
 {
     let from = image.from;
     let to = image.to;
     let file = cases::file(list, at);
-    let order = cases::order(list, at);
-    let length = cases::max_length(list, at);
-    let paths = cases::max_paths(list, at);
-    replace_file(&list[from..to], file, order, length, paths, work, words)
+    let mut asked = [0u64; ASKED];
+    cases::put_asked(list, at, &mut asked);
+    pozhdaghi_replace_file(&list[from..to], file, &asked, work, words, told);
 }
 
 // The same of a replaced file, and what it leaves in the work area.
@@ -76,9 +87,10 @@ fn answer_replace(
     requires { ⌜ (at < mostBytes) × (image .from ≤ image .to) × (image .to ≤ length (now list)) ⌝ }
 {
     areas::fill(work, cases::fill(list, at));
-    let replacement = replace(list, at, image, work, words);
-    let told = answer::put_replacement(out, replacement);
-    let behind = areas::put_changes(out, told, before, words);
+    let mut told = [0u64; TOLD];
+    replace(list, at, image, work, words, &mut told);
+    let changes = answer::put_replacement(out, &told);
+    let behind = areas::put_changes(out, changes, before, words);
     areas::put_area(out, behind, work)
 }
 

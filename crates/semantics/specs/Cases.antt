@@ -2,7 +2,7 @@
 -- what is asked, and the answer. Then C, which has no star. Document 01, "Small graphs".
 -- Below: the graphs, what is asked, and further tables by subject, each row of which shuts out a wrong reading.
 use Prim.Native.Nat.{ℕ}
-use mathlib.Core.Path.{_≡_, refl}
+use mathlib.Core.Path.{refl}
 use mathlib.Core.List.{List, [], _∷_}
 use Rattle.semantics.specs.declared.search.Limit.the-variants.{Absent, AtMost}
 use Rattle.semantics.specs.declared.search.SearchOrder.the-variants.{BreadthFirst, DepthFirst}

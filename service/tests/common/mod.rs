@@ -1,22 +1,41 @@
-//! Images of small graphs in document 01's bytes, and areas to search them in.
-//! Each file of tests uses some of it.
+//! Images and databases in document 01's bytes and words, its small graphs, and
+//! areas to search them in. Each file of tests uses some of it.
 #![allow(dead_code)]
+
+use pozhdaghi::{Refusal, Request, DATABASE_HEAD, RECORD_WORDS, SLOT_WORDS};
 
 /// One node's record without its count byte.
 pub type Record = Vec<u8>;
 
+/// An edge: source, target, precedence.
+pub type Edge = (u16, u16, i32);
+
+/// Nodes of file 0: references, which push, definitions, which pop, a scoped push
+/// that is no reference, scopes.
 pub fn reference(symbol: u32) -> Record {
-    with_symbol(4, symbol)
+    with_symbol(4, symbol, &[1])
 }
 
 pub fn definition(symbol: u32) -> Record {
-    with_symbol(5, symbol)
+    with_symbol(5, symbol, &[1])
 }
 
-fn with_symbol(kind: u8, symbol: u32) -> Record {
+pub fn scoped_reference(symbol: u32, scope: u8) -> Record {
+    with_symbol(6, symbol, &[0, scope, 1])
+}
+
+pub fn scoped_push(symbol: u32, scope: u8) -> Record {
+    with_symbol(6, symbol, &[0, scope, 0])
+}
+
+pub fn scoped_definition(symbol: u32) -> Record {
+    with_symbol(7, symbol, &[1])
+}
+
+fn with_symbol(kind: u8, symbol: u32, rest: &[u8]) -> Record {
     let mut record = vec![kind, 0, 0];
     record.extend(symbol.to_be_bytes());
-    record.push(1);
+    record.extend(rest);
     record
 }
 
@@ -25,11 +44,16 @@ pub fn scope(exported: bool) -> Record {
 }
 
 /// The image of one file with root, jump, these nodes from number 2 on, and
-/// these edges: source, target, precedence.
-pub fn image(nodes: &[Record], edges: &[(u16, u16, i32)]) -> Vec<u8> {
+/// these edges.
+pub fn image(nodes: &[Record], edges: &[Edge]) -> Vec<u8> {
+    image_of(1, nodes, edges)
+}
+
+/// The same with so many files, of which the nodes use file 0.
+pub fn image_of(files: u16, nodes: &[Record], edges: &[Edge]) -> Vec<u8> {
     let mut records = vec![vec![1], vec![2]];
     records.extend_from_slice(nodes);
-    let mut body = vec![0, 1];
+    let mut body = files.to_be_bytes().to_vec();
     body.extend((records.len() as u16).to_be_bytes());
     body.extend((edges.len() as u16).to_be_bytes());
     records.extend(edges.iter().map(|&(source, target, precedence)| {
@@ -49,11 +73,92 @@ pub fn image(nodes: &[Record], edges: &[(u16, u16, i32)]) -> Vec<u8> {
     bytes
 }
 
-/// An area of so many slots.
+pub fn graph_a() -> Vec<u8> {
+    let nodes = [reference(7), scope(true), definition(7), definition(8)];
+    image(&nodes, &[(2, 3, 0), (3, 4, 0), (3, 5, 1)])
+}
+
+pub fn graph_b() -> Vec<u8> {
+    let nodes = [reference(7), scope(true), definition(7)];
+    image(&nodes, &[(2, 3, 0), (2, 3, 1), (3, 4, 0), (3, 4, 1)])
+}
+
+pub fn graph_c() -> Vec<u8> {
+    image(
+        &[reference(7), definition(7)],
+        &[(2, 0, 0), (0, 0, 0), (0, 3, 0)],
+    )
+}
+
+/// A reference, and so many edges in a row from it over scopes, none of them
+/// exported.
+pub fn chain(edges: u16) -> Vec<u8> {
+    let mut nodes = vec![reference(7)];
+    nodes.resize(1 + edges as usize, scope(false));
+    let row: Vec<Edge> = (2..2 + edges).map(|node| (node, node + 1, 0)).collect();
+    image(&nodes, &row)
+}
+
+/// An area of so many slots and some words behind them, none of them 0.
 pub fn slots(count: usize) -> Vec<u32> {
-    vec![7; count * pozhdaghi::SLOT_WORDS]
+    vec![7; count * SLOT_WORDS + 5]
 }
 
 pub fn is_zero(words: &[u32]) -> bool {
     words.iter().all(|&word| word == 0)
+}
+
+/// A result area of so many words: for each path its edge count, its edges and
+/// zeros up to 128 words; zeros behind the last.
+pub fn area<P: AsRef<[u32]>>(paths: &[P], words: usize) -> Vec<u32> {
+    let mut area = Vec::new();
+    for (number, path) in paths.iter().enumerate() {
+        area.push(path.as_ref().len() as u32);
+        area.extend(path.as_ref());
+        area.resize(128 * (number + 1), 0);
+    }
+    area.resize(words, 0);
+    area
+}
+
+/// A partial path: file, start, end, edges; none is a dead slot.
+pub type Slot<'a> = Option<(u32, u32, u32, &'a [u32])>;
+
+/// The words of a database of this N and F with room for so many slots: slots
+/// used, N, F; each slot's file + 1, start, end, edge count, edges and zeros up
+/// to 131 words; zeros behind the last.
+pub fn database(nodes: u32, files: u32, slots: &[Slot], room: usize) -> Vec<u32> {
+    let mut words = vec![slots.len() as u32, nodes, files];
+    for (number, slot) in slots.iter().enumerate() {
+        if let &Some((file, start, end, edges)) = slot {
+            words.extend([file + 1, start, end, edges.len() as u32]);
+            words.extend(edges);
+        }
+        words.resize(3 + 131 * (number + 1), 0);
+    }
+    words.resize(3 + 131 * room, 0);
+    words
+}
+
+/// Words for so many slots, none of them 0.
+pub fn blank(room: usize) -> Vec<u32> {
+    vec![7; DATABASE_HEAD + room * RECORD_WORDS]
+}
+
+/// A database with room for 16 slots in which file 0 was replaced.
+pub fn filed(image: &[u8]) -> Vec<u32> {
+    let mut words = blank(16);
+    let request = Request::default();
+    pozhdaghi::fresh(image, &mut words).expect("not refused");
+    pozhdaghi::replace_file(image, 0, &request, &mut slots(16), &mut words).expect("not refused");
+    words
+}
+
+/// A refusal and the values that document 01 returns with it.
+pub fn refusal(number: u64, values: &[u64]) -> Refusal {
+    let at = |place| values.get(place).copied().unwrap_or(0);
+    Refusal {
+        number,
+        values: [at(0), at(1)],
+    }
 }

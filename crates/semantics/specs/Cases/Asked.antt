@@ -15,8 +15,8 @@ use Rattle.semantics.specs.Limits.{Bounds, base}
 use Rattle.semantics.specs.Told.{toldChecked, toldReplayed, toldJudgement, toldResolution, toldLinearResolution, toldCreation, toldReplacement}
 use Rattle.semantics.specs.Path.{Path}
 use Rattle.semantics.specs.Enumeration.{State}
-use Rattle.semantics.specs.Recorded.{recorded, returned}
 use Rattle.semantics.specs.PartialPaths.{Slot, dead, slot}
+use Rattle.semantics.specs.Recorded.{recorded, returned}
 use Rattle.semantics.specs.Image.{symbolBytes, checkImage}
 use Rattle.semantics.specs.Words.{zeros, listsIn, slotWords, recordWords}
 use Rattle.semantics.specs.Database.{slotsIn, filesOnly, lookupPart, wordsOf}

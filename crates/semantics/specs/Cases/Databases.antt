@@ -1,14 +1,15 @@
 -- A database as words: which words are 35 and 34, a fresh one, every word of a replacement, a lookup.
 -- Document 01, "Partial paths", second paragraph, and the rows 33, 34, 35 and 21 of "Turned back".
 use Prim.Native.Nat.{ℕ}
-use mathlib.Core.Path.{_≡_, refl}
-use mathlib.Core.List.{List, [], _∷_, _++_, map}
-use lib.ListN.{length, take, replicate}
+use mathlib.Core.Path.{refl}
+use mathlib.Core.List.{List, [], _∷_, _++_}
+use lib.ListN.{take, replicate}
 use Rattle.semantics.specs.declared.search.Limit.the-variants.{Absent}
 use Rattle.semantics.specs.declared.search.SearchOrder.the-variants.{BreadthFirst}
 use Rattle.semantics.specs.Limits.{Bounds, base}
 use Rattle.semantics.specs.Told.{toldReplacement}
-use Rattle.semantics.specs.PartialPaths.{Slot, dead, slot, clear}
+use Rattle.semantics.specs.Enumeration.{State, noStats, noTally}
+use Rattle.semantics.specs.PartialPaths.{Route, Slot, dead, slot, clear, replaced}
 use Rattle.semantics.specs.Words.{zeros}
 use Rattle.semantics.specs.Cases.Rows.{Row, _gives_, Agreed, refused}
 use Rattle.semantics.specs.Cases.Graphs.{imageA, imageOf, scope, reference, definition, _⟶_}
@@ -192,13 +193,17 @@ pub lookup-cases : Agreed lookups
 unfolding lookups
 lookup-cases = refl
 
--- the same on slots: those of a file become dead, others stay where they are
-pub clearings : List (Row (List Slot))
-unfolding clear
-clearings =
+-- THE SAME ON SLOTS, without words: those of a file become dead, others stay where they are, and the new ones come behind them in the order found
+abbrev found : State Route
+found = record { rest = record { start = 9; current = 9; edges = [] } ∷ []; pending = []; kept = record { start = 2; current = 3; edges = 0 ∷ [] } ∷ record { start = 2; current = 5; edges = 0 ∷ 1 ∷ [] } ∷ []; stats = noStats; tally = noTally }
+
+pub slotted : List (Row (List Slot))
+unfolding clear replaced
+slotted =
     (clear 0 (dead ∷ slot 0 2 3 (0 ∷ []) ∷ slot 1 4 5 (6 ∷ []) ∷ slot 0 2 3 (1 ∷ []) ∷ []) gives dead ∷ dead ∷ slot 1 4 5 (6 ∷ []) ∷ dead ∷ [])
+    ∷ (replaced 1 (slot 1 4 5 (6 ∷ []) ∷ slot 0 2 3 (0 ∷ []) ∷ []) found gives dead ∷ slot 0 2 3 (0 ∷ []) ∷ slot 1 2 3 (0 ∷ []) ∷ slot 1 2 5 (0 ∷ 1 ∷ []) ∷ [])
     ∷ []
 
-pub clearing-cases : Agreed clearings
-unfolding clearings
-clearing-cases = refl
+pub slot-cases : Agreed slotted
+unfolding slotted
+slot-cases = refl

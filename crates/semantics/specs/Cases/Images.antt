@@ -1,11 +1,11 @@
 -- Images: what bytes decode to, every bound of the header, the order of the checks, each record rule, and the same rules on graphs.
 -- Document 01, "Graph image", the rows 1 to 5 of "Turned back" and the paragraph below the table.
 use Prim.Native.Nat.{ℕ, _+_}
-use mathlib.Core.Path.{_≡_, refl}
+use mathlib.Core.Path.{refl}
 use mathlib.Core.Bool.{Bool, true, false}
 use mathlib.Core.List.{List, [], _∷_, _++_, map}
 use lib.IntN.{pos, negsuc}
-use lib.ListN.{length, set, take, replicate}
+use lib.ListN.{length, set, replicate}
 use Rattle.semantics.specs.declared.graph.Node.{Node}
 use Rattle.semantics.specs.declared.graph.Node.the-variants as N
 use Rattle.semantics.specs.declared.graph.Edge.{Edge}
@@ -17,7 +17,7 @@ use Rattle.semantics.specs.Image.{symbolBytes, checkImage}
 use Rattle.semantics.specs.Acceptance.{accepts}
 use Rattle.semantics.specs.Words.{zeros}
 use Rattle.semantics.specs.Cases.Rows.{Row, _gives_, Agreed}
-use Rattle.semantics.specs.Cases.Graphs.{imageA, graphA, imageD, live, imageOf, removedNode, scope, exported, reference, push, definition, pushScoped, dropScopes, removedEdge, edgeOf, _⟶_}
+use Rattle.semantics.specs.Cases.Graphs.{imageA, graphA, imageD, live, imageOf, removedNode, scope, exported, reference, definition, pushScoped, dropScopes, removedEdge, edgeOf, _⟶_}
 use Rattle.semantics.specs.Cases.Asked.{checking}
 
 -- WHAT BYTES DECODE TO
@@ -78,6 +78,27 @@ everyKindOf =
           ∷ [];
     }
 
+-- the kinds with a symbol, of two bytes
+abbrev shortSymbols : List ℕ
+shortSymbols =
+    1 ∷ 0 ∷ 0 ∷ 0 ∷ 45 ∷ 0 ∷ 1 ∷ 0 ∷ 7 ∷ 0 ∷ 0
+    ∷ 1 ∷ 1
+    ∷ 1 ∷ 2
+    ∷ 6 ∷ 4 ∷ 0 ∷ 0 ∷ 1 ∷ 2 ∷ 1
+    ∷ 4 ∷ 3 ∷ 0 ∷ 0 ∷ 1
+    ∷ 8 ∷ 6 ∷ 0 ∷ 0 ∷ 3 ∷ 4 ∷ 0 ∷ 3 ∷ 1
+    ∷ 6 ∷ 5 ∷ 0 ∷ 0 ∷ 5 ∷ 6 ∷ 1
+    ∷ 6 ∷ 7 ∷ 0 ∷ 0 ∷ 7 ∷ 8 ∷ 1
+    ∷ []
+
+abbrev shortSymbolsOf : Graph
+shortSymbolsOf =
+    record {
+      files = 1;
+      nodes = N.Root ∷ N.JumpToScope ∷ N.Push (fileId 0) 258 true ∷ N.Scope (fileId 0) true ∷ N.PushScoped (fileId 0) 772 (nodeId 3) true ∷ N.Pop (fileId 0) 1286 true ∷ N.PopScoped (fileId 0) 1800 true ∷ [];
+      edges = [];
+    }
+
 pub decoded : List (Row (Answer ImageRefusal Graph))
 unfolding checkImage
 decoded =
@@ -85,6 +106,8 @@ decoded =
     (checkImage symbolBytes imageA gives ok graphA)
     -- big-endian fields of 16 and 32 bits, flags, a pop-scoped definition, precedences 2^31 - 1, -2^31, -1 and -2^31 + 1 (negsuc n is -(n + 1))
     ∷ (checkImage symbolBytes everyKind gives ok everyKindOf)
+    -- the definitions are for every width of a symbol
+    ∷ (checkImage 2 shortSymbols gives ok shortSymbolsOf)
     ∷ []
 
 pub decoded-cases : Agreed decoded
@@ -146,6 +169,7 @@ checks =
     ∷ (checking (put 10 4 imageA) gives 2 ∷ [])
     ∷ (checking (put 15 0 (put 16 9 imageA)) gives 2 ∷ [])
     ∷ (checking (put 15 62 (put 16 9 imageA)) gives 2 ∷ [])
+    ∷ (checking (put 15 200 (put 16 9 imageA)) gives 2 ∷ [])
     ∷ (checking (put 15 61 (put 16 9 imageA)) gives 4 ∷ 15 ∷ [])
     ∷ (checking (put 67 0 (put 68 2 imageA)) gives 2 ∷ [])
     ∷ (checking (put 67 10 (put 68 2 imageA)) gives 2 ∷ [])
@@ -162,8 +186,10 @@ checks =
     -- KIND: 9 is none, 8 is one whose count is wrong here
     ∷ (checking (put 16 9 imageA) gives 4 ∷ 15 ∷ [])
     ∷ (checking (put 16 8 imageA) gives 2 ∷ [])
-    -- COUNT, before the fields: of a removed node, of a push with a bad flag
+    -- COUNT, before the fields: of a removed node, with the bytes for it, of a push with a bad flag
     ∷ (checking (put 16 0 imageA) gives 2 ∷ [])
+    ∷ (checking (imageOf 1 ((2 ∷ 0 ∷ 0 ∷ []) ∷ []) []) gives 2 ∷ [])
+    ∷ (checking (imageOf 1 ((3 ∷ 3 ∷ 0 ∷ 0 ∷ []) ∷ []) []) gives 2 ∷ [])
     ∷ (checking (put 15 7 (put 22 2 imageA)) gives 2 ∷ [])
     -- FIELDS: a file equal to F, by its low and by its high byte; a flag of 2 on each kind that has one; none on drop-scopes, whose last byte is of its file
     ∷ (checking (put 18 1 imageA) gives 4 ∷ 15 ∷ [])
@@ -175,9 +201,12 @@ checks =
     ∷ (checking (put 48 2 imageD) gives 4 ∷ 40 ∷ [])
     ∷ (checking (imageOf 6 (dropScopes 5 ∷ []) []) gives 0 ∷ 6 ∷ 3 ∷ 0 ∷ [])
     ∷ (checking (imageOf 5 (dropScopes 5 ∷ []) []) gives 4 ∷ 15 ∷ [])
-    -- AN EDGE RECORD: its kind before its count; a live one of 8 bytes, a removed one of 9
+    -- AN EDGE RECORD: its kind before its count, also where the count would go with the kind; a live one of 8, 5 and 10 bytes, a removed one of 9
     ∷ (checking (put 57 8 (put 58 2 imageA)) gives 4 ∷ 57 ∷ [])
+    ∷ (checking (imageOf 1 [] ((17 ∷ 2 ∷ zeros 16) ∷ [])) gives 4 ∷ 15 ∷ [])
     ∷ (checking (put 57 8 imageA) gives 2 ∷ [])
+    ∷ (checking (imageOf 1 [] ((5 ∷ 1 ∷ zeros 4) ∷ [])) gives 2 ∷ [])
+    ∷ (checking (imageOf 1 [] ((10 ∷ 1 ∷ zeros 9) ∷ [])) gives 2 ∷ [])
     ∷ (checking (put 58 0 imageA) gives 2 ∷ [])
     ∷ (checking (imageOf 1 [] (removedEdge ∷ 0 ⟶ 0 ∷ [])) gives 0 ∷ 1 ∷ 2 ∷ 2 ∷ [])
     -- THE FIRST RECORD that is wrong is answered, nodes before edges; every record before bytes left over; these before 5

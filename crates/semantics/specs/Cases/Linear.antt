@@ -1,8 +1,8 @@
 -- Linear search: which second edge is 20, the order of its checks, its limits, its bounds and every word that it leaves.
 -- Document 01, "Answer": "Linear stops at a second appendable edge of one node", "That test stands between append and completeness".
 use Prim.Native.Nat.{ℕ}
-use mathlib.Core.Path.{_≡_, refl}
-use mathlib.Core.List.{List, [], _∷_, _++_}
+use mathlib.Core.Path.{refl}
+use mathlib.Core.List.{List, [], _∷_}
 use lib.ListN.{take}
 use Rattle.semantics.specs.declared.search.Limit.the-variants.{Absent, AtMost}
 use Rattle.semantics.specs.Limits.{base}

@@ -1,13 +1,13 @@
 -- The partial paths of a file: where they start and end, which edges are the file's, the order of checks, statistics, limits and bounds.
 -- Document 01, "Partial paths", first paragraph.
 use Prim.Native.Nat.{ℕ}
-use mathlib.Core.Path.{_≡_, refl}
+use mathlib.Core.Path.{refl}
 use mathlib.Core.List.{List, [], _∷_}
 use Rattle.semantics.specs.declared.search.Limit.the-variants.{Absent, AtMost}
 use Rattle.semantics.specs.declared.search.SearchOrder.the-variants.{BreadthFirst, DepthFirst}
 use Rattle.semantics.specs.Limits.{base}
 use Rattle.semantics.specs.Cases.Rows.{Row, _gives_, Agreed, refused, expansions_partials_cuts_flagged_slots_, unflagged}
-use Rattle.semantics.specs.Cases.Graphs.{imageA, imageB, imageC, imageD, imageE, imageOf, removedNode, scope, exported, reference, push, pop, definition, pushScoped, scopedReference, popScoped, scopedDefinition, dropScopes, removedEdge, _⟶_}
+use Rattle.semantics.specs.Cases.Graphs.{imageA, imageB, imageC, imageD, imageE, imageOf, scope, exported, reference, push, pop, definition, pushScoped, scopedReference, popScoped, scopedDefinition, dropScopes, removedEdge, _⟶_}
 use Rattle.semantics.specs.Cases.Asked.{bounded, partialsIn}
 
 -- an edge from reference 2 to a node of each kind

@@ -1,7 +1,7 @@
 -- Paths: what replay answers and refuses, completeness, shadowing.
 -- Document 01, "Path", and the rows 10 to 19 and 30 of "Turned back".
 use Prim.Native.Nat.{ℕ}
-use mathlib.Core.Path.{_≡_, refl}
+use mathlib.Core.Path.{refl}
 use mathlib.Core.Bool.{Bool, true, false}
 use mathlib.Core.Option.{none, some}
 use mathlib.Core.List.{List, [], _∷_, _++_}
@@ -15,7 +15,7 @@ use Rattle.semantics.specs.Graph.{nodeId, fileId, Graph}
 use Rattle.semantics.specs.Path as Rules
 use Rattle.semantics.specs.Calls.{ReplayedPath, noPath, edge, jump, replayCall}
 use Rattle.semantics.specs.Cases.Rows.{Row, _gives_, Agreed}
-use Rattle.semantics.specs.Cases.Graphs.{imageA, imageB, imageD, imageE, imageF, live, imageOf, removedNode, scope, exported, reference, push, pop, definition, pushScoped, scopedReference, popScoped, dropScopes, edgeWith, edgeOf, _⟶_}
+use Rattle.semantics.specs.Cases.Graphs.{imageA, imageB, imageD, imageE, imageF, live, imageOf, removedNode, scope, exported, reference, push, pop, pushScoped, scopedReference, popScoped, dropScopes, edgeWith, edgeOf, _⟶_}
 use Rattle.semantics.specs.Cases.Asked.{replaying, replayed, completing, shadowing}
 
 -- WHAT A REPLAY ANSWERS: end, steps, both stacks with their tops first

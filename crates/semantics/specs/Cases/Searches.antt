@@ -1,16 +1,16 @@
 -- Direct search: its order of checks, its statistics and flags, both orders, limits, and every word of both areas.
 -- Document 01, "Budget and frontier" and "Answer".
 use Prim.Native.Nat.{ℕ}
-use mathlib.Core.Path.{_≡_, refl}
+use mathlib.Core.Path.{refl}
 use mathlib.Core.List.{List, [], _∷_, _++_}
 use lib.ListN.{take}
 use Rattle.semantics.specs.declared.search.Limit.{Limit}
 use Rattle.semantics.specs.declared.search.Limit.the-variants.{Absent, AtMost}
 use Rattle.semantics.specs.declared.search.SearchOrder.{SearchOrder}
 use Rattle.semantics.specs.declared.search.SearchOrder.the-variants.{BreadthFirst, DepthFirst}
-use Rattle.semantics.specs.Limits.{Bounds, base}
 use Rattle.semantics.specs.declared.refusal.ImageRefusal.{ImageRefusal}
 use Rattle.semantics.specs.declared.refusal.SearchRefusal.{SearchRefusal}
+use Rattle.semantics.specs.Limits.{Bounds, base}
 use Rattle.semantics.specs.Answer.{Answer, ok, refuse}
 use Rattle.semantics.specs.Graph.{Graph, viewOf}
 use Rattle.semantics.specs.Path.{Path}
@@ -93,6 +93,9 @@ searches =
     ∷ (searching BreadthFirst Absent (AtMost 5) Absent branching gives returned 2 expanded 5 complete 2 rejected 4 cycles 1 flags noFlag paths (0 ∷ 2 ∷ []) ∷ (0 ∷ 1 ∷ 2 ∷ []) ∷ [])
     -- all three, with counts of their own value: a flag once set stays, and nothing else is altered by it
     ∷ (searching DepthFirst (AtMost 2) Absent Absent afterLength gives returned 1 expanded 7 complete 1 rejected 1 cycles 1 flags lengthFlag paths (3 ∷ 4 ∷ []) ∷ [])
+    ∷ (searching DepthFirst (AtMost 2) (AtMost 6) Absent afterLength gives returned 1 expanded 6 complete 1 rejected 1 cycles 0 flags (1 ∷ 1 ∷ 0 ∷ []) paths (3 ∷ 4 ∷ []) ∷ [])
+    ∷ (searching DepthFirst (AtMost 2) Absent (AtMost 0) afterLength gives returned 0 expanded 7 complete 1 rejected 1 cycles 1 flags (1 ∷ 0 ∷ 1 ∷ []) paths [])
+    ∷ (searching DepthFirst (AtMost 2) (AtMost 3) (AtMost 0) afterComplete gives returned 0 expanded 3 complete 1 rejected 1 cycles 0 flags (0 ∷ 1 ∷ 1 ∷ []) paths [])
     ∷ (searching DepthFirst (AtMost 2) Absent (AtMost 0) afterComplete gives returned 0 expanded 4 complete 1 rejected 1 cycles 1 flags completeFlag paths [])
     ∷ (searching DepthFirst (AtMost 1) Absent (AtMost 0) afterComplete gives returned 0 expanded 3 complete 1 rejected 1 cycles 0 flags (1 ∷ 0 ∷ 1 ∷ []) paths [])
     ∷ (searching DepthFirst (AtMost 2) (AtMost 7) (AtMost 1) twoScopes gives returned 1 expanded 7 complete 3 rejected 4 cycles 2 flags (1 ∷ 1 ∷ 1 ∷ []) paths (0 ∷ 2 ∷ []) ∷ [])

@@ -1,22 +1,22 @@
 -- Stitched search: which slots are tried, what is a cycle cut, a length refusal, a rejection or the search's end, copies, limits, bounds, every word.
 -- Document 01, "Partial paths", third paragraph, and "Answer".
 use Prim.Native.Nat.{ℕ}
-use mathlib.Core.Path.{_≡_, refl}
+use mathlib.Core.Path.{refl}
 use mathlib.Core.Bool.{true, false}
-use mathlib.Core.List.{List, [], _∷_, _++_}
+use mathlib.Core.List.{List, [], _∷_}
 use lib.ListN.{take}
+use Rattle.semantics.specs.declared.graph.Node.the-variants as N
 use Rattle.semantics.specs.declared.search.Limit.{Limit}
 use Rattle.semantics.specs.declared.search.Limit.the-variants.{Absent, AtMost}
 use Rattle.semantics.specs.declared.search.SearchOrder.{SearchOrder}
 use Rattle.semantics.specs.declared.search.SearchOrder.the-variants.{BreadthFirst, DepthFirst}
-use Rattle.semantics.specs.declared.graph.Node.the-variants as N
 use Rattle.semantics.specs.Limits.{Bounds, base}
 use Rattle.semantics.specs.Answer.{ok}
 use Rattle.semantics.specs.Graph.{nodeId, fileId, Graph}
 use Rattle.semantics.specs.Recorded.{recorded}
+use Rattle.semantics.specs.Words.{zeros}
 use Rattle.semantics.specs.Database.{filesOnly}
 use Rattle.semantics.specs.Calls.{stitchedCall}
-use Rattle.semantics.specs.Words.{zeros}
 use Rattle.semantics.specs.Cases.Rows.{Row, _gives_, Agreed, refused, returned_expanded_complete_rejected_cycles_flags_paths_, noFlag, lengthFlag, countFlag, completeFlag}
 use Rattle.semantics.specs.Cases.Graphs.{imageA, imageB, imageD, imageE, imageF, live, imageOf, reference, removedEdge, goingOn}
 use Rattle.semantics.specs.Cases.Asked.{bounded, request, requestIn, stitchedReturned, stitchedRecorded, stitchedAreas, databaseOf, held, heldIn, oneFile, shown}

@@ -1,0 +1,56 @@
+//! What is read back from words: the paths of a result area, and a replayed path.
+//! Document 01, "Answer" and "Path".
+
+mod common;
+
+use common::{area, image, scope, scoped_definition, scoped_push, scoped_reference};
+use pozhdaghi::{Replayed, Step, Symbol};
+
+/// The slots up to the first without edges; words behind the last whole slot are
+/// none of its edges.
+#[test]
+fn paths() {
+    let longest: Vec<u32> = (1..128).collect();
+    let lists: [&[u32]; 4] = [&[5], &longest, &[], &[6]];
+    for words in [4 * 128, 2 * 128 + 5] {
+        let mut area = area(&lists, 4 * 128);
+        area.truncate(words);
+        let paths: Vec<&[u32]> = pozhdaghi::paths(&area).collect();
+        assert_eq!(paths, lists[..2]);
+    }
+    assert_eq!(pozhdaghi::paths(&area(&lists, 4 * 128)[..127]).count(), 0);
+}
+
+/// Nodes: 2 pushes 7 with scope 4, 3 takes it off, 5 pushes 7 with scope 6.
+/// Each time that 7 is taken off, its scopes become the scope stack, and the next
+/// one has a scope more. After 31 of these, 66 symbols with 32 scopes each are
+/// pushed; no other numbers of the two take more words with 127 edges.
+#[test]
+fn longest_path() {
+    let nodes = [
+        scoped_reference(7, 4),
+        scoped_definition(7),
+        scope(true),
+        scoped_push(7, 6),
+        scope(true),
+    ];
+    let image = image(&nodes, &[(2, 3, 0), (3, 5, 0), (5, 3, 0), (5, 5, 0)]);
+    let mut edges = vec![0];
+    edges.extend([1, 2].repeat(30));
+    edges.push(1);
+    edges.resize(127, 3);
+    // tops first: the scope of the reference is at the bottom
+    let mut scopes = vec![6; 32];
+    scopes[31] = 4;
+    let symbol = Symbol {
+        symbol: 7,
+        scopes: Some(scopes.clone()),
+    };
+    let path = Replayed {
+        end: 5,
+        steps: edges.iter().copied().map(Step::Edge).collect(),
+        symbols: vec![symbol; 66],
+        scopes: scopes[1..].to_vec(),
+    };
+    assert_eq!(pozhdaghi::replay(&image, 2, &edges), Ok(path));
+}
