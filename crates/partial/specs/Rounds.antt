@@ -3,10 +3,11 @@
 use Prim.Native.Nat.{ℕ, _-_, _*_, _<_, _≤_}
 use mathlib.Core.Path.{_≡_}
 use mathlib.Core.Logic.{_⊎_}
-use mathlib.Core.Bool.{Bool}
+use mathlib.Core.Bool.{Bool, false}
 use mathlib.Core.List.{List, _++_}
 use lib.Dec.{leb, ltb}
 use lib.ListN.{length, take, getD}
+use Rattle.semantics.specs.declared.search.PartialPathStats.{PartialPathStats}
 use Rattle.semantics.specs.declared.refusal.PartialPathRefusal.{PartialPathRefusal}
 use Rattle.semantics.specs.Lists.{and}
 use Rattle.semantics.specs.Answer.{Answer, ok, refuse}
@@ -73,6 +74,9 @@ pub record Driving (index : List ℕ) (f : Filing) (item : List ℕ) (x : Comput
 -- as many are found as there is room for, and there is room for some
 abbrev pub isFiled : Filing → ℕ → Bool
 isFiled f found = and (ltb 0 (f .room)) (leb (f .room) found)
+
+abbrev pub nothingCounted : PartialPathStats
+nothingCounted = record { expanded = 0; found = 0; cycles = 0; lengthLimited = false; countLimited = false }
 
 -- it has ended with this state, whose found routes are filed, or is refused alike. Without room for any, the counts are those of the state;
 -- with room it ends as soon as that is taken, whatever would come behind

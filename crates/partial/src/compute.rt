@@ -5,7 +5,7 @@ ghost use Prim.Native.Nat.{_+_, _≤_, _<_, _^_};
 ghost use lib.ListN.{length, take, getD};
 ghost use Rattle.graph_search.specs.Frontier.{Framed, Wider};
 ghost use Rattle.partial_state.specs.Extractions.{at, goingAt, takenAt, Taking};
-ghost use Rattle.partial.specs.Rounds.{isFiled, MadeRoom, Rounding, Rounded, Driving, DrivenTo};
+ghost use Rattle.partial.specs.Rounds.{nothingCounted, isFiled, MadeRoom, Rounding, Rounded, Driving, DrivenTo};
 ghost use Rattle.partial.specs.Requests.{Computing, ComputedTo};
 use graph_search::path_frontier::SHORT_SLOT;
 use graph_search::path_frontier::longer;
@@ -23,11 +23,23 @@ use semantics::refusal::PartialPathRefusal;
 use semantics::search::PartialPathStats;
 use words::slots;
 
-// The computation has ended, or it is refused. Where there is room for some paths it ends with the last of them filed, and the counts are
-// those up to there; without room it ends when no route waits, and the counts are those of the whole.
+// The computation has ended, or it is refused. Without room for any path it ends when no route waits, and the counts are those of the whole. Where
+// there is room for some it ends with the last of them filed, and nothing is counted: the counts would have to be at hand in every round.
 pub enum Computed {
     Done(PartialPathStats),
     Refused(PartialPathRefusal),
+}
+
+fn uncounted() -> PartialPathStats
+    ensures { λ r. ⌜ r ≡ nothingCounted ⌝ }
+{
+    PartialPathStats {
+        expanded: 0,
+        found: 0,
+        cycles: 0,
+        lengthLimited: false,
+        countLimited: false,
+    }
 }
 
 // Are as many paths found as there is room for? What is found behind them would only be counted.
@@ -129,7 +141,7 @@ fn drive(
     let mut slot = frame.slot;
     loop {
         if is_filed(filing, on.found) {
-            return Computed::Done(on.stats());
+            return Computed::Done(uncounted());
         }
         let within = frame.with_slot(slot);
         match take_front(on, work, item, within) {

@@ -16,7 +16,6 @@ use crate::numbers::Numbers;
 use database::fresh;
 use database::layout;
 use database::lookup;
-use image::header;
 use partial::replace;
 use semantics::answer::Replacement;
 use semantics::bounds;
@@ -40,9 +39,10 @@ fn tell_replacement(replaced: Replacement, answer: &mut [u64])
     numbers::write(numbers::of_replacement(replaced), answer);
 }
 
-// A replacement with a large index, which takes any image. It is called twice, and so compiled as a function of its own: a stack frame with a large
-// index has forty pages, and to touch them takes a third of the time of a call on a small image.
-fn replace_with_large_index(
+// A replacement with a large index, which takes any image. What is exported is compiled as a function of its own: a stack frame with a large index
+// has forty pages, and to touch them takes a third of the time of a call on a small image.
+#[no_mangle]
+pub extern "C" fn pozhdaghi_replace_file_large(
     image: &[u8],
     file: u32,
     asked: &[u64],
@@ -59,7 +59,7 @@ fn replace_with_large_index(
     tell_replacement(replaced, answer);
 }
 
-// A replacement, with the index that the image asks for. Bytes without a header ask for none, and are refused with either.
+// A replacement, with the index that the image asks for.
 #[no_mangle]
 pub extern "C" fn pozhdaghi_replace_file(
     image: &[u8],
@@ -73,17 +73,13 @@ pub extern "C" fn pozhdaghi_replace_file(
     ensures { λ _. ⌜ now (work .exit) ≡ replaceCall base filesOnly (checkImage symbolBytes (now (image .entry))) (fileAsked (now (asked .entry)) (now (work .entry)) file) (now (words .entry)) .work ⌝ }
     ensures { λ _. ⌜ now (words .exit) ≡ replaceCall base filesOnly (checkImage symbolBytes (now (image .entry))) (fileAsked (now (asked .entry)) (now (work .entry)) file) (now (words .entry)) .database ⌝ }
 {
-    if image.len() < header::FIRST_RECORD {
-        replace_with_large_index(image, file, asked, work, words, answer);
-        return;
-    }
     if check::is_small(image) {
         let config = asked::config(asked);
         let replaced = replace::replace_small(image, file, config, work, words);
         tell_replacement(replaced, answer);
         return;
     }
-    replace_with_large_index(image, file, asked, work, words, answer);
+    pozhdaghi_replace_file_large(image, file, asked, work, words, answer);
 }
 
 // Where the edges of a record stand in the words.

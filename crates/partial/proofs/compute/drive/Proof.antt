@@ -29,8 +29,8 @@ loop-holds c =
 is-filed-requires : tie.Need-is-filed-requires Inv-loop μ-loop
 is-filed-requires c κs = search needs
 
-stats-requires : tie.Need-stats-requires Inv-loop μ-loop
-stats-requires c κs = search needs
+uncounted-requires : tie.Need-uncounted-requires Inv-loop μ-loop
+uncounted-requires c κs = search needs
 
 same-length : tie.Need-same-length Inv-loop μ-loop
 same-length c = c .before .before .before .loop .inv .0
@@ -46,7 +46,7 @@ returns c =
     let a = c .before .before .before .before .before .before .before .before .args in
     let l = c .before .before .before .loop in
     let h = filed-tests (a .filing) (l .on .found) (sym (c .before .before .is-filed .ensures) ∙ c .before .if1 .taken) in
-    λ v. turn-filed (a .index .now) (a .filing) (a .item .now) (at (a .frame) (a .extraction)) (a .work .now) (a .words .now) v (at (slottedBy (l .slot) (a .frame)) (l .on)) (l .work) (l .words) (l .inv .3 v) (h .0) (h .1) (c .stats .result)
+    λ v. turn-filed (a .index .now) (a .filing) (a .item .now) (at (a .frame) (a .extraction)) (a .work .now) (a .words .now) v (at (slottedBy (l .slot) (a .frame)) (l .on)) (l .work) (l .words) (l .inv .3 v) (h .0) (h .1) (c .uncounted .result)
 
 -- src/compute.rt:134:13
 with-slot-requires : tie.Need-with-slot-requires Inv-loop μ-loop
@@ -66,8 +66,8 @@ enum-known-last : tie.Need-enum-known-last Inv-loop μ-loop
 enum-known-last c = search needs
 
 -- src/compute.rt:136:56
-stats-requires-2 : tie.Need-stats-requires-2 Inv-loop μ-loop
-stats-requires-2 c κs = search needs
+stats-requires : tie.Need-stats-requires Inv-loop μ-loop
+stats-requires c κs = search needs
 
 -- src/compute.rt:136:34
 same-length-4 : tie.Need-same-length-4 Inv-loop μ-loop
@@ -87,7 +87,7 @@ returns-2 c =
     let a = c .before .before .before .before .before .before .before .before .before .before .before .before .before .before .before .before .before .before .before .args in
     let p = c .before .before .before .before .before .before .before .before .before .before .before .before .before .before .before .before .before .before .before .pre in
     let l = c .before .before .before .before .before .before .before .before .before .before .before .before .before .before .loop in
-    λ v. turn-over (a .index .now) (a .filing) (a .item .now) (at (a .frame) (a .extraction)) (a .work .now) (a .words .now) v (at (c .before .before .before .before .before .before .before .before .before .before .before .with-slot .result) (l .on)) (l .work) (l .words) (subst (λ (f : Frame). Turning (a .index .now) (a .filing) (a .item .now) (at (a .frame) (a .extraction)) (a .work .now) (a .words .now) v (at f (l .on)) (l .work) (l .words)) (sym (c .before .before .before .before .before .before .before .before .before .before .before .with-slot .ensures)) (l .inv .3 v)) (takenAt (c .before .before .before .before .before .before .before .before .before .before .before .with-slot .result) (c .before .before .before .before .before .before .before .before .take-front .result)) (take (c .before .before .before .before .before .before .before .before .before .before .before .with-slot .result .slot) (c .before .before .before .before .before .before .before .before .take-front .last .1 .1 .0)) (c .before .before .before .before .before .before .before .before .take-front .last .1 .0) (c .before .before .before .before .before .before .before .before .take-front .ensures) (at (c .before .before .before .before .before .before .before .before .before .before .before .with-slot .result) (c .before .before .last .given .0 .0)) (ap (takenAt (c .before .before .before .before .before .before .before .before .before .before .before .with-slot .result)) (c .before .before .last .given .1)) (c .stats2 .result) (c .stats2 .ensures)
+    λ v. turn-over (a .index .now) (a .filing) (a .item .now) (at (a .frame) (a .extraction)) (a .work .now) (a .words .now) v (at (c .before .before .before .before .before .before .before .before .before .before .before .with-slot .result) (l .on)) (l .work) (l .words) (subst (λ (f : Frame). Turning (a .index .now) (a .filing) (a .item .now) (at (a .frame) (a .extraction)) (a .work .now) (a .words .now) v (at f (l .on)) (l .work) (l .words)) (sym (c .before .before .before .before .before .before .before .before .before .before .before .with-slot .ensures)) (l .inv .3 v)) (takenAt (c .before .before .before .before .before .before .before .before .before .before .before .with-slot .result) (c .before .before .before .before .before .before .before .before .take-front .result)) (take (c .before .before .before .before .before .before .before .before .before .before .before .with-slot .result .slot) (c .before .before .before .before .before .before .before .before .take-front .last .1 .1 .0)) (c .before .before .before .before .before .before .before .before .take-front .last .1 .0) (c .before .before .before .before .before .before .before .before .take-front .ensures) (at (c .before .before .before .before .before .before .before .before .before .before .before .with-slot .result) (c .before .before .last .given .0 .0)) (ap (takenAt (c .before .before .before .before .before .before .before .before .before .before .before .with-slot .result)) (c .before .before .last .given .1)) (c .stats .result) (c .stats .ensures)
 
 -- src/compute.rt:137:56
 enum-told : tie.Need-enum-told Inv-loop μ-loop
@@ -195,7 +195,7 @@ drive-spec =
     μ-loop
     loop-holds
     is-filed-requires
-    stats-requires
+    uncounted-requires
     same-length
     same-length-2
     same-length-3
@@ -203,7 +203,7 @@ drive-spec =
     with-slot-requires
     take-front-requires
     enum-known-last
-    stats-requires-2
+    stats-requires
     same-length-4
     same-length-5
     same-length-6

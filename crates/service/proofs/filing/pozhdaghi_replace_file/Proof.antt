@@ -16,8 +16,17 @@ use borrow.Author.Needs.{needs}
 use Rattle.service.proofs.filing.pozhdaghi_replace_file.Statement.{statement}
 use Rattle.service.proofs.filing.pozhdaghi_replace_file.Tie as tie
 
-replace-with-large-index-requires : tie.Need-replace-with-large-index-requires
-replace-with-large-index-requires c κs = search needs
+is-small-requires : tie.Need-is-small-requires
+is-small-requires c κs = search needs
+
+config-requires : tie.Need-config-requires
+config-requires c κs = search needs
+
+replace-small-requires : tie.Need-replace-small-requires
+replace-small-requires c κs = few-records _ (c .before .before .before .before .is-small .ensures) (c .before .before .before .if1 .taken)
+
+tell-replacement-requires : tie.Need-tell-replacement-requires
+tell-replacement-requires c κs = search needs
 
 same-length : tie.Need-same-length
 same-length c = search needs
@@ -29,19 +38,19 @@ same-length-3 : tie.Need-same-length-3
 same-length-3 c = search needs
 
 returns : tie.Need-returns
-returns c = search needs
+returns c =
+    let a = c .before .before .before .before .before .before .before .before .before .before .before .before .before .before .before .before .before .before .before .args in
+    let s = c .before .before .before .before .before .before .before .before .replace-small .ensures in
+    let e : askedBy (c .before .before .before .before .before .before .before .before .before .before .before .config .result) (a .work .now) (a .file) ≡ fileAsked (a .asked .now) (a .work .now) (a .file) = ap (λ (k : Config). askedBy k (a .work .now) (a .file)) (c .before .before .before .before .before .before .before .before .before .before .before .config .ensures) in (
+      c .before .before .tell-replacement .ensures ∙ ap (λ (x : Replacement). written (length (a .answer .now)) (toldReplacement x)) (s .0) ∙ ap (λ (q : FileRequest). written (length (a .answer .now)) (toldReplacement (replaceCall base filesOnly (checkImage symbolBytes (a .image .now)) q (a .words .now) .answer))) e,
+      (
+        s .1 ∙ ap (λ (q : FileRequest). replaceCall base filesOnly (checkImage symbolBytes (a .image .now)) q (a .words .now) .work) e,
+        s .2 ∙ ap (λ (q : FileRequest). replaceCall base filesOnly (checkImage symbolBytes (a .image .now)) q (a .words .now) .database) e,
+      ),
+    )
 
-is-small-requires : tie.Need-is-small-requires
-is-small-requires c κs = search needs
-
-config-requires : tie.Need-config-requires
-config-requires c κs = search needs
-
-replace-small-requires : tie.Need-replace-small-requires
-replace-small-requires c κs = few-records _ (c .before .before .before .before .is-small .ensures) (c .before .before .before .if2 .taken)
-
-tell-replacement-requires : tie.Need-tell-replacement-requires
-tell-replacement-requires c κs = search needs
+pozhdaghi-replace-file-large-requires : tie.Need-pozhdaghi-replace-file-large-requires
+pozhdaghi-replace-file-large-requires c κs = search needs
 
 same-length-4 : tie.Need-same-length-4
 same-length-4 c = search needs
@@ -53,51 +62,22 @@ same-length-6 : tie.Need-same-length-6
 same-length-6 c = search needs
 
 returns-2 : tie.Need-returns-2
-returns-2 c =
-    let a = c .before .before .before .before .before .before .before .before .before .before .before .before .before .before .before .before .before .before .before .before .args in
-    let s = c .before .before .before .before .before .before .before .before .replace-small .ensures in
-    let e : askedBy (c .before .before .before .before .before .before .before .before .before .before .before .config .result) (a .work .now) (a .file) ≡ fileAsked (a .asked .now) (a .work .now) (a .file) = ap (λ (k : Config). askedBy k (a .work .now) (a .file)) (c .before .before .before .before .before .before .before .before .before .before .before .config .ensures) in (
-      c .before .before .tell-replacement .ensures ∙ ap (λ (x : Replacement). written (length (a .answer .now)) (toldReplacement x)) (s .0) ∙ ap (λ (q : FileRequest). written (length (a .answer .now)) (toldReplacement (replaceCall base filesOnly (checkImage symbolBytes (a .image .now)) q (a .words .now) .answer))) e,
-      (
-        s .1 ∙ ap (λ (q : FileRequest). replaceCall base filesOnly (checkImage symbolBytes (a .image .now)) q (a .words .now) .work) e,
-        s .2 ∙ ap (λ (q : FileRequest). replaceCall base filesOnly (checkImage symbolBytes (a .image .now)) q (a .words .now) .database) e,
-      ),
-    )
-
-replace-with-large-index-requires-2 : tie.Need-replace-with-large-index-requires-2
-replace-with-large-index-requires-2 c κs = search needs
-
-same-length-7 : tie.Need-same-length-7
-same-length-7 c = search needs
-
-same-length-8 : tie.Need-same-length-8
-same-length-8 c = search needs
-
-same-length-9 : tie.Need-same-length-9
-same-length-9 c = search needs
-
-returns-3 : tie.Need-returns-3
-returns-3 c = search needs
+returns-2 c = search needs
 
 pub pozhdaghi-replace-file-spec : {M : Type 1} → statement M
 pozhdaghi-replace-file-spec =
     tie.close
     (tie.spec
-    replace-with-large-index-requires
-    same-length
-    same-length-2
-    same-length-3
-    returns
     is-small-requires
     config-requires
     replace-small-requires
     tell-replacement-requires
+    same-length
+    same-length-2
+    same-length-3
+    returns
+    pozhdaghi-replace-file-large-requires
     same-length-4
     same-length-5
     same-length-6
-    returns-2
-    replace-with-large-index-requires-2
-    same-length-7
-    same-length-8
-    same-length-9
-    returns-3)
+    returns-2)

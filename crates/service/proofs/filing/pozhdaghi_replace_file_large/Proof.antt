@@ -12,8 +12,8 @@ use Rattle.partial.specs.Requests.{askedBy}
 use Rattle.path_words.specs.Written.{written}
 use Rattle.service.specs.Asked.{fileAsked}
 use borrow.Author.Needs.{needs}
-use Rattle.service.proofs.filing.replace_with_large_index.Statement.{statement}
-use Rattle.service.proofs.filing.replace_with_large_index.Tie as tie
+use Rattle.service.proofs.filing.pozhdaghi_replace_file_large.Statement.{statement}
+use Rattle.service.proofs.filing.pozhdaghi_replace_file_large.Tie as tie
 
 config-requires : tie.Need-config-requires
 config-requires c κs = search needs
@@ -45,8 +45,8 @@ returns c =
       ),
     )
 
-pub replace-with-large-index-spec : {M : Type 1} → statement M
-replace-with-large-index-spec =
+pub pozhdaghi-replace-file-large-spec : {M : Type 1} → statement M
+pozhdaghi-replace-file-large-spec =
     tie.close
     (tie.spec
     config-requires
