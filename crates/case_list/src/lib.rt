@@ -2,6 +2,7 @@
 // the expected one.
 pub mod answer;
 pub mod areas;
+pub mod exported;
 pub mod lent;
 pub mod list;
 pub mod report;

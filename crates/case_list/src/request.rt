@@ -27,6 +27,13 @@ const RESULT: usize = 41;
 
 const ANSWER: usize = 45;
 
+// Where the limits stand in what an exported call is asked.
+const LENGTH_ASKED: usize = 1;
+
+const PATHS_ASKED: usize = 3;
+
+const COMPLETE_ASKED: usize = 5;
+
 pub fn reference(list: &[u8], at: usize) -> NodeId
     requires { ⌜ at < mostBytes ⌝ }
 {
@@ -50,6 +57,16 @@ pub fn limits(list: &[u8], at: usize) -> SearchLimits
         paths,
         complete,
     }
+}
+
+// The order and the three limits, as an exported call is asked.
+pub fn put_asked(list: &[u8], at: usize, asked: &mut [u64])
+    requires { ⌜ at < mostBytes ⌝ }
+{
+    settings::put_order(list, at + ORDER, asked);
+    settings::put_limit(list, at + MAX_LENGTH, asked, LENGTH_ASKED);
+    settings::put_limit(list, at + MAX_PATHS, asked, PATHS_ASKED);
+    settings::put_limit(list, at + MAX_COMPLETE, asked, COMPLETE_ASKED);
 }
 
 pub fn fill(list: &[u8], at: usize) -> u32

@@ -231,9 +231,8 @@ fn search_in(
     }
 }
 
-// A small image gets a small index: zeroing a large one would take longer than the search. Like the next, it is called twice, and so compiled as
-// a function of its own: a stack frame with a large index has forty pages, and to touch them takes a third of the time of a call on a small image.
-fn search_small(
+// A small image gets a small index: zeroing a large one would take longer than the search.
+pub fn search_small(
     image: &[u8],
     reference: u32,
     limits: SearchLimits,
@@ -248,7 +247,7 @@ fn search_small(
 }
 
 // Any other a large one.
-fn search_large(
+pub fn search_large(
     image: &[u8],
     reference: u32,
     limits: SearchLimits,
@@ -261,6 +260,21 @@ fn search_large(
     search_in(image, &mut index, reference, limits, reply, result)
 }
 
+fn search_image(
+    image: &[u8],
+    reference: u32,
+    limits: SearchLimits,
+    reply: Reply,
+    result: &mut [u32],
+) -> LinearResolution
+    ensures { λ r. ⌜ DoesLinear (linearCall base (replyOf reply) (checkImage symbolBytes (now (image .entry))) (linearRequestOf limits (now (result .entry)) reference)) r (now (result .exit)) ⌝ }
+{
+    if check::is_small(image) {
+        return search_small(image, reference, limits, reply, result);
+    }
+    search_large(image, reference, limits, reply, result)
+}
+
 // Linear search from a reference, on any bytes and numbers: the returned paths.
 pub fn search(
     image: &[u8],
@@ -271,10 +285,7 @@ pub fn search(
     ensures { λ r. ⌜ toldLinearResolution r ≡ toldLinearResolution (linearCall base returned (checkImage symbolBytes (now (image .entry))) (linearRequestOf limits (now (result .entry)) (reference .0)) .answer) ⌝ }
     ensures { λ _. ⌜ now (result .exit) ≡ linearCall base returned (checkImage symbolBytes (now (image .entry))) (linearRequestOf limits (now (result .entry)) (reference .0)) .result ⌝ }
 {
-    if check::is_small(image) {
-        return search_small(image, reference.0, limits, Reply::Returned, result);
-    }
-    search_large(image, reference.0, limits, Reply::Returned, result)
+    search_image(image, reference.0, limits, Reply::Returned, result)
 }
 
 // The same search with its recorded paths.
@@ -287,8 +298,5 @@ pub fn search_recorded(
     ensures { λ r. ⌜ toldLinearResolution r ≡ toldLinearResolution (linearCall base recorded (checkImage symbolBytes (now (image .entry))) (linearRequestOf limits (now (result .entry)) (reference .0)) .answer) ⌝ }
     ensures { λ _. ⌜ now (result .exit) ≡ linearCall base recorded (checkImage symbolBytes (now (image .entry))) (linearRequestOf limits (now (result .entry)) (reference .0)) .result ⌝ }
 {
-    if check::is_small(image) {
-        return search_small(image, reference.0, limits, Reply::Recorded, result);
-    }
-    search_large(image, reference.0, limits, Reply::Recorded, result)
+    search_image(image, reference.0, limits, Reply::Recorded, result)
 }

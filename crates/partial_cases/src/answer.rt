@@ -2,6 +2,9 @@
 use case_list::answer::put;
 use case_list::answer::put_told;
 use case_list::answer::put_wide;
+use case_list::exported::number;
+use case_list::exported::put_number;
+use case_list::exported::put_refusal;
 use semantics::answer::Creation;
 use told::refusal;
 
@@ -13,16 +16,6 @@ pub fn put_creation(out: &mut [u32], answer: Creation) -> usize {
     }
 }
 
-// The number at a place of what an exported call has written; 0 behind the last.
-fn number(told: &[u64], at: usize) -> u64 {
-    if at < told.len() { told[at] } else { 0 }
-}
-
-// A number that has 32 bits wherever the list may hold it.
-fn put_number(out: &mut [u32], at: usize, number: u64) -> usize {
-    put(out, at, (number % 4_294_967_296) as u32)
-}
-
 fn put_stats(out: &mut [u32], told: &[u64]) -> usize {
     let expanded = put(out, 0, 0);
     let found = put_wide(out, expanded, number(told, 1));
@@ -32,23 +25,10 @@ fn put_stats(out: &mut [u32], told: &[u64]) -> usize {
     put_number(out, count, number(told, 5))
 }
 
-// A record's place or a file comes with these.
-fn has_value(refusal: u64) -> bool {
-    match refusal {
-        4 | 5 | 21 => true,
-        _ => false,
-    }
-}
-
 // What the exported replacement has written: 0, three counts and two flags; or the refusal.
 pub fn put_replacement(out: &mut [u32], told: &[u64]) -> usize {
-    let refusal = number(told, 0);
-    if refusal == 0 {
-        return put_stats(out, told);
+    if number(told, 0) != 0 {
+        return put_refusal(out, told);
     }
-    let value = put_number(out, 0, refusal);
-    if has_value(refusal) {
-        return put_number(out, value, number(told, 1));
-    }
-    value
+    put_stats(out, told)
 }

@@ -10,6 +10,8 @@ mod cases;
 
 use case_list::answer as numbers;
 use case_list::areas;
+use case_list::exported::ASKED;
+use case_list::exported::TOLD;
 use case_list::lent;
 use case_list::list;
 use case_list::list::Part;
@@ -32,11 +34,6 @@ const MOST_WORK: usize = 16896;
 
 // Room for an answer.
 const MOST_NUMBERS: usize = 8192;
-
-// The numbers that the exported call is asked, and those of its longest answer.
-const ASKED: usize = 7;
-
-const TOLD: usize = 9;
 
 // Writes what a fresh database is answered by and what it alters, and answers how many numbers that are.
 fn answer_fresh(

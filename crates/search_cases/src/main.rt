@@ -5,21 +5,23 @@ ghost use Prim.Native.Nat.{_<_, _≤_};
 ghost use lib.ListN.{length};
 ghost use Rattle.case_list.specs.Bounds.{mostBytes};
 
-mod answer;
 mod cases;
 
 use case_list::answer as numbers;
 use case_list::areas;
+use case_list::exported;
+use case_list::exported::ASKED;
+use case_list::exported::TOLD;
 use case_list::list;
 use case_list::list::Part;
 use case_list::report;
 use case_list::request;
 use case_list::resolution;
 use libc::STDIN_FILENO;
-use linear_search::linear;
 use search::direct;
-use semantics::answer::LinearResolution;
 use semantics::answer::Resolution;
+use service::searching::pozhdaghi_linear;
+use service::searching::pozhdaghi_linear_recorded;
 
 // The whole list is held here.
 const MOST_BYTES: usize = 600000;
@@ -51,23 +53,27 @@ fn search_directly(
     direct::search_recorded(&list[from..to], reference, order, limits, work, result)
 }
 
+// The exported call, on what it is asked as numbers; its answer is written into `told`.
 fn search_linearly(
     list: &[u8],
     at: usize,
     image: Part,
     kind: u8,
     result: &mut [u32],
-) -> LinearResolution
+    told: &mut [u64],
+)
     requires { ⌜ (at < mostBytes) × (image .from ≤ image .to) × (image .to ≤ length (now list)) ⌝ }
 {
     let from = image.from;
     let to = image.to;
     let reference = request::reference(list, at);
-    let limits = request::limits(list, at);
+    let mut asked = [0u64; ASKED];
+    request::put_asked(list, at, &mut asked);
     if kind == cases::LINEAR {
-        return linear::search(&list[from..to], reference, limits, result);
+        pozhdaghi_linear(&list[from..to], reference.0, &asked, result, told);
+        return;
     }
-    linear::search_recorded(&list[from..to], reference, limits, result)
+    pozhdaghi_linear_recorded(&list[from..to], reference.0, &asked, result, told);
 }
 
 // Writes what a direct search answers and leaves in both areas, and answers how many numbers that are.
@@ -103,9 +109,10 @@ fn answer_linear(
     requires { ⌜ (at < mostBytes) × (image .from ≤ image .to) × (image .to ≤ length (now list)) ⌝ }
 {
     areas::fill(result, request::fill(list, at));
-    let resolution = search_linearly(list, at, image, kind, result);
-    let told = answer::put_linear_resolution(out, resolution);
-    areas::put_area(out, told, result)
+    let mut told = [0u64; TOLD];
+    search_linearly(list, at, image, kind, result, &mut told);
+    let behind = exported::put_search(out, &told);
+    areas::put_area(out, behind, result)
 }
 
 // The search at a place, with areas of just the words that it names.

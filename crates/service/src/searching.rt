@@ -1,20 +1,25 @@
 // Exported: the searches. Each answers 0, the number of paths in the result slots, four counts and three flags; or the refusal.
 ghost use mathlib.Core.Path.{_≡_};
+ghost use Prim.Native.Nat.{_≤_};
 ghost use lib.ListN.{length};
 ghost use Rattle.semantics.specs.Limits.{base};
-ghost use Rattle.semantics.specs.Image.{symbolBytes, checkImage};
+ghost use Rattle.semantics.specs.Image.{symbolBytes, nodesOf, edgesOf, checkImage};
 ghost use Rattle.semantics.specs.Recorded.{recorded, returned};
 ghost use Rattle.semantics.specs.Database.{filesOnly};
 ghost use Rattle.semantics.specs.Told.{toldResolution, toldLinearResolution};
 ghost use Rattle.semantics.specs.Calls.{directCall, linearCall, stitchedCall};
+ghost use Rattle.storage.specs.Rows.{FEW};
+ghost use Rattle.recorded.specs.Replies.{replyOf};
 ghost use Rattle.service.specs.Asked.{searchAsked, linearAsked};
 ghost use Rattle.path_words.specs.Written.{written};
 use crate::asked;
 use crate::numbers;
 use linear_search::linear;
+use recorded::reply::Reply;
 use search::direct;
 use semantics::graph::NodeId;
 use stitching::stitched;
+use storage::check;
 
 // Direct search: the returned paths.
 #[no_mangle]
@@ -56,6 +61,42 @@ pub extern "C" fn pozhdaghi_direct_recorded(
     numbers::write(numbers::of_resolution(found), answer);
 }
 
+// A linear search with a small index, for both replies. Like the next, it is called twice, and so compiled as a function of its own: a stack frame
+// with a large index has forty pages, and to touch them takes a third of the time of a call on a small image.
+fn linear_small(
+    image: &[u8],
+    reference: u32,
+    asked: &[u64],
+    reply: Reply,
+    result: &mut [u32],
+    answer: &mut [u64],
+)
+    requires { ⌜ (nodesOf (now image) ≤ FEW) × (edgesOf (now image) ≤ FEW) ⌝ }
+    ensures { λ _. ⌜ now (answer .exit) ≡ written (length (now (answer .entry))) (toldLinearResolution (linearCall base (replyOf reply) (checkImage symbolBytes (now (image .entry))) (linearAsked (now (asked .entry)) (now (result .entry)) reference) .answer)) ⌝ }
+    ensures { λ _. ⌜ now (result .exit) ≡ linearCall base (replyOf reply) (checkImage symbolBytes (now (image .entry))) (linearAsked (now (asked .entry)) (now (result .entry)) reference) .result ⌝ }
+{
+    let limits = asked::limits(asked);
+    let found = linear::search_small(image, reference, limits, reply, result);
+    numbers::write(numbers::of_linear(found), answer);
+}
+
+// And with a large one, which takes any image.
+fn linear_large(
+    image: &[u8],
+    reference: u32,
+    asked: &[u64],
+    reply: Reply,
+    result: &mut [u32],
+    answer: &mut [u64],
+)
+    ensures { λ _. ⌜ now (answer .exit) ≡ written (length (now (answer .entry))) (toldLinearResolution (linearCall base (replyOf reply) (checkImage symbolBytes (now (image .entry))) (linearAsked (now (asked .entry)) (now (result .entry)) reference) .answer)) ⌝ }
+    ensures { λ _. ⌜ now (result .exit) ≡ linearCall base (replyOf reply) (checkImage symbolBytes (now (image .entry))) (linearAsked (now (asked .entry)) (now (result .entry)) reference) .result ⌝ }
+{
+    let limits = asked::limits(asked);
+    let found = linear::search_large(image, reference, limits, reply, result);
+    numbers::write(numbers::of_linear(found), answer);
+}
+
 // Linear search: the returned paths. It has no order and takes no work area.
 #[no_mangle]
 pub extern "C" fn pozhdaghi_linear(
@@ -68,9 +109,11 @@ pub extern "C" fn pozhdaghi_linear(
     ensures { λ _. ⌜ now (answer .exit) ≡ written (length (now (answer .entry))) (toldLinearResolution (linearCall base returned (checkImage symbolBytes (now (image .entry))) (linearAsked (now (asked .entry)) (now (result .entry)) reference) .answer)) ⌝ }
     ensures { λ _. ⌜ now (result .exit) ≡ linearCall base returned (checkImage symbolBytes (now (image .entry))) (linearAsked (now (asked .entry)) (now (result .entry)) reference) .result ⌝ }
 {
-    let limits = asked::limits(asked);
-    let found = linear::search(image, NodeId(reference), limits, result);
-    numbers::write(numbers::of_linear(found), answer);
+    if check::is_small(image) {
+        linear_small(image, reference, asked, Reply::Returned, result, answer);
+        return;
+    }
+    linear_large(image, reference, asked, Reply::Returned, result, answer);
 }
 
 // Linear search: the recorded paths.
@@ -85,9 +128,11 @@ pub extern "C" fn pozhdaghi_linear_recorded(
     ensures { λ _. ⌜ now (answer .exit) ≡ written (length (now (answer .entry))) (toldLinearResolution (linearCall base recorded (checkImage symbolBytes (now (image .entry))) (linearAsked (now (asked .entry)) (now (result .entry)) reference) .answer)) ⌝ }
     ensures { λ _. ⌜ now (result .exit) ≡ linearCall base recorded (checkImage symbolBytes (now (image .entry))) (linearAsked (now (asked .entry)) (now (result .entry)) reference) .result ⌝ }
 {
-    let limits = asked::limits(asked);
-    let found = linear::search_recorded(image, NodeId(reference), limits, result);
-    numbers::write(numbers::of_linear(found), answer);
+    if check::is_small(image) {
+        linear_small(image, reference, asked, Reply::Recorded, result, answer);
+        return;
+    }
+    linear_large(image, reference, asked, Reply::Recorded, result, answer);
 }
 
 // Stitched search over the database in the words: the returned paths.

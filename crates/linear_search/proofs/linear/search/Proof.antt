@@ -1,41 +1,21 @@
--- `linear_search::linear::search`: the answer of the index that the image asks for, as it is told.
 use mathlib.Core.Path.{ap}
-use borrow.Author.Needs.{needs}
-use Rattle.semantics.specs.declared.answer.LinearResolution.{LinearResolution}
 use Rattle.semantics.specs.Told.{toldLinearResolution}
-use Rattle.storage.specs.Rows.Laws.{few-records}
+use Rattle.semantics.specs.declared.answer.LinearResolution.{LinearResolution}
+use borrow.Author.Needs.{needs}
 use Rattle.linear_search.proofs.linear.search.Statement.{statement}
 use Rattle.linear_search.proofs.linear.search.Tie as tie
 
-is-small-requires : tie.Need-is-small-requires
-is-small-requires c κs = search needs
+-- src/linear.rt:244:5
+search-image-requires : tie.Need-search-image-requires
+search-image-requires c κs = search needs
 
-search-small-requires : tie.Need-search-small-requires
-search-small-requires c κs = few-records _ (c .before .before .is-small .ensures) (c .before .if1 .taken)
-
+-- src/linear.rt:235:1
 same-length : tie.Need-same-length
 same-length c = search needs
 
+-- src/linear.rt:235:1
 returns : tie.Need-returns
-returns c = (ap (λ (x : LinearResolution). toldLinearResolution x) (c .before .before .search-small .ensures .0), c .before .before .search-small .ensures .1)
-
-search-large-requires : tie.Need-search-large-requires
-search-large-requires c κs = search needs
-
-same-length-2 : tie.Need-same-length-2
-same-length-2 c = search needs
-
-returns-2 : tie.Need-returns-2
-returns-2 c = (ap (λ (x : LinearResolution). toldLinearResolution x) (c .before .before .search-large .ensures .0), c .before .before .search-large .ensures .1)
+returns c = (ap (λ (x : LinearResolution). toldLinearResolution x) (c .before .before .search-image .ensures .0), c .before .before .search-image .ensures .1)
 
 pub search-spec : {M : Type 1} → statement M
-search-spec =
-    tie.close
-    (tie.spec
-    is-small-requires
-    search-small-requires
-    same-length
-    returns
-    search-large-requires
-    same-length-2
-    returns-2)
+search-spec = tie.close (tie.spec search-image-requires same-length returns)

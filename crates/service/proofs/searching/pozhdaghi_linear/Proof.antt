@@ -1,31 +1,14 @@
--- what is asked is what the numbers say; the answer is what the call tells
-use Prim.Native.Nat.{ℕ}
-use mathlib.Core.Path.{_≡_, ap, _∙_}
-use mathlib.Core.List.{List}
-use lib.ListN.{length}
+-- the answer of the index that the image asks for
+use Rattle.storage.specs.Rows.Laws.{few-records}
 use borrow.Author.Needs.{needs}
-use Rattle.semantics.specs.declared.search.SearchLimits.{SearchLimits}
-use Rattle.semantics.specs.Limits.{base}
-use Rattle.semantics.specs.Image.{symbolBytes, checkImage}
-use Rattle.semantics.specs.Recorded.{returned}
-use Rattle.semantics.specs.Told.{toldLinearResolution}
-use Rattle.semantics.specs.Calls.{LinearRequest, linearCall}
-use Rattle.path_words.specs.Written.{written}
-use Rattle.service.specs.Asked.{linearBy, linearAsked}
 use Rattle.service.proofs.searching.pozhdaghi_linear.Statement.{statement}
 use Rattle.service.proofs.searching.pozhdaghi_linear.Tie as tie
 
-limits-requires : tie.Need-limits-requires
-limits-requires c κs = search needs
+is-small-requires : tie.Need-is-small-requires
+is-small-requires c κs = search needs
 
-search-requires : tie.Need-search-requires
-search-requires c κs = search needs
-
-of-linear-requires : tie.Need-of-linear-requires
-of-linear-requires c κs = search needs
-
-write-requires : tie.Need-write-requires
-write-requires c κs = search needs
+linear-small-requires : tie.Need-linear-small-requires
+linear-small-requires c κs = few-records _ (c .before .before .before .is-small .ensures) (c .before .before .if1 .taken)
 
 same-length : tie.Need-same-length
 same-length c = search needs
@@ -34,22 +17,30 @@ same-length-2 : tie.Need-same-length-2
 same-length-2 c = search needs
 
 returns : tie.Need-returns
-returns c =
-    let a = c .before .before .before .before .before .before .before .before .before .before .before .before .before .before .args in
-    let s = c .before .before .before .before .before .before .before .search .ensures in
-    let e : linearBy (c .before .before .before .before .before .before .before .before .before .limits .result) (a .result .now) (a .reference) ≡ linearAsked (a .asked .now) (a .result .now) (a .reference) = ap (λ (l : SearchLimits). linearBy l (a .result .now) (a .reference)) (c .before .before .before .before .before .before .before .before .before .limits .ensures) in (
-      c .before .before .write .ensures ∙ ap (λ (l : List ℕ). written (length (a .answer .now)) l) (c .before .before .before .before .of-linear .ensures ∙ s .0 ∙ ap (λ (q : LinearRequest). toldLinearResolution (linearCall base returned (checkImage symbolBytes (a .image .now)) q .answer)) e),
-      s .1 ∙ ap (λ (q : LinearRequest). linearCall base returned (checkImage symbolBytes (a .image .now)) q .result) e,
-    )
+returns c = search needs
+
+linear-large-requires : tie.Need-linear-large-requires
+linear-large-requires c κs = search needs
+
+same-length-3 : tie.Need-same-length-3
+same-length-3 c = search needs
+
+same-length-4 : tie.Need-same-length-4
+same-length-4 c = search needs
+
+returns-2 : tie.Need-returns-2
+returns-2 c = search needs
 
 pub pozhdaghi-linear-spec : {M : Type 1} → statement M
 pozhdaghi-linear-spec =
     tie.close
     (tie.spec
-    limits-requires
-    search-requires
-    of-linear-requires
-    write-requires
+    is-small-requires
+    linear-small-requires
     same-length
     same-length-2
-    returns)
+    returns
+    linear-large-requires
+    same-length-3
+    same-length-4
+    returns-2)
