@@ -3,7 +3,7 @@
 # second implementation of document 01 on the same drawn input. Ends with 1 if
 # there is a difference; README.md says more.
 # Needs what build.sh needs, and Rattle's tool rt to prove and write the library.
-# With POZHDAGHI_LIB_DIR libservice.a is taken from that folder and nothing is
+# With POZHDAGHI_LIB_DIR libpozhdaghi.a is taken from that folder and nothing is
 # proved here. GIVEN is the folder that build.sh calls SOURCE, if not the default.
 set -euo pipefail
 
@@ -13,7 +13,7 @@ OUT=$ROOT/target/compare
 
 "$HERE/build.sh" "${GIVEN:-$ROOT/../shared/docs/src}" "$ROOT/target/oracle"
 if [ -z "${POZHDAGHI_LIB_DIR:-}" ]; then
-    (cd "$ROOT" && rt staticlib service)
+    (cd "$ROOT" && rt staticlib pozhdaghi)
     export POZHDAGHI_LIB_DIR=$ROOT/target/staticlib
 fi
 

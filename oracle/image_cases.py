@@ -1,10 +1,10 @@
 #!/usr/bin/env python3
-"""Write the list of images that the program storage_cases replays.
+"""Write the list of images that the program cases replays.
 
     python3 oracle/image_cases.py
 
-writes crates/storage_cases/stdin, the list, and stdout, what the program must
-print, and tells how many cases of each sort there are. The expected answers
+writes the first list of crates/cases/stdin, and into stdout what the program
+must print of it, and tells how many cases of each sort there are. The expected answers
 come from refusals.py, a second reading of document 01 that shares nothing with
 the library.
 
@@ -42,18 +42,14 @@ All draws are seeded.
 """
 
 import collections
-import pathlib
 import random
 
 from images import (DROP_SCOPES, GRAPH_A, GRAPH_B, GRAPH_C, POP, POP_SCOPED,
                     PUSH, PUSH_SCOPED, REMOVED, ROOT_AND_JUMP, SCOPE, Edge,
                     Graph, Node, image, random_graph)
 from refusals import FIRST_RECORD, LONGEST, checked
-from wrong_case import write_both
+from stored_lists import write_list
 
-FOLDER = pathlib.Path(__file__).resolve().parent.parent / "crates" / "storage_cases"
-# As many bytes as the program reads.
-MOST_BYTES = 600_000
 FILES_AT, NODES_AT, EDGES_AT = 5, 7, 9
 LEAST, GREATEST = -(2**31), 2**31 - 1
 
@@ -434,7 +430,7 @@ def add_random_faults(cases, rng, count):
 
 
 def main():
-    """Write both files."""
+    """Write the list."""
     cases = CaseList()
     add_small_graphs(cases)
     add_short_images(cases)
@@ -445,9 +441,7 @@ def main():
     add_random_changes(cases, random.Random(2), graphs=100, changes=20)
     add_random_faults(cases, random.Random(3), count=500)
     count = sum(cases.tags.values())
-    if len(cases.written) > MOST_BYTES:
-        raise SystemExit(f"{len(cases.written)} bytes are more than the program reads")
-    write_both(FOLDER, cases, NAMES, each_apart=False)
+    write_list("images", cases, NAMES)
     print(f"{count} cases in {len(cases.written)} bytes")
     print("by tag:", dict(sorted(cases.tags.items())))
     print("by number:", dict(sorted(cases.numbers.items())))

@@ -1,10 +1,10 @@
 #!/usr/bin/env python3
-"""Write the list of calls on a database that the program partial_cases replays.
+"""Write the list of calls on a database that the program cases replays.
 
     python3 oracle/partial_cases.py [--oracle PROGRAM]
 
-writes crates/partial_cases/stdin, the list, and stdout, what the program must
-print, and tells how many cases of each sort there are. The expected answers
+writes the fourth list of crates/cases/stdin, and into stdout what the program
+must print of it, and tells how many cases of each sort there are. The expected answers
 are those of partials.py, a second reading of document 01. Wherever the Rust
 has an answer it is asked through the oracle and must agree: the partial paths
 of the file without the bound of 127 edges and without areas, on each accepted
@@ -74,7 +74,6 @@ All draws are seeded.
 import argparse
 import collections
 import itertools
-import pathlib
 import random
 
 from image_cases import mixed_graph
@@ -90,11 +89,9 @@ from path_cases import LAST, damaged_images, error_told, listed, longs
 from refusals import Refused, checked
 from search_cases import (FILLS, SCOPED, SLOT, TWO_LOOPS, area_told, around,
                           limit_bytes, limit_word, wide)
-from wrong_case import write_both
+from stored_lists import MOST_NUMBERS, write_list
 
-FOLDER = pathlib.Path(__file__).resolve().parent.parent / "crates" / "partial_cases"
-# As many bytes as the program reads, words as it lends, numbers as an answer may have.
-MOST_BYTES, MOST_NUMBERS = 600_000, 8_192
+# As many words as the program lends.
 MOST_WORDS, MOST_WORK = 536_841, 16_896
 NAMES = {"F": "fresh", "R": "replaced", "U": "lookups"}
 # The list is of little use if one of these numbers is not expected of a kind.
@@ -718,15 +715,13 @@ def any_area(rng):
     return SLOT * slots_lent + rng.choice((0, 0, 0, 1, SLOT - 1))
 
 
-def write_files(cases):
-    """Both files; the list must hold every refusal of each kind."""
-    if len(cases.written) > MOST_BYTES:
-        raise SystemExit(f"{len(cases.written)} bytes are more than the program reads")
+def write(cases):
+    """The list, which must hold every refusal of each kind."""
     for kind, wanted in WANTED.items():
         if set(cases.numbers[kind]) != wanted:
             raise SystemExit(f"{kind}: not just the wanted numbers: "
                              f"{wanted ^ set(cases.numbers[kind])}")
-    write_both(FOLDER, cases, NAMES, each_apart=False)
+    write_list("partials", cases, NAMES)
 
 
 def add_all(cases):
@@ -748,7 +743,7 @@ def add_all(cases):
 
 
 def main():
-    """Write both files and tell what they hold."""
+    """Write the list and tell what it holds."""
     parser = argparse.ArgumentParser(description=__doc__.splitlines()[0])
     parser.add_argument("--oracle", default=PROGRAM, help="the compiled oracle")
     arguments = parser.parse_args()
@@ -763,7 +758,7 @@ def main():
     print("compared with the Rust:", dict(cases.compared))
     print("longest answer:", cases.longest)
     print("bytes:", len(cases.written))
-    write_files(cases)
+    write(cases)
 
 
 if __name__ == "__main__":

@@ -1,10 +1,10 @@
 #!/usr/bin/env python3
-"""Write the list of paths that the program path_cases replays.
+"""Write the list of paths that the program cases replays.
 
     python3 oracle/path_cases.py [--oracle PROGRAM]
 
-writes crates/path_cases/stdin, the list, and stdout, what the program must
-print, and tells how many cases of each sort there are. The expected answers
+writes the second list of crates/cases/stdin, and into stdout what the program
+must print of it, and tells how many cases of each sort there are. The expected answers
 are the oracle's, that is the given Rust's, but for two things that the Rust
 does not know: the refusals 1 to 5 of an image come from refusals.py, and the
 bound of 127 edges is laid over the Rust here: an edge list that is longer is
@@ -61,7 +61,6 @@ All draws are seeded.
 import argparse
 import collections
 import itertools
-import pathlib
 import random
 
 from images import (DROP_SCOPES, GRAPH_A, GRAPH_B, GRAPH_C, POP, POP_SCOPED,
@@ -69,11 +68,8 @@ from images import (DROP_SCOPES, GRAPH_A, GRAPH_B, GRAPH_C, POP, POP_SCOPED,
                     Edge, Graph, Node, Oracle, fields, image, random_graph)
 from image_cases import mixed_graph
 from refusals import checked
-from wrong_case import write_both
+from stored_lists import MOST_NUMBERS, write_list
 
-FOLDER = pathlib.Path(__file__).resolve().parent.parent / "crates" / "path_cases"
-# As many bytes as the program reads, and as many numbers as an answer may have.
-MOST_BYTES, MOST_NUMBERS = 600_000, 4_096
 # The bound on the edges of a path, and the refusal beyond it.
 BOUND, TOO_LONG = 127, 30
 # The longest edge list that the program lends.
@@ -531,14 +527,12 @@ def add_random_graphs(cases, rng, graphs):
             graphs -= 1
 
 
-def write_files(cases):
-    """Both files; the list must hold every refusal of each kind."""
-    if len(cases.written) > MOST_BYTES:
-        raise SystemExit(f"{len(cases.written)} bytes are more than the program reads")
+def write(cases):
+    """The list, which must hold every refusal of each kind."""
     for kind, numbers in cases.numbers.items():
         if set(numbers) != WANTED:
             raise SystemExit(f"{kind}: not just the wanted numbers: {WANTED ^ set(numbers)}")
-    write_both(FOLDER, cases, NAMES, each_apart=True)
+    write_list("paths", cases, NAMES)
 
 
 def add_all(cases):
@@ -557,7 +551,7 @@ def add_all(cases):
 
 
 def main():
-    """Write both files and tell what they hold."""
+    """Write the list and tell what it holds."""
     parser = argparse.ArgumentParser(description=__doc__.splitlines()[0])
     parser.add_argument("--oracle", default=PROGRAM, help="the compiled oracle")
     arguments = parser.parse_args()
@@ -568,7 +562,7 @@ def main():
         print(f"{NAMES[kind]} by number:", dict(sorted(numbers.items())))
     print("judgements:", dict(sorted(cases.judged.items())))
     print("longest answer:", cases.longest)
-    write_files(cases)
+    write(cases)
 
 
 if __name__ == "__main__":

@@ -1,10 +1,10 @@
 #!/usr/bin/env python3
-"""Write the list of searches that the program search_cases replays.
+"""Write the list of searches that the program cases replays.
 
     python3 oracle/search_cases.py [--oracle PROGRAM]
 
-writes crates/search_cases/stdin, the list, and stdout, what the program must
-print, and tells how many cases of each sort there are. The expected answers
+writes the third list of crates/cases/stdin, and into stdout what the program
+must print of it, and tells how many cases of each sort there are. The expected answers
 are those of searches.py, a second reading of document 01. On each accepted
 image every request is also put to the oracle, that is to the given Rust, which
 must answer as searches.py does without the bound of 127 edges and without
@@ -68,7 +68,6 @@ All draws are seeded.
 import argparse
 import collections
 import itertools
-import pathlib
 import random
 
 from image_cases import mixed_graph
@@ -80,11 +79,10 @@ from path_cases import (BESIDE_JUMPS, CHAINS, GREATEST, LAST, LEAST,
                         longs)
 from refusals import Refused, checked
 from searches import MOST_EDGES, Request, searched
-from wrong_case import write_both
+from stored_lists import MOST_NUMBERS, write_list
 
-FOLDER = pathlib.Path(__file__).resolve().parent.parent / "crates" / "search_cases"
-# As many bytes as the program reads, words as it lends, numbers as an answer may have.
-MOST_BYTES, MOST_WORDS, MOST_NUMBERS = 600_000, 16_896, 4_096
+# As many words as the program lends for an area.
+MOST_WORDS = 16_896
 # A slot: the count and the edges.
 SLOT = MOST_EDGES + 1
 NAMES = {"D": "direct", "d": "direct recorded", "L": "linear", "l": "linear recorded"}
@@ -488,14 +486,12 @@ def add_passed_twice(cases):
         cases.search("L", 2, result=0)
 
 
-def write_files(cases):
-    """Both files; the list must hold every refusal of each kind."""
-    if len(cases.written) > MOST_BYTES:
-        raise SystemExit(f"{len(cases.written)} bytes are more than the program reads")
+def write(cases):
+    """The list, which must hold every refusal of each kind."""
     for kind, numbers in cases.numbers.items():
         if set(numbers) != WANTED[kind]:
             raise SystemExit(f"{kind}: not just the wanted numbers: {WANTED[kind] ^ set(numbers)}")
-    write_both(FOLDER, cases, NAMES, each_apart=True)
+    write_list("searches", cases, NAMES)
 
 
 def add_all(cases):
@@ -515,7 +511,7 @@ def add_all(cases):
 
 
 def main():
-    """Write both files and tell what they hold."""
+    """Write the list and tell what it holds."""
     parser = argparse.ArgumentParser(description=__doc__.splitlines()[0])
     parser.add_argument("--oracle", default=PROGRAM, help="the compiled oracle")
     arguments = parser.parse_args()
@@ -528,7 +524,7 @@ def main():
     print("paths handed back, 10 for more:", dict(sorted(cases.paths.items())))
     print("compared with the Rust:", cases.compared)
     print("longest answer:", cases.longest)
-    write_files(cases)
+    write(cases)
 
 
 if __name__ == "__main__":

@@ -1,10 +1,10 @@
 #!/usr/bin/env python3
-"""Write the list of stitched searches that the program stitching_cases replays.
+"""Write the list of stitched searches that the program cases replays.
 
     python3 oracle/stitching_cases.py [--oracle PROGRAM]
 
-writes crates/stitching_cases/stdin, the list, and stdout, what the program
-must print, and tells how many cases of each sort there are. The expected
+writes the last list of crates/cases/stdin, and into stdout what the program
+must print of it, and tells how many cases of each sort there are. The expected
 answers are those of stitched.py and partials.py, a second reading of document
 01. Wherever image and database are accepted the request is also put to the
 oracle, that is to the given Rust with the same slots, which must answer as
@@ -61,7 +61,6 @@ All draws are seeded.
 import argparse
 import collections
 import itertools
-import pathlib
 import random
 
 from image_cases import mixed_graph
@@ -82,11 +81,9 @@ from search_cases import (FAN, FILLS, SCOPED, SLOT, TWICE_COMPLETE, TWO_LOOPS,
                           limit_bytes, limit_word, rust_told, wide)
 from searches import MOST_EDGES, Request, direct
 from stitched import stitched
-from wrong_case import write_both
+from stored_lists import MOST_NUMBERS, write_list
 
-FOLDER = pathlib.Path(__file__).resolve().parent.parent / "crates" / "stitching_cases"
-# As many bytes as the program reads, words as it lends, numbers as an answer may have.
-MOST_BYTES, MOST_NUMBERS = 600_000, 8_192
+# As many words as the program lends.
 MOST_WORDS, MOST_AREA = 536_841, 16_896
 NAMES = {"S": "stitched", "s": "stitched recorded"}
 # The list is of little use if one of these numbers is not expected of a kind.
@@ -550,14 +547,12 @@ def add_both_refused(cases):
         cases.either(LAST, work=0, result=0)
 
 
-def write_files(cases):
-    """Both files; the list must hold every refusal of each kind."""
-    if len(cases.written) > MOST_BYTES:
-        raise SystemExit(f"{len(cases.written)} bytes are more than the program reads")
+def write(cases):
+    """The list, which must hold every refusal of each kind."""
     for kind, numbers in cases.numbers.items():
         if set(numbers) != WANTED:
             raise SystemExit(f"{kind}: not just the wanted numbers: {WANTED ^ set(numbers)}")
-    write_both(FOLDER, cases, NAMES, each_apart=False)
+    write_list("stitched", cases, NAMES)
 
 
 def add_all(cases):
@@ -579,7 +574,7 @@ def add_all(cases):
 
 
 def main():
-    """Write both files and tell what they hold."""
+    """Write the list and tell what it holds."""
     parser = argparse.ArgumentParser(description=__doc__.splitlines()[0])
     parser.add_argument("--oracle", default=PROGRAM, help="the compiled oracle")
     arguments = parser.parse_args()
@@ -594,7 +589,7 @@ def main():
     print("compared with the Rust:", cases.compared)
     print("longest answer:", cases.longest)
     print("bytes:", len(cases.written))
-    write_files(cases)
+    write(cases)
 
 
 if __name__ == "__main__":

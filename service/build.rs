@@ -1,4 +1,4 @@
-//! Proves the crate `service`, which writes `target/staticlib/libservice.a`, and
+//! Proves the crate `pozhdaghi`, which writes `target/staticlib/libpozhdaghi.a`, and
 //! links a copy of it. With `POZHDAGHI_LIB_DIR` the archive of that folder is
 //! linked, and nothing is proved here.
 
@@ -14,7 +14,7 @@ fn main() {
         None => prove(),
     };
     println!("cargo:rustc-link-search=native={}", folder.display());
-    println!("cargo:rustc-link-lib=static=service");
+    println!("cargo:rustc-link-lib=static=pozhdaghi");
 }
 
 /// The archive that is given is watched. One that is proved here is not: it is
@@ -22,7 +22,7 @@ fn main() {
 fn given(folder: PathBuf) -> PathBuf {
     println!(
         "cargo:rerun-if-changed={}",
-        folder.join("libservice.a").display()
+        folder.join("libpozhdaghi.a").display()
     );
     folder
 }
@@ -37,16 +37,16 @@ fn prove() -> PathBuf {
         println!("cargo:rerun-if-changed={}", repository.join(read).display());
     }
     let proved = Command::new("rt")
-        .args(["staticlib", "service"])
+        .args(["staticlib", "pozhdaghi"])
         .current_dir(&repository)
         .status();
     if !matches!(&proved, Ok(status) if status.success()) {
-        eprintln!("`rt staticlib service` failed: {proved:?}");
+        eprintln!("`rt staticlib pozhdaghi` failed: {proved:?}");
         exit(1);
     }
     let own = PathBuf::from(env::var_os("OUT_DIR").unwrap_or_default());
-    let written = repository.join("target/staticlib/libservice.a");
-    if let Err(error) = fs::copy(&written, own.join("libservice.a")) {
+    let written = repository.join("target/staticlib/libpozhdaghi.a");
+    if let Err(error) = fs::copy(&written, own.join("libpozhdaghi.a")) {
         eprintln!("{}: {error}", written.display());
         exit(1);
     }

@@ -4,7 +4,7 @@
 //! Nothing here panics or keeps state, and nothing allocates but `replay`, for
 //! the path that it hands back. The caller lends the image, the areas and the
 //! database words; every call leaves them as its contract says
-//! (`crates/service/src`). A refusal has the number and the values of document
+//! (`crates/pozhdaghi/src`). A refusal has the number and the values of document
 //! 01, "Turned back". The library's own work takes about 200 KB of the caller's
 //! stack.
 //!

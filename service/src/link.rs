@@ -1,4 +1,4 @@
-//! The functions of `libservice.a`. A Rattle slice is passed as a pointer and
+//! The functions of `libpozhdaghi.a`. A Rattle slice is passed as a pointer and
 //! a length, as `extern "C"` passes two arguments.
 
 use crate::answer::ANSWER;

@@ -4,7 +4,7 @@
 // premise on databases that of `demand::filing::file_all` and `refile_all`.
 ghost use mathlib.Core.Path.{_≡_};
 ghost use lib.ListN.{length};
-ghost use Rattle.storage.specs.Rows.{INDEX};
+ghost use Rattle.storage.specs.Index.{INDEX};
 ghost use Rattle.printing.specs.Areas.{areaWords};
 
 mod report;
@@ -21,8 +21,8 @@ use semantics::search::Limit;
 use semantics::search::SearchLimits;
 use semantics::search::SearchOrder;
 use stepping::node::is_reference;
+use storage::blocks;
 use storage::check;
-use storage::rows;
 use storage::store;
 use told::refusal;
 
@@ -35,7 +35,7 @@ const DATABASE_WORDS: usize = 67_075;
 fn unlimited(order: SearchOrder) -> Asked {
     let limits = SearchLimits {
         length: Limit::Absent,
-        paths: Limit::Absent,
+        expansions: Limit::Absent,
         complete: Limit::Absent,
     };
     Asked { order, limits }
@@ -111,7 +111,7 @@ fn compare_image(
 )
     requires { ⌜ (length (now found) ≡ areaWords) × (length (now joined) ≡ areaWords) ⌝ }
 {
-    let mut index = [0u32; rows::INDEX];
+    let mut index = [0u32; blocks::INDEX];
     let mut words = [0u32; DATABASE_WORDS];
     match check::load(image, &mut index) {
         Checked::Refused(r) => report::tell_refused(b"refused ", refusal::image(r).number),

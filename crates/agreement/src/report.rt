@@ -8,17 +8,17 @@ use printing::paths;
 use semantics::answer::Resolution;
 use told::refusal;
 
-pub fn tell_refused(name: &[u8], number: u32) {
+pub(crate) fn tell_refused(name: &[u8], number: u32) {
     line::print_word(name, number);
     line::end_line();
 }
 
-pub fn tell_not_filed() {
+pub(crate) fn tell_not_filed() {
     line::print(b"not filed");
     line::end_line();
 }
 
-pub fn tell(reference: u32, name: &[u8], answer: Resolution, result: &[u32])
+pub(crate) fn tell(reference: u32, name: &[u8], answer: Resolution, result: &[u32])
     requires { ⌜ length (now result) ≡ areaWords ⌝ }
 {
     line::print_word(b"ref ", reference);

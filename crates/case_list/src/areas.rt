@@ -15,15 +15,15 @@ pub fn fill(area: &mut [u32], word: u32) {
     }
 }
 
-// The words that the list gives at a place: a count in 2 bytes and as many numbers of 4 bytes, by twos a place of the area and its word.
-pub fn write(list: &[u8], at: usize, area: &mut [u32])
+// The words that a case gives at a place: a count in 2 bytes and as many numbers of 4 bytes, by twos a place of the area and its word.
+pub fn write(case: &[u8], at: usize, area: &mut [u32])
     requires { ⌜ at + 1000000 < mostPlace ⌝ }
 {
-    let count = list::short(list, at) as usize;
+    let count = list::short(case, at) as usize;
     let mut i: usize = 0;
     while i < count {
-        let place = list::long(list, at + 2 + 4 * i) as usize;
-        put(area, place, list::long(list, at + 6 + 4 * i));
+        let place = list::long(case, at + 2 + 4 * i) as usize;
+        put(area, place, list::long(case, at + 6 + 4 * i));
         i += 2;
     }
 }

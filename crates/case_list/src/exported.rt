@@ -1,24 +1,28 @@
-// What an exported call is asked, and what it has written into its answer as the list has it.
+// What an exported call has told, as the list has it.
+ghost use Prim.Native.Nat.{_≤_};
 use crate::answer::put;
 use crate::answer::put_wide;
 
-// The numbers that a call is asked, and those of its longest answer.
-pub const ASKED: usize = 7;
-
+// The numbers of the longest answer.
 pub const TOLD: usize = 9;
 
 // The number at a place; 0 behind the last.
-pub fn number(told: &[u64], at: usize) -> u64 {
+fn number(told: &[u64], at: usize) -> u64 {
     if at < told.len() { told[at] } else { 0 }
 }
 
-// A number that has 32 bits wherever the list may hold it.
-pub fn put_number(out: &mut [u32], at: usize, number: u64) -> usize {
-    put(out, at, (number % 4_294_967_296) as u32)
+// A number of 32 bits. A longer one is put as two words: the answer then differs from the expected one by its count.
+fn put_number(out: &mut [u32], at: usize, number: u64) -> usize {
+    if number < 4_294_967_296 {
+        return put(out, at, number as u32);
+    }
+    put_wide(out, at, number)
 }
 
 // How many values are told with a refusal: a record's place, a node, an edge or a file; two nodes with 13.
-fn values(refusal: u64) -> u64 {
+fn values(refusal: u64) -> usize
+    ensures { λ r. ⌜ r ≤ 2 ⌝ }
+{
     match refusal {
         4 | 5 | 10 | 11 | 12 | 14 | 15 | 16 | 17 | 18 | 19 | 20 | 21 => 1,
         13 => 2,
@@ -26,42 +30,41 @@ fn values(refusal: u64) -> u64 {
     }
 }
 
-// A refusal and its values.
-pub fn put_refusal(out: &mut [u32], told: &[u64]) -> usize {
+// Behind the numbers of an answer there are zeros. Any other number is put too, by which the answer differs likewise.
+fn put_behind(out: &mut [u32], at: usize, number: u64) -> usize {
+    if number == 0 {
+        return at;
+    }
+    put_number(out, at, number)
+}
+
+fn put_one(out: &mut [u32], at: usize, number: u64, wide: bool, told: bool) -> usize {
+    if wide {
+        return put_wide(out, at, number);
+    }
+    if told {
+        return put_number(out, at, number);
+    }
+    put_behind(out, at, number)
+}
+
+// The numbers behind the first, of which as many as are said to be wide have 64 bits. With the first, the answer has as many as are counted.
+fn put_numbers(out: &mut [u32], at: usize, told: &[u64], wide: usize, count: usize) -> usize {
+    let mut next = at;
+    let mut i: usize = 1;
+    while i < told.len() {
+        next = put_one(out, next, number(told, i), i <= wide, i < count);
+        i += 1;
+    }
+    next
+}
+
+// 0 and the numbers behind it; or the refusal and its values. It answers how many words that are.
+pub fn put_answer(out: &mut [u32], told: &[u64], wide: usize, count: usize) -> usize {
     let refusal = number(told, 0);
     let first = put_number(out, 0, refusal);
-    if values(refusal) < 1 {
-        return first;
+    if refusal == 0 {
+        return put_numbers(out, first, told, wide, count);
     }
-    let second = put_number(out, first, number(told, 1));
-    if values(refusal) < 2 {
-        return second;
-    }
-    put_number(out, second, number(told, 2))
-}
-
-// Four counts from a place of what was told.
-fn put_counts(out: &mut [u32], at: usize, told: &[u64]) -> usize {
-    let complete = put_wide(out, at, number(told, 2));
-    let rejected = put_wide(out, complete, number(told, 3));
-    let cycles = put_wide(out, rejected, number(told, 4));
-    put_wide(out, cycles, number(told, 5))
-}
-
-// And three flags.
-fn put_flags(out: &mut [u32], at: usize, told: &[u64]) -> usize {
-    let count = put_number(out, at, number(told, 6));
-    let kept = put_number(out, count, number(told, 7));
-    put_number(out, kept, number(told, 8))
-}
-
-// What an exported search has written: 0, the number of paths, four counts and three flags; or the refusal.
-pub fn put_search(out: &mut [u32], told: &[u64]) -> usize {
-    if number(told, 0) != 0 {
-        return put_refusal(out, told);
-    }
-    let paths = put(out, 0, 0);
-    let counts = put_wide(out, paths, number(told, 1));
-    let flags = put_counts(out, counts, told);
-    put_flags(out, flags, told)
+    put_numbers(out, first, told, 0, 1 + values(refusal))
 }

@@ -1,25 +1,51 @@
 // What is printed: how many cases of a kind there are and how many answers differ, and of the first that differs what was expected and what was given.
 ghost use Prim.Native.Nat.{_+_, _<_};
 ghost use Rattle.case_list.specs.Bounds.{mostPlace};
+use crate::answer::Expected;
 use crate::answer::word;
+use crate::kinds;
 use crate::list;
 use libc::STDOUT_FILENO;
 
-fn print_named(name: &[u8], number: u64) {
-    io::write_all(STDOUT_FILENO, name);
+fn print(text: &[u8]) {
+    io::write_all(STDOUT_FILENO, text);
+}
+
+fn print_number(name: &[u8], number: u64) {
+    print(name);
     io::print_decimal(STDOUT_FILENO, number);
 }
 
-fn print_one(number: u32) {
-    print_named(b" ", number as u64);
+fn print_kind(kind: usize) {
+    match kind {
+        kinds::IMAGES => print(b"images"),
+        kinds::REPLAYS => print(b"replays"),
+        kinds::COMPLETE => print(b"complete"),
+        kinds::SHADOWS => print(b"shadows"),
+        kinds::DIRECT => print(b"direct"),
+        kinds::DIRECT_RECORDED => print(b"direct recorded"),
+        kinds::LINEAR => print(b"linear"),
+        kinds::LINEAR_RECORDED => print(b"linear recorded"),
+        kinds::FRESH => print(b"fresh"),
+        kinds::REPLACED => print(b"replaced"),
+        kinds::LOOKUPS => print(b"lookups"),
+        kinds::STITCHED => print(b"stitched"),
+        _ => print(b"stitched recorded"),
+    }
 }
 
-fn print_expected(list: &[u8], from: usize, count: usize)
-    requires { ⌜ (from + 500000 < mostPlace) × (count < 65536) ⌝ }
+fn print_one(number: u32) {
+    print_number(b" ", number as u64);
+}
+
+fn print_expected(case: &[u8], expected: Expected)
+    requires { ⌜ (expected .from + 500000 < mostPlace) × (expected .count < 65536) ⌝ }
 {
+    let from = expected.from;
+    let count = expected.count;
     let mut i: usize = 0;
     while i < count {
-        print_one(list::long(list, from + 4 * i));
+        print_one(list::long(case, from + 4 * i));
         i += 1;
     }
 }
@@ -32,38 +58,29 @@ fn print_given(given: &[u32], count: usize) {
     }
 }
 
-// The case of a kind whose expected numbers stand from a place on.
-pub fn tell_numbers(
-    kind: &[u8],
-    case: u64,
-    list: &[u8],
-    from: usize,
-    expected: usize,
+// The case of a kind, numbered from 0, whose answer differs.
+pub fn tell_difference(
+    kind: usize,
+    number: u64,
+    case: &[u8],
+    expected: Expected,
     given: &[u32],
     count: usize,
 )
-    requires { ⌜ (from + 500000 < mostPlace) × (expected < 65536) ⌝ }
+    requires { ⌜ (expected .from + 500000 < mostPlace) × (expected .count < 65536) ⌝ }
 {
-    io::write_all(STDOUT_FILENO, kind);
-    print_named(b" case ", case);
-    io::write_all(STDOUT_FILENO, b" expected");
-    print_expected(list, from, expected);
-    io::write_all(STDOUT_FILENO, b" given");
+    print_kind(kind);
+    print_number(b" case ", number);
+    print(b" expected");
+    print_expected(case, expected);
+    print(b" given");
     print_given(given, count);
-    io::write_all(STDOUT_FILENO, b"\n");
+    print(b"\n");
 }
 
-// The case of a kind whose expected answer stands at a place.
-pub fn tell_difference(kind: &[u8], case: u64, list: &[u8], at: usize, given: &[u32], count: usize)
-    requires { ⌜ at + 1000000 < mostPlace ⌝ }
-{
-    let expected = list::short(list, at) as usize;
-    tell_numbers(kind, case, list, at + 2, expected, given, count);
-}
-
-pub fn tell_sums(kind: &[u8], cases: u64, differences: u64) {
-    io::write_all(STDOUT_FILENO, kind);
-    print_named(b" ", cases);
-    print_named(b" different ", differences);
-    io::write_all(STDOUT_FILENO, b"\n");
+pub fn tell_sums(kind: usize, cases: u64, differences: u64) {
+    print_kind(kind);
+    print_number(b" ", cases);
+    print_number(b" different ", differences);
+    print(b"\n");
 }

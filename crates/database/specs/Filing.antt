@@ -1,12 +1,12 @@
 -- A file is replaced step by step: its records are cleared one after another, the new ones written behind, the words in front stored last.
 -- Document 01, "Partial paths": "Replacing a file zeroes its slots, appends the new ones in order found and stores the graph's N and F".
 use Prim.Native.Nat.{ℕ, suc, _*_}
-use mathlib.Core.List.{List, [], _∷_, _++_, map}
+use mathlib.Core.List.{List, [], _∷_, _++_, map, flatten}
 use lib.ListN.{length, take, drop}
-use Rattle.semantics.specs.Limits.{Bounds}
+use Rattle.semantics.specs.Limits.{Bounds, recordWords}
 use Rattle.semantics.specs.PartialPaths.{Route, slotOf}
-use Rattle.semantics.specs.Words.{slotsOf, recordWords}
-use Rattle.semantics.specs.Database.{encodeSlot, records, clearRecord, flatten}
+use Rattle.semantics.specs.Words.{slotsOf}
+use Rattle.semantics.specs.Database.{encodeSlot, records, clearRecord}
 use Rattle.database.specs.Records.{putRecord}
 pub mod Laws
 

@@ -15,15 +15,15 @@ use Rattle.semantics.specs.Graph.{Graph}
 use Rattle.semantics.specs.Told.{toldCreation}
 use Rattle.semantics.specs.Words.{zeros}
 use Rattle.semantics.specs.Database.{freshWords}
-use Rattle.semantics.specs.Calls.{created, freshCall}
+use Rattle.semantics.specs.Calls.{creationOutcome, freshCall}
 use Rattle.database.specs.Filing.{headed}
 
 -- what is made for a graph: the answer and every word
 abbrev pub Created : Graph → List ℕ → Creation → List ℕ → Type 0
-Created g ws r left = (r ≡ created (leb 3 (length ws)) g ws .answer) × (left ≡ created (leb 3 (length ws)) g ws .database)
+Created g ws r left = (r ≡ creationOutcome (leb 3 (length ws)) g ws .answer) × (left ≡ creationOutcome (leb 3 (length ws)) g ws .database)
 
 pub created-short : (g : Graph) (ws : List ℕ) → length ws < 3 → Created g ws Creation.Malformed ws
-unfolding created
+unfolding creationOutcome
 created-short g ws h = rw (lt-leb 3 (length ws) h) (refl, refl)
 
 drop-zeros : (k m : ℕ) → drop k (zeros m) ≡ zeros (m - k)
@@ -33,7 +33,7 @@ drop-zeros (suc k) (suc m) = let q : suc m - suc k ≡ m - k = omega arith in rw
 
 -- zeros, then the words in front
 pub created-done : (nodes files : ℕ) (g : Graph) (ws left : List ℕ) → nodes ≡ length (g .nodes) → files ≡ g .files → 3 ≤ length ws → left ≡ headed 0 nodes files (zeros (length ws)) → Created g ws Creation.Done left
-unfolding created
+unfolding creationOutcome
 created-done nodes files g ws left n f h e =
     let w : left ≡ freshWords g (length ws) =
     e

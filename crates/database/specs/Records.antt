@@ -3,10 +3,13 @@
 use Prim.Native.Nat.{ℕ, _+_, _≤_}
 use mathlib.Core.List.{List, _++_}
 use lib.ListN.{length, getD, take, drop}
-use Rattle.semantics.specs.Limits.{Bounds}
-use Rattle.semantics.specs.Words.{recordWords}
+use Rattle.semantics.specs.Limits.{Bounds, recordWords, maxExpansions}
 use Rattle.semantics.specs.Database.{usedIn, recordPlace}
 pub mod Laws
+
+-- the bounds with so many edges
+abbrev pub bounded : ℕ → Bounds
+bounded edges = record { edges = edges; expansions = maxExpansions }
 
 -- record i lies in the words
 abbrev pub InWords : Bounds → ℕ → List ℕ → Type 0

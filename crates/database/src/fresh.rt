@@ -2,9 +2,8 @@
 // Document 01, "Partial paths": "A fresh database holds 0, N, F and zeros"; "Turned back": "A fresh database gives 35 only for under 3 words".
 ghost use mathlib.Core.Path.{_≡_};
 ghost use lib.ListN.{length};
+ghost use Rattle.semantics.specs.Entries.{freshDatabase};
 ghost use Rattle.semantics.specs.Graph.{Graph};
-ghost use Rattle.semantics.specs.Image.{symbolBytes, checkImage};
-ghost use Rattle.semantics.specs.Calls.{freshCall};
 ghost use Rattle.semantics.specs.Told.{toldCreation};
 ghost use Rattle.database.specs.Fresh.{Created};
 use crate::layout;
@@ -28,8 +27,8 @@ fn create(words: &mut [u32], nodes: u32, files: u32) -> Creation
 
 // The image is checked first; a refused call alters no word.
 pub fn fresh(image: &[u8], words: &mut [u32]) -> Creation
-    ensures { λ r. ⌜ toldCreation r ≡ toldCreation (freshCall (checkImage symbolBytes (now (image .entry))) (now (words .entry)) .answer) ⌝ }
-    ensures { λ _. ⌜ now (words .exit) ≡ freshCall (checkImage symbolBytes (now (image .entry))) (now (words .entry)) .database ⌝ }
+    ensures { λ r. ⌜ toldCreation r ≡ toldCreation (freshDatabase (now (image .entry)) (now (words .entry)) .answer) ⌝ }
+    ensures { λ _. ⌜ now (words .exit) ≡ freshDatabase (now (image .entry)) (now (words .entry)) .database ⌝ }
 {
     match check::check(image) {
         Checked::Accepted {

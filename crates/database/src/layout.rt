@@ -5,7 +5,7 @@ ghost use Prim.Native.Nat.{_≤_, _<_, _^_};
 ghost use lib.ListN.{length, getD};
 ghost use Rattle.semantics.specs.Limits.{base};
 ghost use Rattle.semantics.specs.Database.{capacity};
-ghost use Rattle.database.specs.Records.{InWords, ownerWord, startWord, countWord, edgeWords};
+ghost use Rattle.database.specs.Records.{bounded, InWords, ownerWord, startWord, countWord, edgeWords};
 use semantics::bounds;
 
 // The words in front: slots used, N and F.
@@ -41,50 +41,87 @@ pub fn number(words: &[u32], at: usize) -> usize
     wide(words[at])
 }
 
-// The lesser of 4,096 and the whole slots lent.
-pub fn capacity(words: &[u32]) -> usize
-    ensures { λ r. ⌜ r ≡ capacity base (now (words .entry)) ⌝ }
+// The lesser of 4,096 and the whole slots lent, for slots of so many edges.
+pub(crate) fn capacity_for(words: &[u32], most: usize) -> usize
+    requires { ⌜ most < 2 ^ 32 ⌝ }
+    ensures { λ r. ⌜ r ≡ capacity (bounded most) (now (words .entry)) ⌝ }
 {
     if words.len() < FIRST_RECORD {
         return 0;
     }
-    let whole = (words.len() - FIRST_RECORD) / bounds::RECORD_WORDS;
+    let whole = (words.len() - FIRST_RECORD) / (most + EDGES);
     if whole < bounds::MAX_RECORDS {
         return whole;
     }
     bounds::MAX_RECORDS
 }
 
+// The same for the present bound.
+pub(crate) fn capacity(words: &[u32]) -> usize
+    ensures { λ r. ⌜ r ≡ capacity base (now (words .entry)) ⌝ }
+{
+    capacity_for(words, bounds::MAX_EDGES)
+}
+
 // Record i's file + 1, or 0 if it is dead.
+pub(crate) fn owner_for(words: &[u32], most: usize, i: usize) -> u32
+    requires { ⌜ InWords (bounded most) i (now words) ⌝ }
+    ensures { λ r. ⌜ r ≡ ownerWord (bounded most) i (now (words .entry)) ⌝ }
+{
+    words[FIRST_RECORD + (most + EDGES) * i]
+}
+
 pub fn owner(words: &[u32], i: usize) -> u32
     requires { ⌜ InWords base i (now words) ⌝ }
     ensures { λ r. ⌜ r ≡ ownerWord base i (now (words .entry)) ⌝ }
 {
-    words[FIRST_RECORD + bounds::RECORD_WORDS * i]
+    owner_for(words, bounds::MAX_EDGES, i)
 }
 
 // The node that record i starts at.
+pub(crate) fn start_for(words: &[u32], most: usize, i: usize) -> u32
+    requires { ⌜ InWords (bounded most) i (now words) ⌝ }
+    ensures { λ r. ⌜ r ≡ startWord (bounded most) i (now (words .entry)) ⌝ }
+{
+    words[FIRST_RECORD + (most + EDGES) * i + START]
+}
+
 pub fn start(words: &[u32], i: usize) -> u32
     requires { ⌜ InWords base i (now words) ⌝ }
     ensures { λ r. ⌜ r ≡ startWord base i (now (words .entry)) ⌝ }
 {
-    words[FIRST_RECORD + bounds::RECORD_WORDS * i + START]
+    start_for(words, bounds::MAX_EDGES, i)
 }
 
 // How many edges record i says it has.
-pub fn count(words: &[u32], i: usize) -> u32
+pub(crate) fn count_for(words: &[u32], most: usize, i: usize) -> u32
+    requires { ⌜ InWords (bounded most) i (now words) ⌝ }
+    ensures { λ r. ⌜ r ≡ countWord (bounded most) i (now (words .entry)) ⌝ }
+{
+    words[FIRST_RECORD + (most + EDGES) * i + COUNT]
+}
+
+pub(crate) fn count(words: &[u32], i: usize) -> u32
     requires { ⌜ InWords base i (now words) ⌝ }
     ensures { λ r. ⌜ r ≡ countWord base i (now (words .entry)) ⌝ }
 {
-    words[FIRST_RECORD + bounds::RECORD_WORDS * i + COUNT]
+    count_for(words, bounds::MAX_EDGES, i)
 }
 
-// The edges of record i, which says that it has at most 127.
+// The edges of record i, which says that it has no more than it may.
+fn edges_for(words: &[u32], most: usize, i: usize) -> &[u32]
+    requires { ⌜ InWords (bounded most) i (now words) × (countWord (bounded most) i (now words) ≤ most) ⌝ }
+    ensures { λ r. ⌜ now r ≡ edgeWords (bounded most) i (now (words .entry)) ⌝ }
+{
+    let from = FIRST_RECORD + (most + EDGES) * i + EDGES;
+    let up_to = from + count_for(words, most, i) as usize;
+    &words[from..up_to]
+}
+
+// The same for the present bound.
 pub fn edges(words: &[u32], i: usize) -> &[u32]
     requires { ⌜ InWords base i (now words) × (countWord base i (now words) ≤ base .edges) ⌝ }
     ensures { λ r. ⌜ now r ≡ edgeWords base i (now (words .entry)) ⌝ }
 {
-    let from = FIRST_RECORD + bounds::RECORD_WORDS * i + EDGES;
-    let up_to = from + count(words, i) as usize;
-    &words[from..up_to]
+    edges_for(words, bounds::MAX_EDGES, i)
 }

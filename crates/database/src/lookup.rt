@@ -2,10 +2,11 @@
 // or an empty part if dead, beyond use or in words that meet 35".
 ghost use mathlib.Core.Path.{_≡_};
 ghost use denote.Ref.{ptr};
+ghost use Rattle.semantics.specs.Entries.{lookupOf};
 ghost use Rattle.semantics.specs.Limits.{base};
-ghost use Rattle.semantics.specs.Database.{filesOnly, edgesPart, recordPlace, lookupPart, wordsOf};
+ghost use Rattle.semantics.specs.Database.{edgesPart, recordPlace, wordsOf, wordPlace};
 ghost use Rattle.database.specs.Records.{InWords, recordAt};
-ghost use Rattle.database.specs.Parts.{partOf, wordPlace};
+ghost use Rattle.database.specs.Parts.{partOf};
 use crate::check;
 use crate::layout;
 use semantics::bounds;
@@ -37,7 +38,7 @@ fn edges_of(words: &[u32], i: usize) -> Span
 
 // Where the edges of a number stand: none in words that meet 35 or beyond use.
 fn find(words: &[u32], number: u32) -> Span
-    ensures { λ r. ⌜ partOf r ≡ lookupPart base filesOnly number (now (words .entry)) ⌝ }
+    ensures { λ r. ⌜ partOf r ≡ lookupOf number (now (words .entry)) ⌝ }
 {
     if check::well_formed(words) {
         let i = number as usize;
@@ -50,8 +51,8 @@ fn find(words: &[u32], number: u32) -> Span
 
 // The edges, as a part of the words that were lent: what they are, and where they stand.
 pub fn lookup(words: &[u32], number: PartialPathId) -> &[u32]
-    ensures { λ r. ⌜ now r ≡ wordsOf (lookupPart base filesOnly (number .0) (now (words .entry))) (now (words .entry)) ⌝ }
-    ensures { λ r. ⌜ ptr r ≡ wordPlace (ptr (words .entry)) (lookupPart base filesOnly (number .0) (now (words .entry)) .from) ⌝ }
+    ensures { λ r. ⌜ now r ≡ wordsOf (lookupOf (number .0) (now (words .entry))) (now (words .entry)) ⌝ }
+    ensures { λ r. ⌜ ptr r ≡ wordPlace (ptr (words .entry)) (lookupOf (number .0) (now (words .entry)) .from) ⌝ }
 {
     let part = find(words, number.0);
     let a = part.from;

@@ -4,11 +4,11 @@ ghost use mathlib.Core.Path.{_≡_};
 ghost use Prim.Native.Nat.{_+_, _≤_, _<_, _^_};
 ghost use lib.Dec.{leb};
 ghost use lib.ListN.{length};
-ghost use Rattle.semantics.specs.Limits.{base};
+ghost use Rattle.semantics.specs.Limits.{base, recordWords};
 ghost use Rattle.semantics.specs.PartialPaths.{slot};
-ghost use Rattle.semantics.specs.Words.{zeros, recordWords};
+ghost use Rattle.semantics.specs.Words.{zeros};
 ghost use Rattle.semantics.specs.Database.{usedIn, capacity, encodeSlot, clearRecord};
-ghost use Rattle.database.specs.Records.{InWords, Whole, recordAt, putRecord};
+ghost use Rattle.database.specs.Records.{bounded, InWords, Whole, recordAt, putRecord};
 ghost use Rattle.database.specs.Filing.{cleared, headed};
 use crate::layout;
 use semantics::bounds;
@@ -24,12 +24,20 @@ pub fn has_room(words: &[u32], new: u64) -> bool
 }
 
 // Record i becomes zeros.
+fn zero_record_for(words: &mut [u32], most: usize, i: usize)
+    requires { ⌜ InWords (bounded most) i (now words) ⌝ }
+    ensures { λ _. ⌜ now (words .exit) ≡ putRecord (bounded most) i (zeros (recordWords (bounded most))) (now (words .entry)) ⌝ }
+{
+    let at = layout::FIRST_RECORD + (most + layout::EDGES) * i;
+    let end = at + (most + layout::EDGES);
+    slots::zero(&mut words[at..end]);
+}
+
 fn zero_record(words: &mut [u32], i: usize)
     requires { ⌜ InWords base i (now words) ⌝ }
     ensures { λ _. ⌜ now (words .exit) ≡ putRecord base i (zeros (recordWords base)) (now (words .entry)) ⌝ }
 {
-    let at = layout::FIRST_RECORD + bounds::RECORD_WORDS * i;
-    slots::zero(&mut words[at..at + bounds::RECORD_WORDS]);
+    zero_record_for(words, bounds::MAX_EDGES, i);
 }
 
 // It does so if it is a live record of the file; a dead one, or one of another file, stays as it is.
@@ -57,34 +65,41 @@ pub fn clear_file(words: &mut [u32], file: u32)
 }
 
 // The words of a record become file + 1, start, end, the edge count, the edges, and zeros behind them.
-fn lay_out(into: &mut [u32], file: u32, start: u32, end: u32, edges: &[u32])
-    requires { ⌜ (length (now into) ≡ recordWords base) × (file + 1 < 2 ^ 32) × (length (now edges) ≤ base .edges) ⌝ }
-    ensures { λ _. ⌜ now (into .exit) ≡ encodeSlot (recordWords base) (slot file start end (now (edges .entry))) ⌝ }
+fn lay_out(into: &mut [u32], most: usize, file: u32, start: u32, end: u32, edges: &[u32])
+    requires { ⌜ (length (now into) ≡ recordWords (bounded most)) × (file + 1 < 2 ^ 32) × (length (now edges) ≤ most) × (most < 2 ^ 31) ⌝ }
+    ensures { λ _. ⌜ now (into .exit) ≡ encodeSlot (recordWords (bounded most)) (slot file start end (now (edges .entry))) ⌝ }
 {
     into[0] = file + 1;
     into[layout::START] = start;
     into[layout::END] = end;
-    slots::write_list(
-        &mut into[layout::COUNT..bounds::RECORD_WORDS],
-        bounds::SLOT_WORDS,
-        0,
-        edges,
-    );
+    let up_to = most + layout::EDGES;
+    slots::write_list(&mut into[layout::COUNT..up_to], most + 1, 0, edges);
 }
 
 // Record i becomes a partial path of the file. Its first word is the file + 1, so that has to be a word.
+fn put_record_for(
+    words: &mut [u32],
+    most: usize,
+    i: usize,
+    file: u32,
+    start: u32,
+    end: u32,
+    edges: &[u32],
+)
+    requires { ⌜ InWords (bounded most) i (now words) × (file + 1 < 2 ^ 32) × (length (now edges) ≤ most) × (most < 2 ^ 31) ⌝ }
+    ensures { λ _. ⌜ now (words .exit) ≡ putRecord (bounded most) i (encodeSlot (recordWords (bounded most)) (slot file start end (now (edges .entry)))) (now (words .entry)) ⌝ }
+{
+    let at = layout::FIRST_RECORD + (most + layout::EDGES) * i;
+    let behind = at + (most + layout::EDGES);
+    lay_out(&mut words[at..behind], most, file, start, end, edges);
+}
+
+// The same for the present bound.
 pub fn put_record(words: &mut [u32], i: usize, file: u32, start: u32, end: u32, edges: &[u32])
     requires { ⌜ InWords base i (now words) × (file + 1 < 2 ^ 32) × (length (now edges) ≤ base .edges) ⌝ }
     ensures { λ _. ⌜ now (words .exit) ≡ putRecord base i (encodeSlot (recordWords base) (slot file start end (now (edges .entry)))) (now (words .entry)) ⌝ }
 {
-    let at = layout::FIRST_RECORD + bounds::RECORD_WORDS * i;
-    lay_out(
-        &mut words[at..at + bounds::RECORD_WORDS],
-        file,
-        start,
-        end,
-        edges,
-    );
+    put_record_for(words, bounds::MAX_EDGES, i, file, start, end, edges);
 }
 
 // The words in front: slots used, N and F.

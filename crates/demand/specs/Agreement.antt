@@ -1,19 +1,20 @@
 -- Demand 3 of two answers and two result areas that the public calls left.
 -- The third demand; document 01, "Partial paths", last paragraph.
 use Prim.Native.Nat.{ℕ}
-use mathlib.Core.Path.{_≡_, refl, sym, subst, _∙_}
+use mathlib.Core.Path.{_≡_, sym, subst, _∙_}
 use mathlib.Core.Bool.{false}
 use mathlib.Core.List.{List}
 use lib.ListN.{length}
+use Rattle.semantics.specs.Entries.{graphIn}
 use Rattle.semantics.specs.declared.search.Limit.{Limit}
 use Rattle.semantics.specs.declared.search.SearchStats.{SearchStats}
 use Rattle.semantics.specs.declared.answer.Resolution.{Resolution}
 use Rattle.semantics.specs.declared.answer.Resolution.the-variants as Resolution
-use Rattle.semantics.specs.Limits.{base}
+use Rattle.semantics.specs.Limits.{base, slotWords}
 use Rattle.semantics.specs.Answer.{ok}
 use Rattle.semantics.specs.Graph.{Graph, viewOf}
-use Rattle.semantics.specs.Image.{symbolBytes, checkImage}
-use Rattle.semantics.specs.Words.{listsIn, slotWords}
+use Rattle.semantics.specs.Image.{symbolBytes}
+use Rattle.semantics.specs.Words.{listsIn}
 use Rattle.semantics.specs.Told.{toldResolution}
 use Rattle.semantics.specs.Told.Laws.{resolution-alike}
 use Rattle.semantics.specs.Demand.{fileOwners, Demand, Holds}
@@ -34,11 +35,11 @@ pub record Ended (r : Resolution) : Type 0 where
 abbrev pub requestOf : Asked → List ℕ → List ℕ → ℕ → Request
 requestOf a work result reference = record { order = a .order; limits = a .limits; work = length work; result = length result; node = reference }
 
-abbrev pub directAsked : List ℕ → ℕ → Asked → List ℕ → List ℕ → Outcome Resolution
-directAsked im reference a work result = directRecorded symbolBytes base im (requestOf a work result reference)
+abbrev pub directBy : List ℕ → ℕ → Asked → List ℕ → List ℕ → Outcome Resolution
+directBy im reference a work result = directRecorded symbolBytes base im (requestOf a work result reference)
 
-abbrev pub stitchedAsked : List ℕ → List ℕ → ℕ → Asked → List ℕ → List ℕ → Outcome Resolution
-stitchedAsked im words reference a work result = stitchedRecorded symbolBytes base im words (requestOf a work result reference)
+abbrev pub stitchedBy : List ℕ → List ℕ → ℕ → Asked → List ℕ → List ℕ → Outcome Resolution
+stitchedBy im words reference a work result = stitchedRecorded symbolBytes base im words (requestOf a work result reference)
 
 -- the edge lists in the used slots of a result area
 abbrev pub setIn : List ℕ → List (List ℕ)
@@ -48,13 +49,13 @@ setIn result = listsIn (slotWords base) result
 -- every file's partial paths and no others
 abbrev pub Agrees : (im words : List ℕ) (reference : ℕ) (most : Limit) → Resolution → List ℕ → Resolution → List ℕ → Type 0
 Agrees im words reference most a ra b rb =
-    (g : Graph) → checkImage symbolBytes im ≡ ok g → Holds (fileOwners g) base (viewOf g) (slotsIn base words) → Ended a → Ended b → Demand base (viewOf g) reference most (setIn ra) (setIn rb)
+    (g : Graph) → graphIn im ≡ ok g → Holds (fileOwners g) base (viewOf g) (slotsIn base words) → Ended a → Ended b → Demand base (viewOf g) reference most (setIn ra) (setIn rb)
 
 -- an answer told like a call's is the call's
-finished : (a : Resolution) (o : Outcome Resolution) → toldResolution a ≡ toldResolution (o .answer) → Ended a → Finished o
-finished a o t e = record { paths = e .paths; stats = e .stats; answered = sym (resolution-alike a (o .answer) t) ∙ e .answered; uncounted = e .uncounted; uncut = e .uncut }
+finished : {a : Resolution} (o : Outcome Resolution) → toldResolution a ≡ toldResolution (o .answer) → Ended a → Finished o
+finished {a} o t e = record { paths = e .paths; stats = e .stats; answered = sym (resolution-alike a (o .answer) t) ∙ e .answered; uncounted = e .uncounted; uncut = e .uncut }
 
-module _ (im words : List ℕ) (q q′ : Request) (a b : Resolution) (ra rb : List ℕ) where
+module _ (im words : List ℕ) (q q′ : Request) (a b : Resolution) {ra rb : List ℕ} where
   pub calls-agree : toldResolution a ≡ toldResolution (directRecorded symbolBytes base im q .answer) → ra ≡ directRecorded symbolBytes base im q .result
       → toldResolution b ≡ toldResolution (stitchedRecorded symbolBytes base im words q′ .answer) → rb ≡ stitchedRecorded symbolBytes base im words q′ .result
       → q .node ≡ q′ .node → q .limits .length ≡ q′ .limits .length → Agrees im words (q .node) (q .limits .length) a ra b rb
@@ -65,8 +66,8 @@ module _ (im words : List ℕ) (q q′ : Request) (a b : Resolution) (ra rb : Li
         same-reference = node;
         same-length-limit = most;
         database-holds = holds;
-        direct-finished = finished a (directRecorded symbolBytes base im q) ta ea;
-        stitched-finished = finished b (stitchedRecorded symbolBytes base im words q′) tb eb;
+        direct-finished = finished (directRecorded symbolBytes base im q) ta ea;
+        stitched-finished = finished (stitchedRecorded symbolBytes base im words q′) tb eb;
       } in
       subst (λ (l : List ℕ). Demand base (viewOf g) (q .node) (q .limits .length) (setIn l) (setIn rb)) (sym wa)
       (subst (λ (l : List ℕ). Demand base (viewOf g) (q .node) (q .limits .length) (setIn (directRecorded symbolBytes base im q .result)) (setIn l)) (sym wb) (demand-3 symbolBytes base im words q q′ p))

@@ -3,12 +3,13 @@
 use Prim.Native.Nat.{ℕ, zero, suc, _+_, _-_, _≤_, _<_}
 use native.Mathlib.Omega.{arith}
 use mathlib.Core.Path.{_≡_, refl, sym, ap, subst, _∙_}
-use mathlib.Core.Logic.{_⊎_, inl, inr, ⊎-elim}
+use mathlib.Core.Logic.{_⊎_, ⊎-elim}
 use mathlib.Core.Bool.{Bool, true, false, true≢false}
 use mathlib.Core.List.{List, [], _∷_, List·Memᴰ, List·Memᴰ·head, List·Memᴰ·tail}
 use borrow.Author.Tests.{ltb-true, ltb-false}
 use lib.Dec.{ltb}
 use lib.ListN.{length}
+use Rattle.semantics.specs.Entries.{graphIn, freshDatabase}
 use Rattle.semantics.specs.declared.search.SearchOrder.{SearchOrder}
 use Rattle.semantics.specs.declared.search.PartialPathStats.{PartialPathStats}
 use Rattle.semantics.specs.declared.answer.Creation.{Creation}
@@ -19,11 +20,10 @@ use Rattle.semantics.specs.Limits.{base}
 use Rattle.semantics.specs.Answer.{Answer, ok}
 use Rattle.semantics.specs.Graph.{Graph, viewOf}
 use Rattle.semantics.specs.declared.refusal.ImageRefusal.{ImageRefusal}
-use Rattle.semantics.specs.Image.{symbolBytes, checkImage}
 use Rattle.semantics.specs.Demand.{fileOwners, Holds}
-use Rattle.semantics.specs.Database.{slotsIn, filesOnly}
+use Rattle.semantics.specs.Database.{slotsIn, knownOwners}
 use Rattle.semantics.specs.Database.Checked.{Checked}
-use Rattle.semantics.specs.Calls.{Change, freshCall, replaceCall}
+use Rattle.semantics.specs.Calls.{Change, replaceCall}
 use Rattle.semantics.specs.Calls.Filing.{Refiled, Filed, begun, refiled, unlimited, refiled-holds, refiled-some, filed-holds}
 
 -- was the call answered with Done
@@ -41,7 +41,7 @@ isReplaced Replacement.Full = false
 
 -- a file replaced without limits
 abbrev pub refiling : List ℕ → SearchOrder → ℕ → List ℕ → List ℕ → Change Replacement
-refiling im order f work words = replaceCall base filesOnly (checkImage symbolBytes im) (unlimited order (length work) f) words
+refiling im order f work words = replaceCall base knownOwners (graphIn im) (unlimited order (length work) f) words
 
 -- whether every call was answered with Done, and every word of the work area and of the database
 pub record Filings : Type 0 where
@@ -66,15 +66,15 @@ begunWith false work words next = record { all = false; work = work; words = wor
 unfoldable pub filings : List ℕ → SearchOrder → ℕ → List ℕ → List ℕ → Filings
 unfolding refilings
 filings im order files work words =
-    begunWith (isCreated (freshCall (checkImage symbolBytes im) words .answer)) work (freshCall (checkImage symbolBytes im) words .database) (refilings im order 0 files work)
+    begunWith (isCreated (freshDatabase im words .answer)) work (freshDatabase im words .database) (refilings im order 0 files work)
 
 -- THE PREMISE OF DEMAND 3, of the words that are left, for every graph of so many files that the image holds
 abbrev pub Fills : List ℕ → ℕ → List ℕ → Type 0
-Fills im files words = (g : Graph) → checkImage symbolBytes im ≡ ok g → files ≡ g .files → Holds (fileOwners g) base (viewOf g) (slotsIn base words)
+Fills im files words = (g : Graph) → graphIn im ≡ ok g → files ≡ g .files → Holds (fileOwners g) base (viewOf g) (slotsIn base words)
 
 -- where the words began as any at all: of a graph without files nothing was replaced, so that its check must have passed
 abbrev pub Refills : List ℕ → ℕ → List ℕ → Type 0
-Refills im files words = (g : Graph) → checkImage symbolBytes im ≡ ok g → files ≡ g .files → (0 < g .files) ⊎ Checked base filesOnly g words → Holds (fileOwners g) base (viewOf g) (slotsIn base words)
+Refills im files words = (g : Graph) → graphIn im ≡ ok g → files ≡ g .files → (0 < g .files) ⊎ Checked base knownOwners g words → Holds (fileOwners g) base (viewOf g) (slotsIn base words)
 
 -- THE LOOP
 module _ (im : List ℕ) (order : SearchOrder) (files f : ℕ) (work words : List ℕ) where
@@ -122,7 +122,7 @@ up-to f done u x h = on (ltb x f) refl
 
 module _ (im : List ℕ) (order : SearchOrder) (before : List ℕ) where
   abbrev Replacing : ℕ → List ℕ → Type 0
-  Replacing f words = (done : List ℕ) × Refiled base (checkImage symbolBytes im) before words done × UpTo f done
+  Replacing f words = (done : List ℕ) × Refiled base (graphIn im) before words done × UpTo f done
 
   all-replaced : (k f : ℕ) (work words : List ℕ) → Replacing f words → refilings im order f k work words .all ≡ true → Replacing (f + k) (refilings im order f k work words .words)
   unfolding refilings
@@ -152,26 +152,26 @@ refilings-fill im order files work words e g h n ok-check =
 -- from a fresh database
 pub filings-fill : (im : List ℕ) (order : SearchOrder) (files : ℕ) (work words : List ℕ) → filings im order files work words .all ≡ true → Fills im files (filings im order files work words .words)
 unfolding filings
-filings-fill im order files work words e g h n = on (isCreated (freshCall (checkImage symbolBytes im) words .answer)) refl e
+filings-fill im order files work words e g h n = on (isCreated (freshDatabase im words .answer)) refl e
   where
     new : List ℕ
-    new = freshCall (checkImage symbolBytes im) words .database
+    new = freshDatabase im words .database
 
-    on : (b : Bool) → isCreated (freshCall (checkImage symbolBytes im) words .answer) ≡ b → begunWith b work new (refilings im order 0 files work) .all ≡ true
+    on : (b : Bool) → isCreated (freshDatabase im words .answer) ≡ b → begunWith b work new (refilings im order 0 files work) .all ≡ true
         → Holds (fileOwners g) base (viewOf g) (slotsIn base (begunWith b work new (refilings im order 0 files work) .words))
     on true c a =
         let r = all-replaced im order new files 0 work new ([], begun, λ x k. absurd (omega (arith, k))) a in
         let all : (f : ℕ) → f < g .files → List·Memᴰ f (r .0) = λ f k. r .2 f (omega (arith, k, n)) in
-        let filed : Filed base (checkImage symbolBytes im) (refilings im order 0 files work new .words) (r .0) = record { lent = words; created = created-done (freshCall (checkImage symbolBytes im) words .answer) c; replaced = r .1 } in
+        let filed : Filed base (graphIn im) (refilings im order 0 files work new .words) (r .0) = record { lent = words; created = created-done (freshDatabase im words .answer) c; replaced = r .1 } in
         filed-holds base g _ (r .0) (subst (λ (x : Answer ImageRefusal Graph). Filed base x (refilings im order 0 files work new .words) (r .0)) h filed) all
     on false c a = absurd (true≢false (sym a))
 
 -- THE TWO WAYS OF A FRESH START
 module _ (im : List ℕ) (order : SearchOrder) (files : ℕ) (work words : List ℕ) where
-  pub filings-fresh : isCreated (freshCall (checkImage symbolBytes im) words .answer) ≡ true → refilings im order 0 files work (freshCall (checkImage symbolBytes im) words .database) ≡ filings im order files work words
+  pub filings-fresh : isCreated (freshDatabase im words .answer) ≡ true → refilings im order 0 files work (freshDatabase im words .database) ≡ filings im order files work words
   unfolding filings
-  filings-fresh h = sym (ap (λ b. begunWith b work (freshCall (checkImage symbolBytes im) words .database) (refilings im order 0 files work)) h)
+  filings-fresh h = sym (ap (λ b. begunWith b work (freshDatabase im words .database) (refilings im order 0 files work)) h)
 
-  pub filings-refused : isCreated (freshCall (checkImage symbolBytes im) words .answer) ≡ false → record { all = false; work = work; words = freshCall (checkImage symbolBytes im) words .database } ≡ filings im order files work words
+  pub filings-refused : isCreated (freshDatabase im words .answer) ≡ false → record { all = false; work = work; words = freshDatabase im words .database } ≡ filings im order files work words
   unfolding filings
-  filings-refused h = sym (ap (λ b. begunWith b work (freshCall (checkImage symbolBytes im) words .database) (refilings im order 0 files work)) h)
+  filings-refused h = sym (ap (λ b. begunWith b work (freshDatabase im words .database) (refilings im order 0 files work)) h)

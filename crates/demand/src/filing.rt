@@ -2,8 +2,7 @@
 // before, on this image or on earlier ones. Document 01, "Partial paths", last paragraph: such words meet the premise of demand 3.
 ghost use mathlib.Core.Path.{_≡_};
 ghost use mathlib.Core.Bool.{true};
-ghost use Rattle.semantics.specs.Image.{symbolBytes, checkImage};
-ghost use Rattle.semantics.specs.Calls.{freshCall};
+ghost use Rattle.semantics.specs.Entries.{freshDatabase};
 ghost use Rattle.demand.specs.Filings.{isCreated, isReplaced, refiling, refilings, filings, Fills, Refills};
 use database::fresh;
 use partial::replace;
@@ -37,8 +36,8 @@ fn is_replaced(answer: Replacement) -> bool
 
 // Whether the words are a fresh database now.
 fn begin(image: &[u8], words: &mut [u32]) -> bool
-    ensures { λ r. ⌜ r ≡ isCreated (freshCall (checkImage symbolBytes (now (image .entry))) (now (words .entry)) .answer) ⌝ }
-    ensures { λ _. ⌜ now (words .exit) ≡ freshCall (checkImage symbolBytes (now (image .entry))) (now (words .entry)) .database ⌝ }
+    ensures { λ r. ⌜ r ≡ isCreated (freshDatabase (now (image .entry)) (now (words .entry)) .answer) ⌝ }
+    ensures { λ _. ⌜ now (words .exit) ≡ freshDatabase (now (image .entry)) (now (words .entry)) .database ⌝ }
 {
     is_created(fresh::fresh(image, words))
 }
@@ -50,8 +49,16 @@ fn refile(image: &[u8], file: u32, order: SearchOrder, work: &mut [u32], words: 
     ensures { λ _. ⌜ now (words .exit) ≡ refiling (now (image .entry)) order file (now (work .entry)) (now (words .entry)) .database ⌝ }
 {
     let length = Limit::Absent;
-    let paths = Limit::Absent;
-    let replaced = replace::replace_file(image, FileId(file), order, length, paths, work, words);
+    let expansions = Limit::Absent;
+    let replaced = replace::replace_file(
+        image,
+        FileId(file),
+        order,
+        length,
+        expansions,
+        work,
+        words,
+    );
     is_replaced(replaced)
 }
 

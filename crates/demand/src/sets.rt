@@ -2,8 +2,8 @@
 // the same, whatever orders, count limits and areas each search was given.
 ghost use mathlib.Core.Path.{_≡_};
 ghost use Rattle.semantics.specs.Told.{toldResolution};
-ghost use Rattle.demand.specs.Agreement.{directAsked, stitchedAsked, Agrees};
-use search::direct;
+ghost use Rattle.demand.specs.Agreement.{directBy, stitchedBy, Agrees};
+use direct_search::direct;
 use semantics::answer::Resolution;
 use semantics::graph::NodeId;
 use semantics::search::SearchLimits;
@@ -33,13 +33,15 @@ pub fn record_both(
     stitching: &mut [u32],
     joined: &mut [u32],
 ) -> Answers
-    ensures { λ r. ⌜ toldResolution (r .direct) ≡ toldResolution (directAsked (now (image .entry)) (reference .0) first (now (waiting .entry)) (now (found .entry)) .answer) ⌝ }
-    ensures { λ _. ⌜ now (waiting .exit) ≡ directAsked (now (image .entry)) (reference .0) first (now (waiting .entry)) (now (found .entry)) .work ⌝ }
-    ensures { λ _. ⌜ now (found .exit) ≡ directAsked (now (image .entry)) (reference .0) first (now (waiting .entry)) (now (found .entry)) .result ⌝ }
-    ensures { λ r. ⌜ toldResolution (r .stitched) ≡ toldResolution (stitchedAsked (now (image .entry)) (now (words .entry)) (reference .0) second (now (stitching .entry)) (now (joined .entry)) .answer) ⌝ }
-    ensures { λ _. ⌜ now (stitching .exit) ≡ stitchedAsked (now (image .entry)) (now (words .entry)) (reference .0) second (now (stitching .entry)) (now (joined .entry)) .work ⌝ }
-    ensures { λ _. ⌜ now (joined .exit) ≡ stitchedAsked (now (image .entry)) (now (words .entry)) (reference .0) second (now (stitching .entry)) (now (joined .entry)) .result ⌝ }
-    ensures { λ r. ⌜ (first .limits .length ≡ second .limits .length → Agrees (now (image .entry)) (now (words .entry)) (reference .0) (first .limits .length) (r .direct) (now (found .exit)) (r .stitched) (now (joined .exit))) ⌝ }
+    ensures { λ r. ⌜ toldResolution (r .direct) ≡ toldResolution (directBy (now (image .entry)) (reference .0) first (now (waiting .entry)) (now (found .entry)) .answer) ⌝ }
+    ensures { λ _. ⌜ now (waiting .exit) ≡ directBy (now (image .entry)) (reference .0) first (now (waiting .entry)) (now (found .entry)) .work ⌝ }
+    ensures { λ _. ⌜ now (found .exit) ≡ directBy (now (image .entry)) (reference .0) first (now (waiting .entry)) (now (found .entry)) .result ⌝ }
+    ensures { λ r. ⌜ toldResolution (r .stitched) ≡ toldResolution (stitchedBy (now (image .entry)) (now (words .entry)) (reference .0) second (now (stitching .entry))
+        (now (joined .entry)) .answer) ⌝ }
+    ensures { λ _. ⌜ now (stitching .exit) ≡ stitchedBy (now (image .entry)) (now (words .entry)) (reference .0) second (now (stitching .entry)) (now (joined .entry)) .work ⌝ }
+    ensures { λ _. ⌜ now (joined .exit) ≡ stitchedBy (now (image .entry)) (now (words .entry)) (reference .0) second (now (stitching .entry)) (now (joined .entry)) .result ⌝ }
+    ensures { λ r. ⌜ (first .limits .length ≡ second .limits .length → Agrees (now (image .entry)) (now (words .entry)) (reference .0) (first .limits .length)
+        (r .direct) (now (found .exit)) (r .stitched) (now (joined .exit))) ⌝ }
 {
     let order = first.order;
     let limits = first.limits;

@@ -7,15 +7,15 @@ use Rattle.semantics.specs.Lists.{pick}
 use Rattle.stepping.specs.declared.step.Effect.{Effect}
 use Rattle.stepping.specs.declared.step.Effect.the-variants.{Done, Refused}
 use Rattle.stepping.specs.Judged.{completeStep}
-use Rattle.edge_trial.specs.declared.trial.Trial.{Trial}
-use Rattle.edge_trial.specs.declared.trial.Trial.the-variants.{Cut, Overlong, Rejected, TooLong, Extended}
+use Rattle.edge_trial.specs.declared.trial.EdgeTrial.{EdgeTrial}
+use Rattle.edge_trial.specs.declared.trial.EdgeTrial.the-variants.{Cut, Overlong, Rejected, TooLong, Extended}
 pub mod Laws
 
 -- appended, and complete or not, or rejected
-abbrev pub triedBy : (ℕ → Node) → Effect → Trial
+abbrev pub triedBy : (ℕ → Node) → Effect → EdgeTrial
 triedBy nodes (Done s) = Extended (completeStep nodes s)
 triedBy nodes (Refused r) = Rejected
 
 -- a cycle cut, else too long for the limit, else too long for the bound, else tried
-abbrev pub trialBy : (ℕ → Node) → Bool → Bool → Bool → Effect → Trial
+abbrev pub trialBy : (ℕ → Node) → Bool → Bool → Bool → Effect → EdgeTrial
 trialBy nodes cycle short room x = pick cycle Cut (pick short (pick room (triedBy nodes x) TooLong) Overlong)

@@ -5,18 +5,18 @@ ghost use Prim.Native.Nat.{_+_};
 ghost use lib.Dec.{ltb};
 ghost use lib.ListN.{length};
 ghost use Rattle.semantics.specs.Lists.{has};
-ghost use Rattle.semantics.specs.Limits.{within};
-ghost use Rattle.storage.specs.Rows.{Blocks, nodeRow, edgeRow};
+ghost use Rattle.semantics.specs.Limits.{within, maxEdges};
+ghost use Rattle.storage.specs.Index.{Blocks, nodeRow, edgeRow};
 ghost use Rattle.stepping.specs.Judged.{Ready, judgedOf};
 ghost use Rattle.edge_trial.specs.Trials.{triedBy, trialBy};
-use budget::path_budget::Budget;
-use search_state::item;
+use path_budget::budget::Budget;
+use search_state::path_slot;
 use semantics::bounds::MAX_EDGES;
 use stepping::step;
 use stepping::step::Effect;
 use stepping::steps;
 
-pub enum Trial {
+pub enum EdgeTrial {
     Cut,
     Overlong,
     Rejected,
@@ -25,33 +25,41 @@ pub enum Trial {
 }
 
 // The edge is appended, or rejected by the path rules.
-fn tried(index: &[u32], steps: &[u32], k: u32, edge: u32) -> Trial
+fn tried(index: &[u32], steps: &[u32], k: u32, edge: u32) -> EdgeTrial
     requires { ⌜ Blocks (now index) × Ready (now steps) k ⌝ }
     ensures { λ r. ⌜ r ≡ triedBy (nodeRow (now (index .entry))) (judgedOf (nodeRow (now (index .entry))) (now (steps .entry)) k edge (edgeRow (now (index .entry)) edge)) ⌝ }
 {
     let effect = steps::judge(index, steps, k, edge);
     let Effect::Done(step) = effect else {
-        return Trial::Rejected;
+        return EdgeTrial::Rejected;
     };
-    Trial::Extended {
+    EdgeTrial::Extended {
         complete: step::is_complete(index, step),
     }
 }
 
 // `edges` are those of the path; its steps stand in `steps`.
-pub fn judge(index: &[u32], steps: &[u32], edges: &[u32], edge: u32, budget: Budget) -> Trial
+pub fn judge_edge(
+    index: &[u32],
+    steps: &[u32],
+    edges: &[u32],
+    edge: u32,
+    budget: Budget,
+) -> EdgeTrial
     requires { ⌜ Blocks (now index) × Ready (now steps) (length (now edges)) ⌝ }
-    ensures { λ r. ⌜ r ≡ trialBy (nodeRow (now (index .entry))) (has edge (now (edges .entry))) (within (length (now (edges .entry)) + 1) (budget .maxLength)) (ltb (length (now (edges .entry))) 127) (judgedOf (nodeRow (now (index .entry))) (now (steps .entry)) (length (now (edges .entry))) edge (edgeRow (now (index .entry)) edge)) ⌝ }
+    ensures { λ r. ⌜ r ≡ trialBy (nodeRow (now (index .entry))) (has edge (now (edges .entry))) (within (length (now (edges .entry)) + 1) (budget .maxLength))
+        (ltb (length (now (edges .entry))) maxEdges) (judgedOf (nodeRow (now (index .entry))) (now (steps .entry)) (length (now (edges .entry))) edge
+        (edgeRow (now (index .entry)) edge)) ⌝ }
 {
-    if item::contains(edges, edge) {
-        return Trial::Cut;
+    if path_slot::contains(edges, edge) {
+        return EdgeTrial::Cut;
     }
     let asked = budget.admitted_length(edges.len() as u64 + 1);
     if asked.allowed {
         if edges.len() < MAX_EDGES {
             return tried(index, steps, edges.len() as u32, edge);
         }
-        return Trial::TooLong;
+        return EdgeTrial::TooLong;
     }
-    Trial::Overlong
+    EdgeTrial::Overlong
 }

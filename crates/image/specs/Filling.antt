@@ -8,7 +8,7 @@ use Rattle.semantics.specs.declared.graph.Node.{Node}
 use Rattle.semantics.specs.declared.graph.Edge.{Edge}
 use Rattle.semantics.specs.Lists.{pick}
 use Rattle.semantics.specs.Graph.{Graph, viewOf}
-use Rattle.image.specs.Rows.{KIND, Blocks, cell, nodeRow, edgeRow, firstRow}
+use Rattle.image.specs.Index.{KIND, Blocks, cell, nodeRow, edgeRow, firstRow}
 pub mod Laws
 
 -- the first k of a sequence, and d behind them

@@ -1,4 +1,4 @@
-pub mod Rows
+pub mod Index
 pub mod Filling
-pub mod Steps
+pub mod Reached
 pub mod Records

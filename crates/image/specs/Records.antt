@@ -14,7 +14,7 @@ use Rattle.semantics.specs.Bytes.{byteAt, short, long}
 use Rattle.semantics.specs.Image.{bodySize, symbolBytes, filesOf, nodesOf, edgesOf, nodeRecord, edgeRecord, scan, nodeIn, edgeIn, placeOf, firstRecord}
 use Rattle.semantics.specs.Answer.{Answer, andThen}
 use Rattle.semantics.specs.declared.refusal.ImageRefusal.{ImageRefusal}
-use Rattle.image.specs.Rows.{NODES, EDGES, BLOCK}
+use Rattle.image.specs.Index.{NODES, EDGES, BLOCK}
 use Rattle.image.specs.Filling.{upto, Filled}
 pub mod Laws
 

@@ -3,8 +3,8 @@ ghost use mathlib.Core.Path.{_≡_};
 ghost use Prim.Native.Nat.{_<_};
 ghost use lib.ListN.{length};
 ghost use Rattle.semantics.specs.Image.{header, filesOf, nodesOf, edgesOf};
-ghost use Rattle.image.specs.Steps.{answerOf, isSized, countsAnswer};
-use crate::step::Step;
+ghost use Rattle.image.specs.Reached.{answerOf, isSized, countsAnswer};
+use crate::reached::Reached;
 use semantics::refusal::ImageRefusal;
 use words::bytes;
 
@@ -53,24 +53,24 @@ pub fn edges(image: &[u8]) -> u32
 }
 
 // F, N and M within their bounds.
-fn counts(image: &[u8]) -> Step
+fn counts(image: &[u8]) -> Reached
     requires { ⌜ 10 < length (now image) ⌝ }
     ensures { λ r. ⌜ answerOf r ≡ countsAnswer (now (image .entry)) ⌝ }
 {
     if MOST_FILES < files(image) {
-        return Step::Refused(ImageRefusal::Counts);
+        return Reached::Refused(ImageRefusal::Counts);
     }
     let n = nodes(image);
     if n < FEWEST_NODES {
-        return Step::Refused(ImageRefusal::Counts);
+        return Reached::Refused(ImageRefusal::Counts);
     }
     if MOST_NODES < n {
-        return Step::Refused(ImageRefusal::Counts);
+        return Reached::Refused(ImageRefusal::Counts);
     }
     if MOST_EDGES < edges(image) {
-        return Step::Refused(ImageRefusal::Counts);
+        return Reached::Refused(ImageRefusal::Counts);
     }
-    Step::Next(FIRST_RECORD)
+    Reached::Next(FIRST_RECORD)
 }
 
 // Neither too short nor too long, and as long as it says.
@@ -87,14 +87,14 @@ fn sized(image: &[u8]) -> bool
 }
 
 // The place of the first record, or the refusal.
-pub fn header(image: &[u8]) -> Step
+pub fn header(image: &[u8]) -> Reached
     ensures { λ r. ⌜ answerOf r ≡ header (now (image .entry)) ⌝ }
 {
     if !sized(image) {
-        return Step::Refused(ImageRefusal::Length);
+        return Reached::Refused(ImageRefusal::Length);
     }
     if bytes::byte(image, 0) != VERSION {
-        return Step::Refused(ImageRefusal::Version);
+        return Reached::Refused(ImageRefusal::Version);
     }
     counts(image)
 }

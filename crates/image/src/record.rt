@@ -8,21 +8,17 @@ ghost use Rattle.semantics.specs.Lists.{pick};
 ghost use Rattle.semantics.specs.Answer.{ok, refuse};
 ghost use Rattle.semantics.specs.Bytes.{byteAt};
 ghost use Rattle.semantics.specs.Image.{isCut, mayStand, bodySize, symbolBytes, fieldsFit, nextPlace, nodeRecord, edgeRecord};
-ghost use Rattle.image.specs.Steps.{answerOf};
+ghost use Rattle.image.specs.Reached.{answerOf};
 ghost use Rattle.image.specs.Records.{mostBytes, Fielded, nodeHere, edgeHere, NodePut, EdgePut, symbolIn, scopeIn};
-ghost use Rattle.image.specs.declared.step.Step.the-variants.{Next};
-ghost use Rattle.image.specs.Rows.{BLOCK, Blocks};
-use crate::rows;
-use crate::step::Step;
+ghost use Rattle.image.specs.declared.reached.Reached.the-variants.{Next};
+ghost use Rattle.image.specs.Index.{BLOCK, Blocks};
+use crate::blocks;
+use crate::reached::Reached;
+use semantics::graph::JUMP;
+use semantics::graph::ROOT;
+use semantics::kinds;
 use semantics::refusal::ImageRefusal;
 use words::bytes;
-
-// The kinds of nodes that the tests name; those below SCOPE have no fields.
-const SCOPE: u32 = 3;
-
-const PUSH_SCOPED: u32 = 6;
-
-const DROP_SCOPES: u32 = 8;
 
 // Where the fields of a record stand, counted from its count byte.
 const KIND_AT: usize = 1;
@@ -39,9 +35,7 @@ const TARGET_AT: usize = 4;
 
 const PRECEDENCE_AT: usize = 6;
 
-// The kind of a live edge, and the bytes of an edge record with its count byte.
-const LIVE: u32 = 1;
-
+// The bytes of an edge record with its count byte.
 const REMOVED_BYTES: usize = 2;
 
 const LIVE_BYTES: usize = 10;
@@ -50,7 +44,7 @@ const LIVE_BYTES: usize = 10;
 const SIZES: [u32; 9] = [1, 1, 1, 4, 8, 8, 10, 8, 3];
 
 // No count byte, a count of 0, or a count that reaches behind the last byte.
-pub fn is_cut(image: &[u8], at: usize) -> bool
+fn is_cut(image: &[u8], at: usize) -> bool
     requires { ⌜ length (now image) ≤ mostBytes ⌝ }
     ensures { λ r. ⌜ r ≡ isCut (now (image .entry)) at ⌝ }
 {
@@ -65,23 +59,23 @@ pub fn is_cut(image: &[u8], at: usize) -> bool
 }
 
 // Root is node 0 and jump is node 1, and neither stands elsewhere.
-pub fn may_stand(kind: u32, n: u32) -> bool
+fn may_stand(kind: u32, n: u32) -> bool
     ensures { λ r. ⌜ r ≡ mayStand kind n ⌝ }
 {
-    if n == 0 {
-        return kind == 1;
+    if n == ROOT {
+        return kind == kinds::ROOT;
     }
-    if n == 1 {
-        return kind == 2;
+    if n == JUMP {
+        return kind == kinds::JUMP_TO_SCOPE;
     }
-    if kind == 1 {
+    if kind == kinds::ROOT {
         return false;
     }
-    kind != 2
+    kind != kinds::JUMP_TO_SCOPE
 }
 
 // The bytes of a node record behind its count byte.
-pub fn body_size(kind: u32) -> u32
+fn body_size(kind: u32) -> u32
     requires { ⌜ kind < 9 ⌝ }
     ensures { λ r. ⌜ r ≡ bodySize symbolBytes kind ⌝ }
 {
@@ -95,7 +89,7 @@ fn symbol(image: &[u8], at: usize, kind: u32) -> u32
     requires { ⌜ kind < 8 ⌝ }
     ensures { λ r. ⌜ r ≡ symbolIn (now (image .entry)) at kind ⌝ }
 {
-    if kind == SCOPE {
+    if kind == kinds::SCOPE {
         return 0;
     }
     bytes::long(image, at + SYMBOL_AT)
@@ -106,14 +100,14 @@ fn scope(image: &[u8], at: usize, kind: u32) -> u32
     requires { ⌜ Fielded (now image) at kind ⌝ }
     ensures { λ r. ⌜ r ≡ scopeIn (now (image .entry)) at kind ⌝ }
 {
-    if kind == PUSH_SCOPED {
+    if kind == kinds::PUSH_SCOPED {
         return bytes::short(image, at + SCOPE_AT);
     }
     0
 }
 
 // A file below F and, but in drop-scopes, a flag of 0 or 1; then the node's words.
-fn fields(image: &[u8], files: u32, n: u32, at: usize, kind: u32, index: &mut [u32]) -> Step
+fn fields(image: &[u8], files: u32, n: u32, at: usize, kind: u32, index: &mut [u32]) -> Reached
     requires { ⌜ Fielded (now image) at kind ⌝ }
     requires { ⌜ Blocks (now index) ⌝ }
     requires { ⌜ BLOCK * n < length (now index) ⌝ }
@@ -123,17 +117,17 @@ fn fields(image: &[u8], files: u32, n: u32, at: usize, kind: u32, index: &mut [u
     let count = body_size(kind) as usize;
     let file = bytes::short(image, at + FILE_AT);
     if files <= file {
-        return Step::Refused(ImageRefusal::Record { place: at as u32 });
+        return Reached::Refused(ImageRefusal::Record { place: at as u32 });
     }
-    if kind == DROP_SCOPES {
-        rows::put_node(index, n, kind, 0, file, 0, 0);
-        return Step::Next(at + count + 1);
+    if kind == kinds::DROP_SCOPES {
+        blocks::put_node(index, n, kind, 0, file, 0, 0);
+        return Reached::Next(at + count + 1);
     }
     let flag = bytes::byte(image, at + count);
     if 1 < flag {
-        return Step::Refused(ImageRefusal::Record { place: at as u32 });
+        return Reached::Refused(ImageRefusal::Record { place: at as u32 });
     }
-    rows::put_node(
+    blocks::put_node(
         index,
         n,
         kind,
@@ -142,11 +136,11 @@ fn fields(image: &[u8], files: u32, n: u32, at: usize, kind: u32, index: &mut [u
         symbol(image, at, kind),
         scope(image, at, kind),
     );
-    Step::Next(at + count + 1)
+    Reached::Next(at + count + 1)
 }
 
 // Cut, kind and where it may stand, count, fields; the node's words are put into the index on the way.
-pub fn node(image: &[u8], files: u32, n: u32, at: usize, index: &mut [u32]) -> Step
+pub(crate) fn node(image: &[u8], files: u32, n: u32, at: usize, index: &mut [u32]) -> Reached
     requires { ⌜ length (now image) ≤ mostBytes ⌝ }
     requires { ⌜ Blocks (now index) ⌝ }
     requires { ⌜ BLOCK * n < length (now index) ⌝ }
@@ -154,28 +148,28 @@ pub fn node(image: &[u8], files: u32, n: u32, at: usize, index: &mut [u32]) -> S
     ensures { λ r. ⌜ ((x : ℕ) → r ≡ Next x → NodePut n (nodeHere (now (image .entry)) at) (now (index .entry)) (now (index .exit))) ⌝ }
 {
     if is_cut(image, at) {
-        return Step::Refused(ImageRefusal::Length);
+        return Reached::Refused(ImageRefusal::Length);
     }
     let kind = bytes::byte(image, at + KIND_AT);
-    if DROP_SCOPES < kind {
-        return Step::Refused(ImageRefusal::Record { place: at as u32 });
+    if kinds::DROP_SCOPES < kind {
+        return Reached::Refused(ImageRefusal::Record { place: at as u32 });
     }
     if !may_stand(kind, n) {
-        return Step::Refused(ImageRefusal::Record { place: at as u32 });
+        return Reached::Refused(ImageRefusal::Record { place: at as u32 });
     }
     let count = bytes::byte(image, at);
     if count != body_size(kind) {
-        return Step::Refused(ImageRefusal::Length);
+        return Reached::Refused(ImageRefusal::Length);
     }
-    if kind < SCOPE {
-        rows::put_node(index, n, kind, 0, 0, 0, 0);
-        return Step::Next(at + count as usize + 1);
+    if kind < kinds::SCOPE {
+        blocks::put_node(index, n, kind, 0, 0, 0, 0);
+        return Reached::Next(at + count as usize + 1);
     }
     fields(image, files, n, at, kind, index)
 }
 
 // Cut, kind, count: an edge has 1 or 9 bytes behind its count byte.
-pub fn edge(image: &[u8], e: u32, at: usize, index: &mut [u32]) -> Step
+pub(crate) fn edge(image: &[u8], e: u32, at: usize, index: &mut [u32]) -> Reached
     requires { ⌜ length (now image) ≤ mostBytes ⌝ }
     requires { ⌜ Blocks (now index) ⌝ }
     requires { ⌜ BLOCK * e < length (now index) ⌝ }
@@ -183,26 +177,26 @@ pub fn edge(image: &[u8], e: u32, at: usize, index: &mut [u32]) -> Step
     ensures { λ r. ⌜ ((x : ℕ) → r ≡ Next x → EdgePut e (edgeHere (now (image .entry)) at) (now (index .entry)) (now (index .exit))) ⌝ }
 {
     if is_cut(image, at) {
-        return Step::Refused(ImageRefusal::Length);
+        return Reached::Refused(ImageRefusal::Length);
     }
     let kind = bytes::byte(image, at + KIND_AT);
-    if LIVE < kind {
-        return Step::Refused(ImageRefusal::Record { place: at as u32 });
+    if kinds::LIVE < kind {
+        return Reached::Refused(ImageRefusal::Record { place: at as u32 });
     }
     let count = bytes::byte(image, at);
     if count != kind * 8 + 1 {
-        return Step::Refused(ImageRefusal::Length);
+        return Reached::Refused(ImageRefusal::Length);
     }
-    if kind < LIVE {
-        rows::put_edge(index, e, 0, 0, 0);
-        return Step::Next(at + REMOVED_BYTES);
+    if kind < kinds::LIVE {
+        blocks::put_edge(index, e, 0, 0, 0);
+        return Reached::Next(at + REMOVED_BYTES);
     }
-    rows::put_edge(
+    blocks::put_edge(
         index,
         e,
         bytes::short(image, at + SOURCE_AT) + 1,
         bytes::short(image, at + TARGET_AT),
         bytes::long(image, at + PRECEDENCE_AT),
     );
-    Step::Next(at + LIVE_BYTES)
+    Reached::Next(at + LIVE_BYTES)
 }

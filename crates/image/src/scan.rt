@@ -6,16 +6,16 @@ ghost use lib.ListN.{length};
 ghost use Rattle.semantics.specs.Image.{symbolBytes, firstRecord, nodeRecord, edgeRecord, scan, placeOf, graphOf};
 ghost use Rattle.image.specs.Filling.{Held};
 ghost use Rattle.image.specs.Records.{mostBytes, Headed, Room, NodesPut, EdgesPut, recordsOf};
-ghost use Rattle.image.specs.Steps.{answerOf};
-ghost use Rattle.image.specs.declared.step.Step.the-variants.{Next};
-ghost use Rattle.image.specs.Rows.{BLOCK, Blocks, Fresh};
+ghost use Rattle.image.specs.Reached.{answerOf};
+ghost use Rattle.image.specs.declared.reached.Reached.the-variants.{Next};
+ghost use Rattle.image.specs.Index.{BLOCK, Blocks, Fresh};
 use crate::header;
 use crate::header::FIRST_RECORD;
+use crate::reached::Reached;
 use crate::record;
-use crate::step::Step;
 use words::bytes;
 
-pub fn nodes(image: &[u8], files: u32, count: u32, index: &mut [u32]) -> Step
+fn nodes(image: &[u8], files: u32, count: u32, index: &mut [u32]) -> Reached
     requires { ⌜ length (now image) ≤ mostBytes ⌝ }
     requires { ⌜ Blocks (now index) ⌝ }
     requires { ⌜ BLOCK * count ≤ length (now index) ⌝ }
@@ -26,16 +26,16 @@ pub fn nodes(image: &[u8], files: u32, count: u32, index: &mut [u32]) -> Step
     let mut n: u32 = 0;
     while n < count {
         let step = record::node(image, files, n, at, index);
-        let Step::Next(next) = step else {
+        let Reached::Next(next) = step else {
             return step;
         };
         at = next;
         n += 1;
     }
-    Step::Next(at)
+    Reached::Next(at)
 }
 
-pub fn edges(image: &[u8], from: usize, count: u32, index: &mut [u32]) -> Step
+fn edges(image: &[u8], from: usize, count: u32, index: &mut [u32]) -> Reached
     requires { ⌜ length (now image) ≤ mostBytes ⌝ }
     requires { ⌜ Blocks (now index) ⌝ }
     requires { ⌜ BLOCK * count ≤ length (now index) ⌝ }
@@ -46,17 +46,17 @@ pub fn edges(image: &[u8], from: usize, count: u32, index: &mut [u32]) -> Step
     let mut e: u32 = 0;
     while e < count {
         let step = record::edge(image, e, at, index);
-        let Step::Next(next) = step else {
+        let Reached::Next(next) = step else {
             return step;
         };
         at = next;
         e += 1;
     }
-    Step::Next(at)
+    Reached::Next(at)
 }
 
 // All records: the first refusal, or the place behind the last one and the graph in the index.
-pub fn records(image: &[u8], index: &mut [u32]) -> Step
+pub fn records(image: &[u8], index: &mut [u32]) -> Reached
     requires { ⌜ Headed (now image) ⌝ }
     requires { ⌜ Fresh (now index) ⌝ }
     requires { ⌜ Room (now image) (now index) ⌝ }
@@ -64,7 +64,7 @@ pub fn records(image: &[u8], index: &mut [u32]) -> Step
     ensures { λ r. ⌜ ((x : ℕ) → r ≡ Next x → Held (graphOf symbolBytes (now (image .entry))) (now (index .exit))) ⌝ }
 {
     let step = nodes(image, header::files(image), header::nodes(image), index);
-    let Step::Next(middle) = step else {
+    let Reached::Next(middle) = step else {
         return step;
     };
     edges(image, middle, header::edges(image), index)

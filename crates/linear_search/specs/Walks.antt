@@ -10,7 +10,7 @@ use lib.ListN.{length}
 use Rattle.semantics.specs.declared.search.SearchLimits.{SearchLimits}
 use Rattle.semantics.specs.declared.refusal.LinearRefusal.{LinearRefusal}
 use Rattle.semantics.specs.declared.refusal.LinearRefusal.the-variants as Linear
-use Rattle.semantics.specs.Limits.{base}
+use Rattle.semantics.specs.Limits.{base, slotLength, stepsLength, maxEdges, maxExpansions}
 use Rattle.semantics.specs.Answer.{Answer, ok, refuse}
 use Rattle.semantics.specs.Graph.{nodeId, Graph, View, viewOf}
 use Rattle.semantics.specs.Path.{Path, fromReference, append}
@@ -18,9 +18,9 @@ use Rattle.semantics.specs.Enumeration.{State, Setting, Try, keep, each, run}
 use Rattle.semantics.specs.Direct.{judge}
 use Rattle.semantics.specs.Linear.{first, later, onlyTries, linearSetting}
 use Rattle.words.specs.Slots.{IsSlot, SlotsIn}
-use Rattle.storage.specs.Rows.{Loaded}
+use Rattle.storage.specs.Index.{Loaded}
 use Rattle.stepping.specs.Judged.{Stepped}
-use Rattle.budget.specs.Budget.{limitsOf}
+use Rattle.path_budget.specs.Budget.{limitsOf}
 use Rattle.search_state.specs.declared.state.SearchState.{SearchState}
 use Rattle.search_state.specs.Items.{Carries}
 use Rattle.search_state.specs.Reps.{slotOf, Counts, Few, Replayed}
@@ -57,8 +57,8 @@ restTries true n ts = later n ts
 
 pub record Choosing (s : SearchState) (rs item : List ℕ) : Type 0 where
   pub fits : s .kept ≤ s .results
-  pub room : SlotsIn 128 (s .results) rs
-  pub slot : IsSlot 128 item
+  pub room : SlotsIn slotLength (s .results) rs
+  pub slot : IsSlot slotLength item
   pub few : s .budget .complete + 1 < 2 ^ 64
 
 abbrev pub Chooses : SearchState → ℕ → State Path → Pace → List ℕ → Answer LinearRefusal (State Path) → Type 0
@@ -80,13 +80,13 @@ pub record Track (index steps item : List ℕ) (k : ℕ) : Type 0 where
   pub path : Path
   pub count : length (path .edges) ≡ k
   pub stepped : Stepped steps k path
-  pub long : 1024 ≤ length steps
-  pub carries : Carries 128 item (path .edges)
+  pub long : stepsLength ≤ length steps
+  pub carries : Carries slotLength item (path .edges)
   pub good : Replayed (viewOf graph) reference path
 
 -- no edge was appended yet, or the path with it stands in the item and is the one to go on with
 abbrev pub Standing : View → Path → ℕ → List ℕ → List Path → Type 0
-Standing g p found item pending = ((found ≡ 0) × (pending ≡ [])) ⊎ ((0 < found) × (q : Path) × (pending ≡ q ∷ []) × (append g p (found - 1) ≡ ok q) × (item ≡ slotOf q) × (ltb (length (p .edges)) 127 ≡ true))
+Standing g p found item pending = ((found ≡ 0) × (pending ≡ [])) ⊎ ((0 < found) × (q : Path) × (pending ≡ q ∷ []) × (append g p (found - 1) ≡ ok q) × (item ≡ slotOf q) × (ltb (length (p .edges)) maxEdges ≡ true))
 
 -- in the middle of an expansion
 pub record Walk (most : ℕ) (index steps item : List ℕ) (k link : ℕ) (on : Expansion) (rs : List ℕ) : Type 0 where
@@ -114,7 +114,7 @@ module _ (most : ℕ) (index steps item : List ℕ) (k link : ℕ) (on : Expansi
     pub looked : state .tally .looked ≡ v .model .tally .looked + 1
     pub rest : state .rest ≡ []
     pub stands : Standing (viewOf (v .track .graph)) (v .track .path) (n .found) item′ (state .pending)
-    pub carried : Carries 128 item′ (v .track .path .edges)
+    pub carried : Carries slotLength item′ (v .track .path .edges)
     pub frame : frameOf (n .state) ≡ frameOf (on .state)
     pub expanded : n .state .budget .expanded ≡ on .state .budget .expanded
     pub onward : (ts : List (Try LinearRefusal Path)) → answerOf ts ≡ each (settingOf (frameOf (on .state))) state (restTries (ltb 0 (n .found)) (v .track .path .end) ts)
@@ -134,7 +134,7 @@ pub record Walking (index steps item : List ℕ) (s : SearchState) (rs : List �
   pub starts : fromReference (viewOf graph) reference ≡ ok first
   pub none : first .edges ≡ []
   pub begun : Stepped steps 0 first
-  pub long : 1024 ≤ length steps
+  pub long : stepsLength ≤ length steps
   pub words : item ≡ slotOf first
   pub model : State Path
   pub counts : Counts s rs model
@@ -152,7 +152,7 @@ Ends (Walked.Refused x) rs (refuse y) = x ≡ y
 
 module _ (index steps item : List ℕ) (s : SearchState) (rs : List ℕ) (v : Walking index steps item s rs) where
   abbrev pub runOf : Answer LinearRefusal (State Path)
-  runOf = run (settingOf (frameOf s)) (onlyTries base (s .budget .maxLength) (viewOf (v .graph))) 16777216 (v .model)
+  runOf = run (settingOf (frameOf s)) (onlyTries base (s .budget .maxLength) (viewOf (v .graph))) maxExpansions (v .model)
 
   abbrev pub WalkedTo : Walked → List ℕ → Type 0
   WalkedTo a rs′ = Ends a rs′ runOf

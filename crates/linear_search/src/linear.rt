@@ -2,39 +2,38 @@
 // Document 01, "Answer": `try_compute_linear`, "Linear stops at a second appendable edge of one node".
 ghost use mathlib.Core.Path.{_≡_};
 ghost use Prim.Native.Nat.{_≤_};
-ghost use Rattle.semantics.specs.Limits.{base};
+ghost use Rattle.semantics.specs.Limits.{lookedEver};
+ghost use Rattle.semantics.specs.Entries.{linearRequestOf, linearSearch, DoesLinear};
 ghost use Rattle.semantics.specs.Graph.{Graph, viewOf};
-ghost use Rattle.semantics.specs.Image.{symbolBytes, nodesOf, edgesOf, checkImage};
+ghost use Rattle.semantics.specs.Image.{nodesOf, edgesOf};
 ghost use Rattle.semantics.specs.Recorded.{recorded, returned};
 ghost use Rattle.semantics.specs.Told.{toldLinearResolution};
-ghost use Rattle.semantics.specs.Calls.{linearCall};
-ghost use Rattle.storage.specs.Rows.{FEW, Loaded, Takes};
+ghost use Rattle.storage.specs.Index.{FEW, Loaded, Takes, HoldsGraph};
 ghost use Rattle.path.specs.Shadows.Laws.{JumpAt};
-ghost use Rattle.recorded.specs.Beatable.{HoldsGraph};
-ghost use Rattle.recorded.specs.Replies.{replyOf};
+ghost use Rattle.reply.specs.Replies.{replyOf};
 ghost use Rattle.linear_search.specs.Walks.{withState, Choosing, Chosen, Walk, Paced, Walking, Ends, WalkedTo};
-ghost use Rattle.linear_search.specs.LinearRequests.{linearRequestOf, linearOf, walkedOf, DoesLinear};
+ghost use Rattle.linear_search.specs.LinearAnswers.{linearOf, walkedOf};
 use edge_trial::trial;
-use edge_trial::trial::Trial;
-use recorded::reply::Reply;
-use recorded::reply::finish;
-use search_state::item;
-use search_state::retrace::STEP_WORDS;
+use edge_trial::trial::EdgeTrial;
+use reply::finish::Reply;
+use reply::finish::finish;
+use search_state::path_slot;
 use search_state::state::Recorded;
 use search_state::state::SearchState;
 use semantics::answer::Checked;
 use semantics::answer::LinearResolution;
 use semantics::bounds::SLOT_WORDS;
+use semantics::bounds::STEPS_WORDS;
 use semantics::graph::EdgeId;
 use semantics::graph::NodeId;
 use semantics::refusal::LinearRefusal;
 use semantics::search::SearchLimits;
-use stepping::again;
+use stepping::remaking;
 use stepping::step;
 use stepping::step::Effect;
 use stepping::steps;
+use storage::blocks;
 use storage::check;
-use storage::rows;
 use storage::store;
 use words::slots;
 
@@ -96,22 +95,23 @@ fn try_edge(
     on: Expansion,
     result: &mut [u32],
 ) -> Pace
-    requires { ⌜ Walk 1099511627776 (now index) (now steps) (now item) k link on (now result) ⌝ }
-    ensures { λ r. ⌜ ((v : Walk 1099511627776 (now (index .entry)) (now (steps .entry)) (now (item .entry)) k link on (now (result .entry))) → Paced 1099511627776 (now (index .entry)) (now (steps .entry)) (now (item .entry)) k link on (now (result .entry)) v r (now (item .exit)) (now (result .exit))) ⌝ }
+    requires { ⌜ Walk lookedEver (now index) (now steps) (now item) k link on (now result) ⌝ }
+    ensures { λ r. ⌜ ((v : Walk lookedEver (now (index .entry)) (now (steps .entry)) (now (item .entry)) k link on (now (result .entry)))
+        → Paced lookedEver (now (index .entry)) (now (steps .entry)) (now (item .entry)) k link on (now (result .entry)) v r (now (item .exit)) (now (result .exit))) ⌝ }
 {
     let state = on.state;
     let budget = state.budget;
     let edge = link - 1;
-    match trial::judge(index, steps, &item[1..k + 1], edge, budget) {
-        Trial::Cut => Pace::On(on.with_state(state.cut())),
-        Trial::Overlong => Pace::On(on.with_state(state.measure(k as u64 + 1))),
-        Trial::Rejected => Pace::On(on.with_state(state.reject())),
-        Trial::TooLong => Pace::Refused(LinearRefusal::TooLong),
-        Trial::Extended { complete } => {
+    match trial::judge_edge(index, steps, &item[1..k + 1], edge, budget) {
+        EdgeTrial::Cut => Pace::On(on.with_state(state.cut())),
+        EdgeTrial::Overlong => Pace::On(on.with_state(state.measure(k as u64 + 1))),
+        EdgeTrial::Rejected => Pace::On(on.with_state(state.reject())),
+        EdgeTrial::TooLong => Pace::Refused(LinearRefusal::TooLong),
+        EdgeTrial::Extended { complete } => {
             if 0 < on.found {
                 return Pace::Second;
             }
-            item::with_edge(item, k, edge);
+            path_slot::with_edge(item, k, edge);
             choose(state, link, complete, result, item)
         }
     }
@@ -126,7 +126,8 @@ fn walk(
     result: &mut [u32],
 ) -> Walked
     requires { ⌜ Walking (now index) (now steps) (now item) first (now result) ⌝ }
-    ensures { λ r. ⌜ ((v : Walking (now (index .entry)) (now (steps .entry)) (now (item .entry)) first (now (result .entry))) → WalkedTo (now (index .entry)) (now (steps .entry)) (now (item .entry)) first (now (result .entry)) v r (now (result .exit))) ⌝ }
+    ensures { λ r. ⌜ ((v : Walking (now (index .entry)) (now (steps .entry)) (now (item .entry)) first (now (result .entry)))
+        → WalkedTo (now (index .entry)) (now (steps .entry)) (now (item .entry)) first (now (result .entry)) v r (now (result .exit))) ⌝ }
 {
     let mut state = first;
     let mut k: usize = 0;
@@ -155,7 +156,7 @@ fn walk(
         if on.found < 1 {
             return Walked::Over(state);
         }
-        again::advance(index, steps, k as u32, on.found - 1);
+        remaking::advance(index, steps, k as u32, on.found - 1);
         k += 1;
     }
     Walked::Refused(LinearRefusal::MultipleEdges(NodeId(end)))
@@ -171,7 +172,7 @@ fn attempt(index: &[u32], reference: u32, limits: SearchLimits, result: &mut [u3
     match begun {
         Effect::Refused(r) => Walked::Refused(LinearRefusal::Path(r)),
         Effect::Done(first) => {
-            let mut steps = [0u32; STEP_WORDS];
+            let mut steps = [0u32; STEPS_WORDS];
             let mut item = [0u32; SLOT_WORDS];
             steps::put_step(&mut steps, 0, first);
             let state = SearchState::new(limits, result.len() / SLOT_WORDS);
@@ -181,7 +182,7 @@ fn attempt(index: &[u32], reference: u32, limits: SearchLimits, result: &mut [u3
 }
 
 // The search on a loaded graph with the paths of the reply; the result area as every call leaves it.
-pub fn search_loaded(
+fn search_loaded(
     index: &[u32],
     reference: u32,
     limits: SearchLimits,
@@ -189,7 +190,8 @@ pub fn search_loaded(
     result: &mut [u32],
 ) -> LinearResolution
     requires { ⌜ HoldsGraph (now index) ⌝ }
-    ensures { λ r. ⌜ ((g : Graph) → Loaded g (now (index .entry)) → JumpAt (viewOf g) → DoesLinear (walkedOf g reply (linearRequestOf limits (now (result .entry)) reference)) r (now (result .exit))) ⌝ }
+    ensures { λ r. ⌜ ((g : Graph) → Loaded g (now (index .entry)) → JumpAt (viewOf g)
+        → DoesLinear (walkedOf g reply (linearRequestOf limits (now (result .entry)) reference)) r (now (result .exit))) ⌝ }
 {
     match attempt(index, reference, limits, result) {
         Walked::Over(state) => {
@@ -216,7 +218,7 @@ fn search_in(
     result: &mut [u32],
 ) -> LinearResolution
     requires { ⌜ Takes (now image) (now index) ⌝ }
-    ensures { λ r. ⌜ DoesLinear (linearCall base (replyOf reply) (checkImage symbolBytes (now (image .entry))) (linearRequestOf limits (now (result .entry)) reference)) r (now (result .exit)) ⌝ }
+    ensures { λ r. ⌜ DoesLinear (linearSearch (replyOf reply) (now (image .entry)) reference limits (now (result .entry))) r (now (result .exit)) ⌝ }
 {
     match check::load_fresh(image, index) {
         Checked::Refused(r) => {
@@ -240,9 +242,9 @@ pub fn search_small(
     result: &mut [u32],
 ) -> LinearResolution
     requires { ⌜ (nodesOf (now image) ≤ FEW) × (edgesOf (now image) ≤ FEW) ⌝ }
-    ensures { λ r. ⌜ DoesLinear (linearCall base (replyOf reply) (checkImage symbolBytes (now (image .entry))) (linearRequestOf limits (now (result .entry)) reference)) r (now (result .exit)) ⌝ }
+    ensures { λ r. ⌜ DoesLinear (linearSearch (replyOf reply) (now (image .entry)) reference limits (now (result .entry))) r (now (result .exit)) ⌝ }
 {
-    let mut index = [0u32; rows::SMALL];
+    let mut index = [0u32; blocks::SMALL];
     search_in(image, &mut index, reference, limits, reply, result)
 }
 
@@ -254,9 +256,9 @@ pub fn search_large(
     reply: Reply,
     result: &mut [u32],
 ) -> LinearResolution
-    ensures { λ r. ⌜ DoesLinear (linearCall base (replyOf reply) (checkImage symbolBytes (now (image .entry))) (linearRequestOf limits (now (result .entry)) reference)) r (now (result .exit)) ⌝ }
+    ensures { λ r. ⌜ DoesLinear (linearSearch (replyOf reply) (now (image .entry)) reference limits (now (result .entry))) r (now (result .exit)) ⌝ }
 {
-    let mut index = [0u32; rows::INDEX];
+    let mut index = [0u32; blocks::INDEX];
     search_in(image, &mut index, reference, limits, reply, result)
 }
 
@@ -267,7 +269,7 @@ fn search_image(
     reply: Reply,
     result: &mut [u32],
 ) -> LinearResolution
-    ensures { λ r. ⌜ DoesLinear (linearCall base (replyOf reply) (checkImage symbolBytes (now (image .entry))) (linearRequestOf limits (now (result .entry)) reference)) r (now (result .exit)) ⌝ }
+    ensures { λ r. ⌜ DoesLinear (linearSearch (replyOf reply) (now (image .entry)) reference limits (now (result .entry))) r (now (result .exit)) ⌝ }
 {
     if check::is_small(image) {
         return search_small(image, reference, limits, reply, result);
@@ -282,8 +284,8 @@ pub fn search(
     limits: SearchLimits,
     result: &mut [u32],
 ) -> LinearResolution
-    ensures { λ r. ⌜ toldLinearResolution r ≡ toldLinearResolution (linearCall base returned (checkImage symbolBytes (now (image .entry))) (linearRequestOf limits (now (result .entry)) (reference .0)) .answer) ⌝ }
-    ensures { λ _. ⌜ now (result .exit) ≡ linearCall base returned (checkImage symbolBytes (now (image .entry))) (linearRequestOf limits (now (result .entry)) (reference .0)) .result ⌝ }
+    ensures { λ r. ⌜ toldLinearResolution r ≡ toldLinearResolution (linearSearch returned (now (image .entry)) (reference .0) limits (now (result .entry)) .answer) ⌝ }
+    ensures { λ _. ⌜ now (result .exit) ≡ linearSearch returned (now (image .entry)) (reference .0) limits (now (result .entry)) .result ⌝ }
 {
     search_image(image, reference.0, limits, Reply::Returned, result)
 }
@@ -295,8 +297,8 @@ pub fn search_recorded(
     limits: SearchLimits,
     result: &mut [u32],
 ) -> LinearResolution
-    ensures { λ r. ⌜ toldLinearResolution r ≡ toldLinearResolution (linearCall base recorded (checkImage symbolBytes (now (image .entry))) (linearRequestOf limits (now (result .entry)) (reference .0)) .answer) ⌝ }
-    ensures { λ _. ⌜ now (result .exit) ≡ linearCall base recorded (checkImage symbolBytes (now (image .entry))) (linearRequestOf limits (now (result .entry)) (reference .0)) .result ⌝ }
+    ensures { λ r. ⌜ toldLinearResolution r ≡ toldLinearResolution (linearSearch recorded (now (image .entry)) (reference .0) limits (now (result .entry)) .answer) ⌝ }
+    ensures { λ _. ⌜ now (result .exit) ≡ linearSearch recorded (now (image .entry)) (reference .0) limits (now (result .entry)) .result ⌝ }
 {
     search_image(image, reference.0, limits, Reply::Recorded, result)
 }

@@ -7,6 +7,7 @@ use mathlib.Core.Bool.{Bool, false}
 use mathlib.Core.List.{List, _++_}
 use lib.Dec.{leb, ltb}
 use lib.ListN.{length, take, getD}
+use Rattle.semantics.specs.Limits.{slotLength, maxExpansions}
 use Rattle.semantics.specs.declared.search.PartialPathStats.{PartialPathStats}
 use Rattle.semantics.specs.declared.refusal.PartialPathRefusal.{PartialPathRefusal}
 use Rattle.semantics.specs.Lists.{and}
@@ -15,10 +16,10 @@ use Rattle.semantics.specs.Words.{zeros}
 use Rattle.semantics.specs.Graph.{Graph, viewOf}
 use Rattle.semantics.specs.Enumeration.{State, each, run, merge}
 use Rattle.semantics.specs.PartialPaths.{Route, partialStats}
-use Rattle.storage.specs.Rows.{Loaded}
+use Rattle.storage.specs.Index.{Loaded}
 use Rattle.words.specs.Slots.{IsSlot}
 use Rattle.partial_state.specs.declared.filing.Filing.{Filing}
-use Rattle.partial_state.specs.declared.extraction.Frame.{Frame}
+use Rattle.partial_state.specs.declared.extraction.ExtractionFrame.{ExtractionFrame}
 use Rattle.partial_state.specs.Routes.{held, Waiting}
 use Rattle.partial_state.specs.Filings.{Fits, filedIn}
 use Rattle.partial_state.specs.Reps.{frameOf, settingOf, Rep, Untouched, Tells}
@@ -33,9 +34,9 @@ pub mod Kept
 pub record Grown (x : Computation) (item ws : List ℕ) (y : Computation) (item′ ws′ : List ℕ) : Type 0 where
   pub words : ℕ
   pub longer : x .frontier .length < words
-  pub most : words ≤ 128
+  pub most : words ≤ slotLength
   pub grows : Grows x ws words y ws′
-  pub rest : item′ ≡ take (x .frontier .length) item ++ zeros (128 - x .frontier .length)
+  pub rest : item′ ≡ take (x .frontier .length) item ++ zeros (slotLength - x .frontier .length)
 
 -- or there is room, or no slot is longer
 abbrev pub MadeRoom : Computation → List ℕ → List ℕ → Computation → List ℕ → List ℕ → Type 0
@@ -64,12 +65,12 @@ pub record Driving (index : List ℕ) (f : Filing) (item : List ℕ) (x : Comput
   pub graph : Graph
   pub loaded : Loaded graph index
   pub origin : List ℕ
-  pub slot : IsSlot 128 item
+  pub slot : IsSlot slotLength item
   pub fits : Fits f db
   pub model : State Route
   pub rep : Rep (viewOf graph) f origin x ws db model
   pub looked : model .tally .looked ≤ 4096 * x .budget .expanded
-  pub expanded : x .budget .expanded ≤ 16777216
+  pub expanded : x .budget .expanded ≤ maxExpansions
 
 -- as many are found as there is room for, and there is room for some
 abbrev pub isFiled : Filing → ℕ → Bool
@@ -87,8 +88,8 @@ Ends f origin (Refused r) db (ok u) = ⊥
 Ends f origin (Refused r) db (refuse y) = (r ≡ y) × Untouched f origin db
 
 -- the enumeration's run with so many expansions left
-abbrev pub runFrom : Frame → Graph → ℕ → ℕ → State Route → Answer PartialPathRefusal (State Route)
+abbrev pub runFrom : ExtractionFrame → Graph → ℕ → ℕ → State Route → Answer PartialPathRefusal (State Route)
 runFrom fr g file n m = run (settingOf fr) (triesOf fr g file) n (merge (fr .order) m)
 
 abbrev pub DrivenTo : (index : List ℕ) (f : Filing) (item : List ℕ) (x : Computation) (ws db : List ℕ) → Driving index f item x ws db → Computed → List ℕ → Type 0
-DrivenTo index f item x ws db v a db′ = Ends f (v .origin) a db′ (runFrom (frameOf x) (v .graph) (f .file) (16777216 - x .budget .expanded) (v .model))
+DrivenTo index f item x ws db v a db′ = Ends f (v .origin) a db′ (runFrom (frameOf x) (v .graph) (f .file) (maxExpansions - x .budget .expanded) (v .model))

@@ -3,21 +3,22 @@
 ghost use mathlib.Core.Path.{_≡_};
 ghost use Prim.Native.Nat.{_+_, _≤_, _<_, _^_};
 ghost use lib.ListN.{length, take, getD};
-ghost use Rattle.graph_search.specs.Frontier.{Framed, Wider};
+ghost use Rattle.semantics.specs.Limits.{slotLength, lookedBefore};
+ghost use Rattle.path_frontier.specs.Frontier.{Framed, Wider};
 ghost use Rattle.partial_state.specs.Extractions.{at, goingAt, takenAt, Taking};
 ghost use Rattle.partial.specs.Rounds.{nothingCounted, isFiled, MadeRoom, Rounding, Rounded, Driving, DrivenTo};
-ghost use Rattle.partial.specs.Requests.{Computing, ComputedTo};
-use graph_search::path_frontier::SHORT_SLOT;
-use graph_search::path_frontier::longer;
+ghost use Rattle.partial.specs.Replacements.{Computing, ComputedTo};
 use partial_state::extraction::Config;
+use partial_state::extraction::Extracting;
 use partial_state::extraction::Extraction;
-use partial_state::extraction::Frame;
-use partial_state::extraction::Going;
-use partial_state::extraction::Taken;
+use partial_state::extraction::ExtractionFrame;
+use partial_state::extraction::ExtractionTurn;
 use partial_state::filing::Filing;
 use partial_state::route;
 use partial_trial::expand;
 use partial_trial::seed;
+use path_frontier::frontier::SHORT_SLOT;
+use path_frontier::frontier::longer;
 use semantics::bounds::SLOT_WORDS;
 use semantics::refusal::PartialPathRefusal;
 use semantics::search::PartialPathStats;
@@ -54,7 +55,12 @@ fn is_filed(filing: Filing, found: u64) -> bool
 }
 
 // The next route is copied into the front of the item, as many words as a slot has.
-fn take_front(on: Extraction, work: &mut [u32], item: &mut [u32], frame: Frame) -> Taken
+fn take_front(
+    on: Extraction,
+    work: &mut [u32],
+    item: &mut [u32],
+    frame: ExtractionFrame,
+) -> ExtractionTurn
     requires { ⌜ Framed (at frame on .frontier) (now work) × (frame .slot ≤ length (now item)) × (on .expanded + 1 < 2 ^ 64) ⌝ }
     ensures { λ r. ⌜ Taking (at frame on) (now (work .entry)) (takenAt frame r) (take (frame .slot) (now (item .exit))) (now (work .exit)) ⌝ }
 {
@@ -64,8 +70,14 @@ fn take_front(on: Extraction, work: &mut [u32], item: &mut [u32], frame: Frame) 
 
 // A route that fills its slot has no word for one more edge: then the slots get more words, and so does the route in the item. Copies take
 // longer then, and few routes are as long as any may be.
-fn make_room(extraction: Extraction, item: &mut [u32], work: &mut [u32], frame: Frame) -> Frame
-    requires { ⌜ Framed (at frame extraction .frontier) (now work) × Wider (at frame extraction .frontier) (now work) 128 × (length (now item) ≡ 128) × (getD (now item) 0 0 < 128) ⌝ }
+fn make_room(
+    extraction: Extraction,
+    item: &mut [u32],
+    work: &mut [u32],
+    frame: ExtractionFrame,
+) -> ExtractionFrame
+    requires { ⌜ Framed (at frame extraction .frontier) (now work) × Wider (at frame extraction .frontier) (now work) slotLength × (length (now item) ≡ slotLength)
+        × (getD (now item) 0 0 < slotLength) ⌝ }
     ensures { λ r. ⌜ MadeRoom (at frame extraction) (now (item .entry)) (now (work .entry)) (at r extraction) (now (item .exit)) (now (work .exit)) ⌝ }
 {
     let slot = frame.slot;
@@ -88,10 +100,12 @@ fn round(
     extraction: Extraction,
     work: &mut [u32],
     words: &mut [u32],
-    frame: Frame,
-) -> Going
-    requires { ⌜ Rounding 549755813888 (now index) filing (now item) (at frame extraction) (now work) (now words) ⌝ }
-    ensures { λ r. ⌜ ((v : Rounding 549755813888 (now (index .entry)) filing (now (item .entry)) (at frame extraction) (now (work .entry)) (now (words .entry))) → Rounded 549755813888 (now (index .entry)) filing (now (item .entry)) (at frame extraction) (now (work .entry)) (now (words .entry)) v (goingAt frame r) (now (work .exit)) (now (words .exit))) ⌝ }
+    frame: ExtractionFrame,
+) -> Extracting
+    requires { ⌜ Rounding lookedBefore (now index) filing (now item) (at frame extraction) (now work) (now words) ⌝ }
+    ensures { λ r. ⌜ ((v : Rounding lookedBefore (now (index .entry)) filing (now (item .entry)) (at frame extraction) (now (work .entry)) (now (words .entry)))
+        → Rounded lookedBefore (now (index .entry)) filing (now (item .entry)) (at frame extraction) (now (work .entry)) (now (words .entry)) v (goingAt frame r)
+        (now (work .exit)) (now (words .exit))) ⌝ }
 {
     let ends = route::ends_of(index, item);
     let k = item[0] as usize;
@@ -106,10 +120,12 @@ fn round_front(
     extraction: Extraction,
     work: &mut [u32],
     words: &mut [u32],
-    frame: Frame,
-) -> Going
-    requires { ⌜ Rounding 549755813888 (now index) filing (take (frame .slot) (now item)) (at frame extraction) (now work) (now words) × (frame .slot ≤ length (now item)) ⌝ }
-    ensures { λ r. ⌜ ((v : Rounding 549755813888 (now (index .entry)) filing (take (frame .slot) (now (item .entry))) (at frame extraction) (now (work .entry)) (now (words .entry))) → Rounded 549755813888 (now (index .entry)) filing (take (frame .slot) (now (item .entry))) (at frame extraction) (now (work .entry)) (now (words .entry)) v (goingAt frame r) (now (work .exit)) (now (words .exit))) ⌝ }
+    frame: ExtractionFrame,
+) -> Extracting
+    requires { ⌜ Rounding lookedBefore (now index) filing (take (frame .slot) (now item)) (at frame extraction) (now work) (now words) × (frame .slot ≤ length (now item)) ⌝ }
+    ensures { λ r. ⌜ ((v : Rounding lookedBefore (now (index .entry)) filing (take (frame .slot) (now (item .entry))) (at frame extraction) (now (work .entry))
+        (now (words .entry))) → Rounded lookedBefore (now (index .entry)) filing (take (frame .slot) (now (item .entry))) (at frame extraction) (now (work .entry))
+        (now (words .entry)) v (goingAt frame r) (now (work .exit)) (now (words .exit))) ⌝ }
 {
     let slot = frame.slot;
     round(
@@ -132,10 +148,11 @@ fn drive(
     extraction: Extraction,
     work: &mut [u32],
     words: &mut [u32],
-    frame: Frame,
+    frame: ExtractionFrame,
 ) -> Computed
     requires { ⌜ Driving (now index) filing (now item) (at frame extraction) (now work) (now words) ⌝ }
-    ensures { λ r. ⌜ ((v : Driving (now (index .entry)) filing (now (item .entry)) (at frame extraction) (now (work .entry)) (now (words .entry))) → DrivenTo (now (index .entry)) filing (now (item .entry)) (at frame extraction) (now (work .entry)) (now (words .entry)) v r (now (words .exit))) ⌝ }
+    ensures { λ r. ⌜ ((v : Driving (now (index .entry)) filing (now (item .entry)) (at frame extraction) (now (work .entry)) (now (words .entry)))
+        → DrivenTo (now (index .entry)) filing (now (item .entry)) (at frame extraction) (now (work .entry)) (now (words .entry)) v r (now (words .exit))) ⌝ }
 {
     let mut on = extraction;
     let mut slot = frame.slot;
@@ -145,16 +162,18 @@ fn drive(
         }
         let within = frame.with_slot(slot);
         match take_front(on, work, item, within) {
-            Taken::Over(last) => return Computed::Done(last.stats()),
-            Taken::TooMany => return Computed::Refused(PartialPathRefusal::TooManyExpansions),
-            Taken::Expand(next) => {
+            ExtractionTurn::Over(last) => return Computed::Done(last.stats()),
+            ExtractionTurn::TooMany => return Computed::Refused(
+                PartialPathRefusal::TooManyExpansions,
+            ),
+            ExtractionTurn::Expand(next) => {
                 let ready = make_room(next, item, work, within);
                 slot = ready.slot;
                 match round_front(index, filing, item, next, work, words, ready) {
-                    Going::On(s) => {
+                    Extracting::On(s) => {
                         on = s;
                     }
-                    Going::Refused(r) => return Computed::Refused(r),
+                    Extracting::Refused(r) => return Computed::Refused(r),
                 }
             }
         }
@@ -162,7 +181,7 @@ fn drive(
 }
 
 // The whole computation for a file of a graph of so many nodes; the work area is left as it may be.
-pub fn compute(
+pub(crate) fn compute(
     index: &[u32],
     nodes: u32,
     filing: Filing,
@@ -175,7 +194,7 @@ pub fn compute(
 {
     let mut start = [0u32; SHORT_SLOT];
     let mut item = [0u32; SLOT_WORDS];
-    let frame = Frame::new(config, work.len() / SLOT_WORDS);
+    let frame = ExtractionFrame::new(config, work.len() / SLOT_WORDS);
     let extraction = Extraction::new();
     match seed::seed(
         index,
@@ -186,7 +205,7 @@ pub fn compute(
         work,
         frame,
     ) {
-        Going::On(on) => drive(index, filing, &mut item, on, work, words, frame),
-        Going::Refused(r) => Computed::Refused(r),
+        Extracting::On(on) => drive(index, filing, &mut item, on, work, words, frame),
+        Extracting::Refused(r) => Computed::Refused(r),
     }
 }

@@ -4,13 +4,14 @@
 // found there is none.
 ghost use mathlib.Core.Path.{_≡_};
 ghost use Prim.Native.Nat.{_≤_};
+ghost use Rattle.semantics.specs.Entries.{graphIn, replaceFile, Changes, Leaves};
 ghost use Rattle.semantics.specs.Limits.{base};
-ghost use Rattle.semantics.specs.Image.{symbolBytes, nodesOf, edgesOf, checkImage};
+ghost use Rattle.semantics.specs.Image.{nodesOf, edgesOf};
 ghost use Rattle.semantics.specs.Told.{toldReplacement};
-ghost use Rattle.semantics.specs.Database.{filesOnly, replaceWords};
+ghost use Rattle.semantics.specs.Database.{knownOwners, replaceWords};
 ghost use Rattle.semantics.specs.Calls.{replaceCall};
-ghost use Rattle.storage.specs.Rows.{FEW, Takes};
-ghost use Rattle.partial.specs.Requests.{requestOf, askedBy, Computing, FiledTo, Storing, Replacing, Inspecting, replacedOn, inspectedOn, Leaves, Does};
+ghost use Rattle.storage.specs.Index.{FEW, Takes, Sized};
+ghost use Rattle.partial.specs.Replacements.{askedBy, Computing, FiledTo, Storing, Replacing, replacedOn, inspectedOn};
 use crate::compute;
 use crate::compute::Computed;
 use database::check::Inspected;
@@ -24,8 +25,8 @@ use semantics::graph::FileId;
 use semantics::refusal::PartialPathRefusal;
 use semantics::search::Limit;
 use semantics::search::SearchOrder;
+use storage::blocks;
 use storage::check;
-use storage::rows;
 use words::slots;
 
 // What an accepted graph counts.
@@ -61,7 +62,8 @@ fn store(
     words: &mut [u32],
 )
     requires { ⌜ Storing (now index) sizes filing config (now work) (now words) ⌝ }
-    ensures { λ _. ⌜ ((v : Storing (now (index .entry)) sizes filing config (now (work .entry)) (now (words .entry))) → now (words .exit) ≡ replaceWords base (v .graph) (filing .file) (v .found) (now (words .entry))) ⌝ }
+    ensures { λ _. ⌜ ((v : Storing (now (index .entry)) sizes filing config (now (work .entry)) (now (words .entry))) → now (words .exit)
+        ≡ replaceWords base (v .sized .holds .graph) (filing .file) (v .found) (now (words .entry))) ⌝ }
 {
     replace::clear_file(words, filing.file);
     file_found(index, sizes.nodes, filing, config, work, words);
@@ -79,7 +81,8 @@ fn replace_known(
     words: &mut [u32],
 ) -> Replacement
     requires { ⌜ Replacing (now index) sizes (now words) ⌝ }
-    ensures { λ r. ⌜ ((v : Replacing (now (index .entry)) sizes (now (words .entry))) → Leaves (replacedOn (v .graph) (askedBy config (now (work .entry)) file) (now (words .entry))) r (now (words .exit))) ⌝ }
+    ensures { λ r. ⌜ ((v : Replacing (now (index .entry)) sizes (now (words .entry)))
+        → Leaves (replacedOn (v .sized .holds .graph) (askedBy config (now (work .entry)) file) (now (words .entry))) r (now (words .exit))) ⌝ }
 {
     if sizes.files <= file {
         return Replacement::Refused(PartialPathRefusal::UnknownFile(FileId(file)));
@@ -108,7 +111,7 @@ fn replace_known(
 }
 
 // 35 and 34 before it.
-pub fn replace_loaded(
+fn replace_loaded(
     index: &[u32],
     sizes: Sizes,
     file: u32,
@@ -116,8 +119,9 @@ pub fn replace_loaded(
     work: &mut [u32],
     words: &mut [u32],
 ) -> Replacement
-    requires { ⌜ Inspecting (now index) sizes ⌝ }
-    ensures { λ r. ⌜ ((v : Inspecting (now (index .entry)) sizes) → Leaves (inspectedOn (v .graph) (askedBy config (now (work .entry)) file) (now (words .entry))) r (now (words .exit))) ⌝ }
+    requires { ⌜ Sized (now index) (sizes .nodes) (sizes .files) ⌝ }
+    ensures { λ r. ⌜ ((v : Sized (now (index .entry)) (sizes .nodes) (sizes .files))
+        → Leaves (inspectedOn (v .holds .graph) (askedBy config (now (work .entry)) file) (now (words .entry))) r (now (words .exit))) ⌝ }
 {
     match database::check::check(words, sizes.nodes, sizes.files) {
         Inspected::Refused(r) => Replacement::Database(r),
@@ -135,7 +139,7 @@ fn replace_in(
     words: &mut [u32],
 ) -> Replacement
     requires { ⌜ Takes (now image) (now index) ⌝ }
-    ensures { λ r. ⌜ Does (replaceCall base filesOnly (checkImage symbolBytes (now (image .entry))) (askedBy config (now (work .entry)) file) (now (words .entry))) r (now (work .exit)) (now (words .exit)) ⌝ }
+    ensures { λ r. ⌜ Changes (replaceCall base knownOwners (graphIn (now (image .entry))) (askedBy config (now (work .entry)) file) (now (words .entry))) r (now (work .exit)) (now (words .exit)) ⌝ }
 {
     let checked = check::load_fresh(image, index);
     match checked {
@@ -164,9 +168,9 @@ pub fn replace_small(
     words: &mut [u32],
 ) -> Replacement
     requires { ⌜ (nodesOf (now image) ≤ FEW) × (edgesOf (now image) ≤ FEW) ⌝ }
-    ensures { λ r. ⌜ Does (replaceCall base filesOnly (checkImage symbolBytes (now (image .entry))) (askedBy config (now (work .entry)) file) (now (words .entry))) r (now (work .exit)) (now (words .exit)) ⌝ }
+    ensures { λ r. ⌜ Changes (replaceCall base knownOwners (graphIn (now (image .entry))) (askedBy config (now (work .entry)) file) (now (words .entry))) r (now (work .exit)) (now (words .exit)) ⌝ }
 {
-    let mut index = [0u32; rows::SMALL];
+    let mut index = [0u32; blocks::SMALL];
     replace_in(image, &mut index, file, config, work, words)
 }
 
@@ -178,9 +182,9 @@ pub fn replace_large(
     work: &mut [u32],
     words: &mut [u32],
 ) -> Replacement
-    ensures { λ r. ⌜ Does (replaceCall base filesOnly (checkImage symbolBytes (now (image .entry))) (askedBy config (now (work .entry)) file) (now (words .entry))) r (now (work .exit)) (now (words .exit)) ⌝ }
+    ensures { λ r. ⌜ Changes (replaceCall base knownOwners (graphIn (now (image .entry))) (askedBy config (now (work .entry)) file) (now (words .entry))) r (now (work .exit)) (now (words .exit)) ⌝ }
 {
-    let mut index = [0u32; rows::INDEX];
+    let mut index = [0u32; blocks::INDEX];
     replace_in(image, &mut index, file, config, work, words)
 }
 
@@ -190,18 +194,18 @@ pub fn replace_file(
     file: FileId,
     order: SearchOrder,
     length: Limit,
-    paths: Limit,
+    expansions: Limit,
     work: &mut [u32],
     words: &mut [u32],
 ) -> Replacement
-    ensures { λ r. ⌜ toldReplacement r ≡ toldReplacement (replaceCall base filesOnly (checkImage symbolBytes (now (image .entry))) (requestOf order length paths (now (work .entry)) (file .0)) (now (words .entry)) .answer) ⌝ }
-    ensures { λ _. ⌜ now (work .exit) ≡ replaceCall base filesOnly (checkImage symbolBytes (now (image .entry))) (requestOf order length paths (now (work .entry)) (file .0)) (now (words .entry)) .work ⌝ }
-    ensures { λ _. ⌜ now (words .exit) ≡ replaceCall base filesOnly (checkImage symbolBytes (now (image .entry))) (requestOf order length paths (now (work .entry)) (file .0)) (now (words .entry)) .database ⌝ }
+    ensures { λ r. ⌜ toldReplacement r ≡ toldReplacement (replaceFile (now (image .entry)) (file .0) order length expansions (now (work .entry)) (now (words .entry)) .answer) ⌝ }
+    ensures { λ _. ⌜ now (work .exit) ≡ replaceFile (now (image .entry)) (file .0) order length expansions (now (work .entry)) (now (words .entry)) .work ⌝ }
+    ensures { λ _. ⌜ now (words .exit) ≡ replaceFile (now (image .entry)) (file .0) order length expansions (now (work .entry)) (now (words .entry)) .database ⌝ }
 {
     let config = Config {
         order,
         length,
-        paths,
+        expansions,
     };
     if check::is_small(image) {
         return replace_small(image, file.0, config, work, words);

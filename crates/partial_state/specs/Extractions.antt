@@ -5,40 +5,41 @@ use mathlib.Core.Path.{_≡_}
 use mathlib.Core.Bool.{false}
 use mathlib.Core.List.{List}
 use lib.Dec.{leb}
+use Rattle.semantics.specs.Limits.{maxExpansions}
 use Rattle.semantics.specs.declared.search.SearchStats.{SearchStats}
 use Rattle.semantics.specs.declared.search.PartialPathStats.{PartialPathStats}
 use Rattle.semantics.specs.declared.refusal.PartialPathRefusal.the-variants.{NoWaitingSlot}
 use Rattle.semantics.specs.Lists.{pick}
-use Rattle.budget.specs.declared.path_budget.Budget.{Budget}
-use Rattle.graph_search.specs.declared.path_frontier.Frontier.{Frontier}
-use Rattle.graph_search.specs.declared.path_frontier.Pushed.{Pushed}
-use Rattle.graph_search.specs.declared.path_frontier.Pushed.the-variants as Pushed
-use Rattle.graph_search.specs.declared.path_frontier.Popped.{Popped}
-use Rattle.graph_search.specs.declared.path_frontier.Popped.the-variants as Popped
-use Rattle.budget.specs.Budget.{fresh, withMaxLength, withMaxPaths, expansion, statsOf}
-use Rattle.graph_search.specs.Frontier.{shortSlot, empty, Pushes, Pops, Widens}
+use Rattle.path_budget.specs.declared.budget.Budget.{Budget}
+use Rattle.path_frontier.specs.declared.frontier.Frontier.{Frontier}
+use Rattle.path_frontier.specs.declared.frontier.Pushed.{Pushed}
+use Rattle.path_frontier.specs.declared.frontier.Pushed.the-variants as Pushed
+use Rattle.path_frontier.specs.declared.frontier.Popped.{Popped}
+use Rattle.path_frontier.specs.declared.frontier.Popped.the-variants as Popped
+use Rattle.path_budget.specs.Budget.{fresh, withMaxLength, withMaxPaths, expansion, statsOf}
+use Rattle.path_frontier.specs.Frontier.{shortSlot, empty, Pushes, Pops, Widens}
 use Rattle.semantics.specs.declared.refusal.PartialPathRefusal.{PartialPathRefusal}
 use Rattle.partial_state.specs.declared.extraction.Config.{Config}
-use Rattle.partial_state.specs.declared.extraction.Frame.{Frame}
+use Rattle.partial_state.specs.declared.extraction.ExtractionFrame.{ExtractionFrame}
 use Rattle.partial_state.specs.declared.extraction.Extraction.{Extraction}
-use Rattle.partial_state.specs.declared.extraction.Going.{Going}
-use Rattle.partial_state.specs.declared.extraction.Going.the-variants.{On, Refused}
-use Rattle.partial_state.specs.declared.extraction.Taken.{Taken}
-use Rattle.partial_state.specs.declared.extraction.Taken.the-variants.{Over, Expand, TooMany}
+use Rattle.partial_state.specs.declared.extraction.Extracting.{Extracting}
+use Rattle.partial_state.specs.declared.extraction.Extracting.the-variants.{On, Refused}
+use Rattle.partial_state.specs.declared.extraction.ExtractionTurn.{ExtractionTurn}
+use Rattle.partial_state.specs.declared.extraction.ExtractionTurn.the-variants.{Over, Expand, TooMany}
 pub mod Laws
 
 -- ---- what is handed on in code
 
-abbrev pub frameWith : Config → ℕ → Frame
-frameWith c waiting = record { order = c .order; length = c .length; paths = c .paths; waiting = waiting; slot = shortSlot }
+abbrev pub frameWith : Config → ℕ → ExtractionFrame
+frameWith c waiting = record { order = c .order; length = c .length; expansions = c .expansions; waiting = waiting; slot = shortSlot }
 
 -- with slots of so many words
-abbrev pub slottedBy : ℕ → Frame → Frame
-slottedBy L fr = record { order = fr .order; length = fr .length; paths = fr .paths; waiting = fr .waiting; slot = L }
+abbrev pub slottedBy : ℕ → ExtractionFrame → ExtractionFrame
+slottedBy L fr = record { order = fr .order; length = fr .length; expansions = fr .expansions; waiting = fr .waiting; slot = L }
 
 -- the budget that a computation in this frame begins with
-abbrev pub budgetIn : Frame → Budget
-budgetIn fr = withMaxPaths (fr .paths) (withMaxLength (fr .length) fresh)
+abbrev pub budgetIn : ExtractionFrame → Budget
+budgetIn fr = withMaxPaths (fr .expansions) (withMaxLength (fr .length) fresh)
 
 abbrev pub nothingYet : Extraction
 nothingYet = record { first = 0; count = 0; pending = 0; expanded = 0; cycles = 0; found = 0; lengthLimited = false; countLimited = false }
@@ -85,7 +86,7 @@ pub data Opening : Type 0 where
   exceeding : Opening
 
 -- what is handed on, in its frame
-abbrev pub at : Frame → Extraction → Computation
+abbrev pub at : ExtractionFrame → Extraction → Computation
 at fr p = record {
   frontier = record { order = fr .order; length = fr .slot; first = p .first; count = p .count; pending = p .pending; capacity = fr .waiting };
   budget = resumed p (budgetIn fr);
@@ -93,11 +94,11 @@ at fr p = record {
   found = p .found;
 }
 
-abbrev pub goingAt : Frame → Going → Course
+abbrev pub goingAt : ExtractionFrame → Extracting → Course
 goingAt fr (On p) = goes (at fr p)
 goingAt fr (Refused r) = stops r
 
-abbrev pub takenAt : Frame → Taken → Opening
+abbrev pub takenAt : ExtractionFrame → ExtractionTurn → Opening
 takenAt fr (Over p) = closing (at fr p)
 takenAt fr (Expand p) = opening (at fr p)
 takenAt fr TooMany = exceeding
@@ -142,7 +143,7 @@ pub record Extends (x : Computation) (ws item : List ℕ) (a : Course) (ws′ : 
 abbrev pub admittedOf : Computation → Frontier → Opening
 admittedOf x f =
     pick (expansion (x .budget) .allowed)
-    (pick (leb 16777216 (x .budget .expanded)) exceeding (opening (withFrontier f (withBudget (expansion (x .budget) .budget) x))))
+    (pick (leb maxExpansions (x .budget .expanded)) exceeding (opening (withFrontier f (withBudget (expansion (x .budget) .budget) x))))
     (closing (withBudget (expansion (x .budget) .budget) x))
 
 abbrev pub openingOf : Computation → Popped → Opening

@@ -5,8 +5,7 @@ use mathlib.Core.List.{List}
 use lib.Dec.{ltb}
 use lib.ListN.{length, take}
 use Rattle.semantics.specs.Lists.{pick}
-use Rattle.semantics.specs.Limits.{base}
-use Rattle.semantics.specs.Words.{recordWords}
+use Rattle.semantics.specs.Limits.{base, recordWords}
 use Rattle.semantics.specs.PartialPaths.{Route, slot}
 use Rattle.semantics.specs.Database.{recordPlace, encodeSlot}
 use Rattle.database.specs.Records.{putRecord}

@@ -6,6 +6,7 @@ use mathlib.Core.Logic.{_⊎_}
 use mathlib.Core.Bool.{Bool}
 use mathlib.Core.List.{List, List·Memᴰ}
 use lib.ListN.{length, getD}
+use Rattle.semantics.specs.Limits.{slotLength}
 use Rattle.semantics.specs.declared.search.SearchStats.{SearchStats}
 use Rattle.semantics.specs.declared.refusal.PartialPathRefusal.{PartialPathRefusal}
 use Rattle.semantics.specs.Answer.{Answer, ok, refuse, andThen}
@@ -13,12 +14,12 @@ use Rattle.semantics.specs.Graph.{View}
 use Rattle.semantics.specs.Enumeration.{State, Setting, keep, pushItem}
 use Rattle.semantics.specs.PartialPaths.{Route, partialSetting}
 use Rattle.words.specs.Slots.{IsSlot, SlotsIn}
-use Rattle.graph_search.specs.declared.path_frontier.Frontier.{Frontier}
-use Rattle.graph_search.specs.Frontier.{Framed}
-use Rattle.graph_search.specs.Frontier.Stands.{Stands}
+use Rattle.path_frontier.specs.declared.frontier.Frontier.{Frontier}
+use Rattle.path_frontier.specs.Frontier.{Framed}
+use Rattle.path_frontier.specs.Frontier.Stands.{Stands}
 use Rattle.partial_state.specs.declared.route.Ends.{Ends}
 use Rattle.partial_state.specs.declared.filing.Filing.{Filing}
-use Rattle.partial_state.specs.declared.extraction.Frame.{Frame}
+use Rattle.partial_state.specs.declared.extraction.ExtractionFrame.{ExtractionFrame}
 use Rattle.partial_state.specs.Routes.{held, endsOf, Waiting}
 use Rattle.partial_state.specs.Filings.{Fits, filedIn}
 use Rattle.partial_state.specs.Extractions.{Computation, Course, goes, stops, statsIn}
@@ -36,17 +37,17 @@ pub record Few (n : ℕ) (t : SearchStats) : Type 0 where
   pub cycles : t .cycles ≤ n
 
 -- what a computation never changes
-abbrev pub frameOf : Computation → Frame
-frameOf x = record { order = x .frontier .order; length = x .budget .maxLength; paths = x .budget .maxPaths; waiting = x .frontier .capacity; slot = x .frontier .length }
+abbrev pub frameOf : Computation → ExtractionFrame
+frameOf x = record { order = x .frontier .order; length = x .budget .maxLength; expansions = x .budget .maxPaths; waiting = x .frontier .capacity; slot = x .frontier .length }
 
-abbrev pub settingOf : Frame → Setting PartialPathRefusal
-settingOf f = partialSetting (f .order) (f .paths) (f .waiting)
+abbrev pub settingOf : ExtractionFrame → Setting PartialPathRefusal
+settingOf f = partialSetting (f .order) (f .expansions) (f .waiting)
 
 -- a slot has words for a count and a start, and the area as many slots of full length
 pub record Sized (f : Frontier) (ws : List ℕ) : Type 0 where
   pub start : 2 ≤ f .length
-  pub most : f .length ≤ 128
-  pub room : SlotsIn 128 (f .capacity) ws
+  pub most : f .length ≤ slotLength
+  pub room : SlotsIn slotLength (f .capacity) ws
 
 -- the computation in code, its work area and the database stand for a state of the enumeration; `origin` is the database without what was filed
 pub record Rep (g : View) (f : Filing) (origin : List ℕ) (x : Computation) (ws db : List ℕ) (m : State Route) : Type 0 where
@@ -62,7 +63,7 @@ abbrev pub Untouched : Filing → List ℕ → List ℕ → Type 0
 Untouched f origin db = f .room ≡ 0 → db ≡ origin
 
 -- the computation that goes on stands for the state answered, or it is refused alike
-abbrev pub Tells : View → Filing → List ℕ → Frame → Course → List ℕ → List ℕ → Answer PartialPathRefusal (State Route) → Type 0
+abbrev pub Tells : View → Filing → List ℕ → ExtractionFrame → Course → List ℕ → List ℕ → Answer PartialPathRefusal (State Route) → Type 0
 Tells g f origin fr (goes x) ws db (ok m) = (frameOf x ≡ fr) × Rep g f origin x ws db m
 Tells g f origin fr (goes x) ws db (refuse y) = ⊥
 Tells g f origin fr (stops r) ws db (ok m) = ⊥
@@ -72,7 +73,7 @@ Tells g f origin fr (stops r) ws db (refuse y) = (r ≡ y) × Untouched f origin
 pub record Extendable (x : Computation) (f : Filing) (item ws db : List ℕ) : Type 0 where
   pub framed : Framed (x .frontier) ws
   pub slot : IsSlot (x .frontier .length) item
-  pub most : x .frontier .length ≤ 128
+  pub most : x .frontier .length ≤ slotLength
   pub short : getD item 0 0 < x .frontier .length
   pub few : x .found + 1 < 2 ^ 64
   pub fits : Fits f db

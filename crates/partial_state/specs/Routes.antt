@@ -4,6 +4,7 @@ use Prim.Native.Nat.{ℕ, _≤_, _<_}
 use mathlib.Core.List.{List, [], _∷_}
 use lib.Dec.{ltb}
 use lib.ListN.{length, take, getD}
+use Rattle.semantics.specs.Limits.{maxEdges}
 use Rattle.semantics.specs.declared.graph.Edge.{Edge}
 use Rattle.semantics.specs.declared.graph.Edge.the-variants as E
 use Rattle.semantics.specs.Lists.{pick}
@@ -41,7 +42,7 @@ endsOf r = record { start = r .start; end = r .current }
 -- a route on the way: edges of the file, each going on from the last one's target, and no more than the longest slot has words for
 pub record Traced (g : View) (file : ℕ) (r : Route) : Type 0 where
   pub walk : Walk g (belongs g file) (r .start) (r .edges) (r .current)
-  pub short : length (r .edges) ≤ 127
+  pub short : length (r .edges) ≤ maxEdges
 
 -- one that waits in a slot of L words
 abbrev pub Waiting : View → ℕ → ℕ → Route → Type 0

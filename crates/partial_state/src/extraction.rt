@@ -3,18 +3,19 @@
 ghost use mathlib.Core.Path.{_≡_};
 ghost use Prim.Native.Nat.{_+_, _<_, _≤_, _^_};
 ghost use lib.ListN.{length};
+ghost use Rattle.semantics.specs.Limits.{slotLength};
 ghost use Rattle.words.specs.Slots.{IsSlot};
-ghost use Rattle.graph_search.specs.Frontier.{Framed, Wider};
+ghost use Rattle.path_frontier.specs.Frontier.{Framed, Wider};
 ghost use Rattle.partial_state.specs.Extractions.{at, frameWith, budgetIn, nothingYet, countedBy, placedBy, cutIn, foundIn, goingAt, takenAt, partialIn, Extends, Taking, slottedBy, Grows};
 ghost use Rattle.partial_state.specs.Reps.{Extendable, ExtendsTo};
 use crate::filing;
 use crate::filing::Filing;
 use crate::route::Ends;
-use budget::path_budget::Budget;
-use graph_search::path_frontier::Frontier;
-use graph_search::path_frontier::Popped;
-use graph_search::path_frontier::Pushed;
-use graph_search::path_frontier::SHORT_SLOT;
+use path_budget::budget::Budget;
+use path_frontier::frontier::Frontier;
+use path_frontier::frontier::Popped;
+use path_frontier::frontier::Pushed;
+use path_frontier::frontier::SHORT_SLOT;
 use semantics::bounds::MAX_EXPANSIONS;
 use semantics::bounds::SLOT_WORDS;
 use semantics::refusal::PartialPathRefusal;
@@ -26,14 +27,14 @@ use semantics::search::SearchOrder;
 pub struct Config {
     pub order: SearchOrder,
     pub length: Limit,
-    pub paths: Limit,
+    pub expansions: Limit,
 }
 
 // What a computation never changes: its order, limits, and waiting slots. Their words become more when a route is too long for them.
-pub struct Frame {
+pub struct ExtractionFrame {
     pub order: SearchOrder,
     pub length: Limit,
-    pub paths: Limit,
+    pub expansions: Limit,
     pub waiting: usize,
     pub slot: usize,
 }
@@ -51,29 +52,29 @@ pub struct Extraction {
 }
 
 // The computation goes on, or ends with a refusal.
-pub enum Going {
+pub enum Extracting {
     On(Extraction),
     Refused(PartialPathRefusal),
 }
 
 // At the top of a round: the computation is over, or the route in the item is to be expanded, or it would be one expansion too many.
-pub enum Taken {
+pub enum ExtractionTurn {
     Over(Extraction),
     Expand(Extraction),
     TooMany,
 }
 
-impl Frame {
-    pub fn new(config: Config, waiting: usize) -> Frame
+impl ExtractionFrame {
+    pub fn new(config: Config, waiting: usize) -> ExtractionFrame
         ensures { λ r. ⌜ r ≡ frameWith config waiting ⌝ }
     {
         let order = config.order;
         let length = config.length;
-        let paths = config.paths;
-        Frame {
+        let expansions = config.expansions;
+        ExtractionFrame {
             order,
             length,
-            paths,
+            expansions,
             waiting,
             slot: SHORT_SLOT,
         }
@@ -84,14 +85,14 @@ impl Frame {
         ensures { λ r. ⌜ r ≡ budgetIn self ⌝ }
     {
         let length = self.length;
-        let paths = self.paths;
+        let expansions = self.expansions;
         Budget::new()
             .with_max_path_length(length)
-            .with_max_path_count(paths)
+            .with_max_path_count(expansions)
     }
 
     // The same with slots of so many words.
-    pub fn with_slot(mut self, slot: usize) -> Frame
+    pub fn with_slot(mut self, slot: usize) -> ExtractionFrame
         ensures { λ r. ⌜ r ≡ slottedBy slot self ⌝ }
     {
         self.slot = slot;
@@ -99,8 +100,8 @@ impl Frame {
     }
 
     // Longer routes may wait from now on: the slots get so many words.
-    pub fn widen(self, extraction: Extraction, work: &mut [u32], words: usize) -> Frame
-        requires { ⌜ Framed (at self extraction .frontier) (now work) × Wider (at self extraction .frontier) (now work) words × (words ≤ 128) ⌝ }
+    pub fn widen(self, extraction: Extraction, work: &mut [u32], words: usize) -> ExtractionFrame
+        requires { ⌜ Framed (at self extraction .frontier) (now work) × Wider (at self extraction .frontier) (now work) words × (words ≤ slotLength) ⌝ }
         ensures { λ r. ⌜ Grows (at self extraction) (now (work .entry)) words (at r extraction) (now (work .exit)) ⌝ }
     {
         extraction.frontier(self).widen(work, words);
@@ -125,7 +126,7 @@ impl Extraction {
         }
     }
 
-    fn frontier(self, frame: Frame) -> Frontier
+    fn frontier(self, frame: ExtractionFrame) -> Frontier
         ensures { λ r. ⌜ r ≡ at frame self .frontier ⌝ }
     {
         let order = frame.order;
@@ -140,7 +141,7 @@ impl Extraction {
     }
 
     // The budget that the computation began with, and what was counted and refused since.
-    pub fn budget(self, frame: Frame) -> Budget
+    pub fn budget(self, frame: ExtractionFrame) -> Budget
         ensures { λ r. ⌜ r ≡ at frame self .budget ⌝ }
     {
         let mut budget = frame.budget();
@@ -189,15 +190,15 @@ impl Extraction {
     }
 
     // The route in the item waits; 31 when all waiting slots are taken.
-    pub fn push(self, work: &mut [u32], item: &[u32], frame: Frame) -> Going
+    pub fn push(self, work: &mut [u32], item: &[u32], frame: ExtractionFrame) -> Extracting
         requires { ⌜ Framed (at frame self .frontier) (now work) × IsSlot (frame .slot) (now item) ⌝ }
         ensures { λ r. ⌜ Extends (at frame self) (now (work .entry)) (now (item .entry)) (goingAt frame r) (now (work .exit)) ⌝ }
     {
         let pushed = self.frontier(frame).push(work, item);
         let Pushed::Done(next) = pushed else {
-            return Going::Refused(PartialPathRefusal::NoWaitingSlot);
+            return Extracting::Refused(PartialPathRefusal::NoWaitingSlot);
         };
-        Going::On(self.with_frontier(next))
+        Extracting::On(self.with_frontier(next))
     }
 
     // A route was extended: at an endpoint it is found, counted and filed; then it waits.
@@ -209,8 +210,8 @@ impl Extraction {
         item: &[u32],
         work: &mut [u32],
         words: &mut [u32],
-        frame: Frame,
-    ) -> Going
+        frame: ExtractionFrame,
+    ) -> Extracting
         requires { ⌜ Extendable (at frame self) filing (now item) (now work) (now words) ⌝ }
         ensures { λ r. ⌜ ExtendsTo (at frame self) endpoint ends filing (now (item .entry)) (now (work .entry)) (now (words .entry)) (goingAt frame r) (now (work .exit)) (now (words .exit)) ⌝ }
     {
@@ -223,23 +224,23 @@ impl Extraction {
     }
 
     // The next route is taken out of the frontier, and its expansion is put to the budget, then to the bound on expansions.
-    pub fn take(self, work: &mut [u32], item: &mut [u32], frame: Frame) -> Taken
+    pub fn take(self, work: &mut [u32], item: &mut [u32], frame: ExtractionFrame) -> ExtractionTurn
         requires { ⌜ Framed (at frame self .frontier) (now work) × IsSlot (frame .slot) (now item) × (self .expanded + 1 < 2 ^ 64) ⌝ }
         ensures { λ r. ⌜ Taking (at frame self) (now (work .entry)) (takenAt frame r) (now (item .exit)) (now (work .exit)) ⌝ }
     {
         let popped = self.frontier(frame).pop(work, item);
         let Popped::Item(next) = popped else {
-            return Taken::Over(self);
+            return ExtractionTurn::Over(self);
         };
         let asked = self.budget(frame).admitted_expansion();
         let after = self.with_budget(asked.budget);
         if asked.allowed {
             if MAX_EXPANSIONS <= self.expanded {
-                return Taken::TooMany;
+                return ExtractionTurn::TooMany;
             }
-            return Taken::Expand(after.with_frontier(next));
+            return ExtractionTurn::Expand(after.with_frontier(next));
         }
-        Taken::Over(after)
+        ExtractionTurn::Over(after)
     }
 
     pub fn stats(self) -> PartialPathStats

@@ -16,7 +16,7 @@ pub struct Filing {
 }
 
 // The partial path that is found behind n others.
-pub fn file_route(words: &mut [u32], filing: Filing, n: u64, ends: Ends, edges: &[u32])
+pub(crate) fn file_route(words: &mut [u32], filing: Filing, n: u64, ends: Ends, edges: &[u32])
     requires { ⌜ Fits filing (now words) × (length (now edges) ≤ base .edges) ⌝ }
     ensures { λ _. ⌜ now (words .exit) ≡ filedNext filing n ends (now (edges .entry)) (now (words .entry)) ⌝ }
 {

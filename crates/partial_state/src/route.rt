@@ -4,7 +4,7 @@ ghost use mathlib.Core.Path.{_≡_};
 ghost use Prim.Native.Nat.{_<_, _≤_};
 ghost use lib.ListN.{length, getD};
 ghost use Rattle.semantics.specs.PartialPaths.{routeAt, targetOf};
-ghost use Rattle.storage.specs.Rows.{Blocks, edgeRow};
+ghost use Rattle.storage.specs.Index.{Blocks, edgeRow};
 ghost use Rattle.partial_state.specs.Routes.{held, sourceOf, endsIn};
 use semantics::graph::Edge;
 use semantics::graph::EdgeId;

@@ -8,16 +8,16 @@ use mathlib.Core.List.{List, List·Memᴰ}
 use lib.ListN.{length}
 use Rattle.semantics.specs.declared.refusal.PartialPathRefusal.{PartialPathRefusal}
 use Rattle.semantics.specs.Lists.{pick}
-use Rattle.semantics.specs.Limits.{base}
+use Rattle.semantics.specs.Limits.{base, slotLength}
 use Rattle.semantics.specs.Answer.{Answer, ok}
 use Rattle.semantics.specs.Graph.{Graph, viewOf, fileOf, isFile}
 use Rattle.semantics.specs.Enumeration.{State, Try, one, each}
-use Rattle.semantics.specs.PartialPaths.{Route, belongs, ifRoom, judgeRoute, routeTries}
-use Rattle.storage.specs.Rows.{Loaded}
+use Rattle.semantics.specs.PartialPaths.{Route, belongs, reached, judgeRoute, routeTries}
+use Rattle.storage.specs.Index.{Loaded}
 use Rattle.search_state.specs.Items.{Carries}
 use Rattle.partial_state.specs.declared.route.Ends as R
 use Rattle.partial_state.specs.declared.filing.Filing.{Filing}
-use Rattle.partial_state.specs.declared.extraction.Frame.{Frame}
+use Rattle.partial_state.specs.declared.extraction.ExtractionFrame.{ExtractionFrame}
 use Rattle.partial_state.specs.Routes.{Waiting}
 use Rattle.partial_state.specs.Filings.{Fits}
 use Rattle.partial_state.specs.Reps.{frameOf, settingOf, Rep, Tells}
@@ -27,7 +27,7 @@ pub mod Edges
 
 -- behind k edges a slot of L words has room for one more, or is as long as any
 abbrev pub Roomy : ℕ → ℕ → Type 0
-Roomy k L = (k + 1 < L) ⊎ (L ≡ 128)
+Roomy k L = (k + 1 < L) ⊎ (L ≡ slotLength)
 
 -- THE ROUTE UNDER EXPANSION: its edges in the item, and the state of the enumeration; at most `most` edges were looked at
 pub record Given (most : ℕ) (index : List ℕ) (f : Filing) (start k : ℕ) (item : List ℕ) (x : Computation) (ws db : List ℕ) : Type 0 where
@@ -61,10 +61,10 @@ pub record Trying (most : ℕ) (index : List ℕ) (f : Filing) (start k e : ℕ)
   pub owned : belongs (viewOf (looking .given .graph)) (f .file) e ≡ true
 
 -- what becomes of an edge of the file
-abbrev pub judgeOf : Frame → Graph → Route → ℕ → Try PartialPathRefusal Route
+abbrev pub judgeOf : ExtractionFrame → Graph → Route → ℕ → Try PartialPathRefusal Route
 judgeOf fr g r e = judgeRoute base (fr .length) (viewOf g) r e
 
-module _ (most : ℕ) (index : List ℕ) (f : Filing) (start k : ℕ) (item : List ℕ) (x : Computation) (ws db : List ℕ) (v : Given most index f start k item x ws db) where
+module _ {most : ℕ} {index : List ℕ} {f : Filing} {start k : ℕ} {item : List ℕ} {x : Computation} {ws db : List ℕ} (v : Given most index f start k item x ws db) where
   -- the enumeration's answer, and the item with the same route in front
   pub record Answered (a : Course) (item′ ws′ db′ : List ℕ) (t : Answer PartialPathRefusal (State Route)) : Type 0 where
     pub tells : Tells (viewOf (v .graph)) f (v .origin) (frameOf x) a ws′ db′ t
@@ -75,26 +75,26 @@ module _ (most : ℕ) (index : List ℕ) (f : Filing) (start k e : ℕ) (item : 
   abbrev pub Lengthened : Trying most index f start k e item x ws db → Course → List ℕ → List ℕ → List ℕ → Type 0
   Lengthened t a item′ ws′ db′ =
       let v = t .looking .given in
-      Answered most index f start k item x ws db v a item′ ws′ db′ (one (settingOf (frameOf x)) (v .model) (ifRoom true (viewOf (v .graph)) (v .route) e))
+      Answered v a item′ ws′ db′ (one (settingOf (frameOf x)) (v .model) (reached (viewOf (v .graph)) (v .route) e))
 
   -- to an edge of the file
   abbrev pub Tried : Trying most index f start k e item x ws db → Course → List ℕ → List ℕ → List ℕ → Type 0
   Tried t a item′ ws′ db′ =
       let v = t .looking .given in
-      Answered most index f start k item x ws db v a item′ ws′ db′ (one (settingOf (frameOf x)) (v .model) (judgeOf (frameOf x) (v .graph) (v .route) e))
+      Answered v a item′ ws′ db′ (one (settingOf (frameOf x)) (v .model) (judgeOf (frameOf x) (v .graph) (v .route) e))
 
   -- to any edge
   abbrev pub Looked : Looking most index f start k e item x ws db → Course → List ℕ → List ℕ → List ℕ → Type 0
   Looked l a item′ ws′ db′ =
       let v = l .given in
-      Answered most index f start k item x ws db v a item′ ws′ db′ (pick (belongs (viewOf (v .graph)) (f .file) e) (one (settingOf (frameOf x)) (v .model) (judgeOf (frameOf x) (v .graph) (v .route) e)) (ok (v .model)))
+      Answered v a item′ ws′ db′ (pick (belongs (viewOf (v .graph)) (f .file) e) (one (settingOf (frameOf x)) (v .model) (judgeOf (frameOf x) (v .graph) (v .route) e)) (ok (v .model)))
 
 -- ALL ITS EDGES
 pub record Expanding (most : ℕ) (index : List ℕ) (f : Filing) (ends : R.Ends) (k : ℕ) (item : List ℕ) (x : Computation) (ws db : List ℕ) : Type 0 where
   pub given : Given most index f (ends .start) k item x ws db
   pub stands : ends .end ≡ given .route .current
 
-abbrev pub triesOf : Frame → Graph → ℕ → Route → List (Try PartialPathRefusal Route)
+abbrev pub triesOf : ExtractionFrame → Graph → ℕ → Route → List (Try PartialPathRefusal Route)
 triesOf fr g file r = routeTries base (fr .length) (viewOf g) (belongs (viewOf g) file) r
 
 abbrev pub Expanded : (most : ℕ) (index : List ℕ) (f : Filing) (ends : R.Ends) (k : ℕ) (item : List ℕ) (x : Computation) (ws db : List ℕ) → Expanding most index f ends k item x ws db → Course → List ℕ → List ℕ → Type 0

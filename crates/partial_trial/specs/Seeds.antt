@@ -1,7 +1,6 @@
 -- The starts of a file's partial paths, pushed one after another.
 -- Document 01, "Partial paths": "Starts: root, then the file's references and exported scopes by number".
 use Prim.Native.Nat.{ℕ}
-use mathlib.Core.Path.{_≡_}
 use mathlib.Core.List.{List, map}
 use lib.ListN.{length}
 use Rattle.semantics.specs.Lists.{pick, and}
@@ -10,18 +9,11 @@ use Rattle.semantics.specs.Graph.{Graph, View, viewOf, fileOf, isFile, isStart}
 use Rattle.semantics.specs.Enumeration.{State, pushItem}
 use Rattle.semantics.specs.Enumeration as Enumeration
 use Rattle.semantics.specs.PartialPaths.{Route, routeAt, startsFrom, startRoutes}
-use Rattle.storage.specs.Rows.{Loaded}
 use Rattle.words.specs.Slots.{IsSlot}
 use Rattle.partial_state.specs.declared.filing.Filing.{Filing}
 use Rattle.partial_state.specs.Reps.{frameOf, settingOf, Rep, Tells}
 use Rattle.partial_state.specs.Extractions.{Computation, Course}
 pub mod Laws
-
--- the index holds a graph of so many nodes
-pub record Holds (index : List ℕ) (nodes : ℕ) : Type 0 where
-  pub graph : Graph
-  pub loaded : Loaded graph index
-  pub counted : nodes ≡ length (graph .nodes)
 
 -- the computation before its first expansion; the database stays out of it
 pub record Seeding (item : List ℕ) (x : Computation) (ws : List ℕ) : Type 0 where

@@ -3,17 +3,18 @@
 ghost use mathlib.Core.Path.{_≡_};
 ghost use Prim.Native.Nat.{_*_, _<_};
 ghost use lib.ListN.{length};
+ghost use Rattle.semantics.specs.Limits.{maxEdges, lookedEver, lookedBefore};
 ghost use Rattle.semantics.specs.Lists.{or};
 ghost use Rattle.semantics.specs.Graph.{fileOf, isFile};
-ghost use Rattle.storage.specs.Rows.{BLOCK, Blocks, nodeRow, targetRow};
+ghost use Rattle.storage.specs.Index.{BLOCK, Blocks, nodeRow, targetRow};
 ghost use Rattle.partial_state.specs.Extractions.{at, goingAt};
 ghost use Rattle.partial_trial.specs.Expansions.{Owning, Trying, Tried, Looked, Lengthened, Expanding, Expanded};
+use partial_state::extraction::Extracting;
 use partial_state::extraction::Extraction;
-use partial_state::extraction::Frame;
-use partial_state::extraction::Going;
+use partial_state::extraction::ExtractionFrame;
 use partial_state::filing::Filing;
 use partial_state::route::Ends;
-use search_state::item;
+use search_state::path_slot;
 use semantics::bounds::MAX_EDGES;
 use semantics::graph::EdgeId;
 use semantics::graph::NodeId;
@@ -42,12 +43,14 @@ fn lengthen(
     extraction: Extraction,
     work: &mut [u32],
     words: &mut [u32],
-    frame: Frame,
-) -> Going
-    requires { ⌜ Trying 1099511627776 (now index) filing start k edge (now item) (at frame extraction) (now work) (now words) × (k < 127) ⌝ }
-    ensures { λ r. ⌜ ((v : Trying 1099511627776 (now (index .entry)) filing start k edge (now (item .entry)) (at frame extraction) (now (work .entry)) (now (words .entry))) → Lengthened 1099511627776 (now (index .entry)) filing start k edge (now (item .entry)) (at frame extraction) (now (work .entry)) (now (words .entry)) v (goingAt frame r) (now (item .exit)) (now (work .exit)) (now (words .exit))) ⌝ }
+    frame: ExtractionFrame,
+) -> Extracting
+    requires { ⌜ Trying lookedEver (now index) filing start k edge (now item) (at frame extraction) (now work) (now words) × (k < maxEdges) ⌝ }
+    ensures { λ r. ⌜ ((v : Trying lookedEver (now (index .entry)) filing start k edge (now (item .entry)) (at frame extraction) (now (work .entry)) (now (words .entry)))
+        → Lengthened lookedEver (now (index .entry)) filing start k edge (now (item .entry)) (at frame extraction) (now (work .entry)) (now (words .entry)) v
+        (goingAt frame r) (now (item .exit)) (now (work .exit)) (now (words .exit))) ⌝ }
 {
-    item::with_edge(item, k, edge);
+    path_slot::with_edge(item, k, edge);
     let end = store::target(index, EdgeId(edge));
     let endpoint = store::is_endpoint(index, end);
     extraction.extend(
@@ -72,13 +75,15 @@ fn try_edge(
     extraction: Extraction,
     work: &mut [u32],
     words: &mut [u32],
-    frame: Frame,
-) -> Going
-    requires { ⌜ Trying 1099511627776 (now index) filing start k edge (now item) (at frame extraction) (now work) (now words) ⌝ }
-    ensures { λ r. ⌜ ((v : Trying 1099511627776 (now (index .entry)) filing start k edge (now (item .entry)) (at frame extraction) (now (work .entry)) (now (words .entry))) → Tried 1099511627776 (now (index .entry)) filing start k edge (now (item .entry)) (at frame extraction) (now (work .entry)) (now (words .entry)) v (goingAt frame r) (now (item .exit)) (now (work .exit)) (now (words .exit))) ⌝ }
+    frame: ExtractionFrame,
+) -> Extracting
+    requires { ⌜ Trying lookedEver (now index) filing start k edge (now item) (at frame extraction) (now work) (now words) ⌝ }
+    ensures { λ r. ⌜ ((v : Trying lookedEver (now (index .entry)) filing start k edge (now (item .entry)) (at frame extraction) (now (work .entry)) (now (words .entry)))
+        → Tried lookedEver (now (index .entry)) filing start k edge (now (item .entry)) (at frame extraction) (now (work .entry)) (now (words .entry)) v
+        (goingAt frame r) (now (item .exit)) (now (work .exit)) (now (words .exit))) ⌝ }
 {
-    if item::contains(&item[1..k + 1], edge) {
-        return Going::On(extraction.cut());
+    if path_slot::contains(&item[1..k + 1], edge) {
+        return Extracting::On(extraction.cut());
     }
     let asked = extraction.budget(frame).admitted_length(k as u64 + 1);
     if asked.allowed {
@@ -96,9 +101,9 @@ fn try_edge(
                 frame,
             );
         }
-        return Going::Refused(PartialPathRefusal::TooLong);
+        return Extracting::Refused(PartialPathRefusal::TooLong);
     }
-    Going::On(extraction.with_budget(asked.budget))
+    Extracting::On(extraction.with_budget(asked.budget))
 }
 
 // An edge that leaves the route's end is tried if it belongs to the file; an edge of another file is not looked at.
@@ -113,10 +118,12 @@ fn look_at(
     extraction: Extraction,
     work: &mut [u32],
     words: &mut [u32],
-    frame: Frame,
-) -> Going
-    requires { ⌜ Owning 1099511627776 (now index) filing start k edge (now item) (at frame extraction) (now work) (now words) own ⌝ }
-    ensures { λ r. ⌜ ((o : Owning 1099511627776 (now (index .entry)) filing start k edge (now (item .entry)) (at frame extraction) (now (work .entry)) (now (words .entry)) own) → Looked 1099511627776 (now (index .entry)) filing start k edge (now (item .entry)) (at frame extraction) (now (work .entry)) (now (words .entry)) (o .looking) (goingAt frame r) (now (item .exit)) (now (work .exit)) (now (words .exit))) ⌝ }
+    frame: ExtractionFrame,
+) -> Extracting
+    requires { ⌜ Owning lookedEver (now index) filing start k edge (now item) (at frame extraction) (now work) (now words) own ⌝ }
+    ensures { λ r. ⌜ ((o : Owning lookedEver (now (index .entry)) filing start k edge (now (item .entry)) (at frame extraction) (now (work .entry)) (now (words .entry))
+        own) → Looked lookedEver (now (index .entry)) filing start k edge (now (item .entry)) (at frame extraction) (now (work .entry)) (now (words .entry)) (o .looking)
+        (goingAt frame r) (now (item .exit)) (now (work .exit)) (now (words .exit))) ⌝ }
 {
     if belongs(index, filing.file, own, edge) {
         return try_edge(
@@ -132,7 +139,7 @@ fn look_at(
             frame,
         );
     }
-    Going::On(extraction)
+    Extracting::On(extraction)
 }
 
 // Each outgoing edge of the route's end, by ascending number.
@@ -145,10 +152,12 @@ pub fn expand(
     extraction: Extraction,
     work: &mut [u32],
     words: &mut [u32],
-    frame: Frame,
-) -> Going
-    requires { ⌜ Expanding 549755813888 (now index) filing ends k (now item) (at frame extraction) (now work) (now words) ⌝ }
-    ensures { λ r. ⌜ ((v : Expanding 549755813888 (now (index .entry)) filing ends k (now (item .entry)) (at frame extraction) (now (work .entry)) (now (words .entry))) → Expanded 549755813888 (now (index .entry)) filing ends k (now (item .entry)) (at frame extraction) (now (work .entry)) (now (words .entry)) v (goingAt frame r) (now (work .exit)) (now (words .exit))) ⌝ }
+    frame: ExtractionFrame,
+) -> Extracting
+    requires { ⌜ Expanding lookedBefore (now index) filing ends k (now item) (at frame extraction) (now work) (now words) ⌝ }
+    ensures { λ r. ⌜ ((v : Expanding lookedBefore (now (index .entry)) filing ends k (now (item .entry)) (at frame extraction) (now (work .entry)) (now (words .entry)))
+        → Expanded lookedBefore (now (index .entry)) filing ends k (now (item .entry)) (at frame extraction) (now (work .entry)) (now (words .entry)) v (goingAt frame r)
+        (now (work .exit)) (now (words .exit))) ⌝ }
 {
     let own = store::is_of_file(index, NodeId(ends.end), filing.file);
     let mut on = extraction;
@@ -168,11 +177,11 @@ pub fn expand(
             words,
             frame,
         );
-        let Going::On(next) = going else {
+        let Extracting::On(next) = going else {
             return going;
         };
         on = next;
         link = store::next(index, EdgeId(edge));
     }
-    Going::On(on)
+    Extracting::On(on)
 }

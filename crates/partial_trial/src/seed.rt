@@ -3,17 +3,16 @@
 ghost use mathlib.Core.Path.{_≡_};
 ghost use lib.ListN.{length};
 ghost use Rattle.semantics.specs.Graph.{Graph};
-ghost use Rattle.storage.specs.Rows.{Blocks, Loaded};
+ghost use Rattle.storage.specs.Index.{Blocks, Loaded, HoldsNodes};
 ghost use Rattle.partial_state.specs.Extractions.{at, goingAt};
-ghost use Rattle.partial_trial.specs.Seeds.{Holds, Seeding, Started, NodeSeeded, FileSeeded, Seeded};
+ghost use Rattle.partial_trial.specs.Seeds.{Seeding, Started, NodeSeeded, FileSeeded, Seeded};
+use partial_state::extraction::Extracting;
 use partial_state::extraction::Extraction;
-use partial_state::extraction::Frame;
-use partial_state::extraction::Going;
+use partial_state::extraction::ExtractionFrame;
 use partial_state::route;
 use semantics::graph::NodeId;
+use semantics::graph::ROOT;
 use storage::store;
-
-const ROOT: u32 = 0;
 
 // The route without edges from a node waits.
 fn push_start(
@@ -21,10 +20,11 @@ fn push_start(
     item: &mut [u32],
     extraction: Extraction,
     work: &mut [u32],
-    frame: Frame,
-) -> Going
+    frame: ExtractionFrame,
+) -> Extracting
     requires { ⌜ Seeding (now item) (at frame extraction) (now work) ⌝ }
-    ensures { λ r. ⌜ ((v : Seeding (now (item .entry)) (at frame extraction) (now (work .entry))) → Started (now (item .entry)) (at frame extraction) (now (work .entry)) v n (goingAt frame r) (now (work .exit))) ⌝ }
+    ensures { λ r. ⌜ ((v : Seeding (now (item .entry)) (at frame extraction) (now (work .entry)))
+        → Started (now (item .entry)) (at frame extraction) (now (work .entry)) v n (goingAt frame r) (now (work .exit))) ⌝ }
 {
     route::begin(item, n);
     extraction.push(work, item, frame)
@@ -38,17 +38,18 @@ fn seed_node(
     item: &mut [u32],
     extraction: Extraction,
     work: &mut [u32],
-    frame: Frame,
-) -> Going
+    frame: ExtractionFrame,
+) -> Extracting
     requires { ⌜ Blocks (now index) × Seeding (now item) (at frame extraction) (now work) ⌝ }
-    ensures { λ r. ⌜ ((g : Graph) → Loaded g (now (index .entry)) → (v : Seeding (now (item .entry)) (at frame extraction) (now (work .entry))) → NodeSeeded (now (item .entry)) (at frame extraction) (now (work .entry)) v g file n (goingAt frame r) (now (work .exit))) ⌝ }
+    ensures { λ r. ⌜ ((g : Graph) → Loaded g (now (index .entry)) → (v : Seeding (now (item .entry)) (at frame extraction) (now (work .entry)))
+        → NodeSeeded (now (item .entry)) (at frame extraction) (now (work .entry)) v g file n (goingAt frame r) (now (work .exit))) ⌝ }
 {
     if store::is_of_file(index, NodeId(n), file) {
         if store::is_start(index, NodeId(n)) {
             return push_start(n, item, extraction, work, frame);
         }
     }
-    Going::On(extraction)
+    Extracting::On(extraction)
 }
 
 // The file's own starts, by ascending number.
@@ -59,22 +60,24 @@ fn seed_file(
     item: &mut [u32],
     extraction: Extraction,
     work: &mut [u32],
-    frame: Frame,
-) -> Going
-    requires { ⌜ Holds (now index) nodes × Seeding (now item) (at frame extraction) (now work) ⌝ }
-    ensures { λ r. ⌜ ((g : Graph) → Loaded g (now (index .entry)) → nodes ≡ length (g .nodes) → (v : Seeding (now (item .entry)) (at frame extraction) (now (work .entry))) → FileSeeded (now (item .entry)) (at frame extraction) (now (work .entry)) v g file (goingAt frame r) (now (work .exit))) ⌝ }
+    frame: ExtractionFrame,
+) -> Extracting
+    requires { ⌜ HoldsNodes (now index) nodes × Seeding (now item) (at frame extraction) (now work) ⌝ }
+    ensures { λ r. ⌜ ((g : Graph) → Loaded g (now (index .entry)) → nodes ≡ length (g .nodes)
+        → (v : Seeding (now (item .entry)) (at frame extraction) (now (work .entry)))
+        → FileSeeded (now (item .entry)) (at frame extraction) (now (work .entry)) v g file (goingAt frame r) (now (work .exit))) ⌝ }
 {
     let mut on = extraction;
     let mut n = 0;
     while n < nodes {
         let going = seed_node(index, file, n, item, on, work, frame);
-        let Going::On(next) = going else {
+        let Extracting::On(next) = going else {
             return going;
         };
         on = next;
         n += 1;
     }
-    Going::On(on)
+    Extracting::On(on)
 }
 
 // All starts.
@@ -85,13 +88,15 @@ pub fn seed(
     item: &mut [u32],
     extraction: Extraction,
     work: &mut [u32],
-    frame: Frame,
-) -> Going
-    requires { ⌜ Holds (now index) nodes × Seeding (now item) (at frame extraction) (now work) ⌝ }
-    ensures { λ r. ⌜ ((g : Graph) → Loaded g (now (index .entry)) → nodes ≡ length (g .nodes) → (v : Seeding (now (item .entry)) (at frame extraction) (now (work .entry))) → Seeded (now (item .entry)) (at frame extraction) (now (work .entry)) v g file (goingAt frame r) (now (work .exit))) ⌝ }
+    frame: ExtractionFrame,
+) -> Extracting
+    requires { ⌜ HoldsNodes (now index) nodes × Seeding (now item) (at frame extraction) (now work) ⌝ }
+    ensures { λ r. ⌜ ((g : Graph) → Loaded g (now (index .entry)) → nodes ≡ length (g .nodes)
+        → (v : Seeding (now (item .entry)) (at frame extraction) (now (work .entry)))
+        → Seeded (now (item .entry)) (at frame extraction) (now (work .entry)) v g file (goingAt frame r) (now (work .exit))) ⌝ }
 {
     let going = push_start(ROOT, item, extraction, work, frame);
-    let Going::On(next) = going else {
+    let Extracting::On(next) = going else {
         return going;
     };
     seed_file(index, file, nodes, item, next, work, frame)

@@ -5,15 +5,17 @@ use mathlib.Core.Path.{_≡_, refl}
 use mathlib.Core.Bool.{Bool, true, false}
 use mathlib.Core.List.{List, [], _∷_}
 use lib.ListN.{take, replicate}
+use Rattle.semantics.specs.Limits.{maxEdges, stepsLength}
+use Rattle.semantics.specs.Entries.{graphIn}
 use Rattle.semantics.specs.declared.refusal.ImageRefusal.the-variants as Image
 use Rattle.semantics.specs.declared.refusal.PathRefusal.the-variants as P
 use Rattle.semantics.specs.declared.refusal.ReplayRefusal.the-variants as Replay
 use Rattle.semantics.specs.declared.answer.Replayed.the-variants as Replayed
 use Rattle.semantics.specs.Graph.{nodeId}
-use Rattle.semantics.specs.Image.{symbolBytes, checkImage}
+use Rattle.semantics.specs.Image.{checkImage}
 use Rattle.semantics.specs.Cases.Graphs.{imageA, imageD}
 use Rattle.stepping.specs.Judged.{begunOf, judgedOf}
-use Rattle.path.specs.declared.path.Path.{Path}
+use Rattle.semantics.specs.declared.replayed.Path.{Path}
 use Rattle.path.specs.declared.replay.ReplayOutcome.{ReplayOutcome}
 use Rattle.path.specs.Replays.{replayValue}
 
@@ -25,11 +27,11 @@ unset n = replicate n false
 
 -- no path: zero throughout
 abbrev none : Path
-none = record { start = 0; end = 0; count = 0; edges = zeros 127; jumps = unset 127; steps = zeros 1024 }
+none = record { start = 0; end = 0; count = 0; edges = zeros maxEdges; jumps = unset maxEdges; steps = zeros stepsLength }
 
 replayed : List ℕ → ℕ → List ℕ → ReplayOutcome
 unfolding replayValue checkImage
-replayed image reference edges = replayValue (checkImage symbolBytes image) reference edges
+replayed image reference edges = replayValue (graphIn image) reference edges
 
 pub values : List ReplayOutcome
 unfolding replayed
@@ -51,7 +53,7 @@ pub value-cases : values
     ∷ record { answer = Replayed.Refused (Replay.Path (P.IncorrectPoppedSymbol (nodeId 5))); path = none }
     ∷ record {
       answer = Replayed.Done;
-      path = record { start = 2; end = 2; count = 0; edges = zeros 127; jumps = unset 127; steps = 0 ∷ 2 ∷ 1 ∷ 0 ∷ 7 ∷ 0 ∷ 0 ∷ 0 ∷ zeros 1016 };
+      path = record { start = 2; end = 2; count = 0; edges = zeros maxEdges; jumps = unset maxEdges; steps = 0 ∷ 2 ∷ 1 ∷ 0 ∷ 7 ∷ 0 ∷ 0 ∷ 0 ∷ zeros 1016 };
     }
     ∷ record {
       answer = Replayed.Done;
@@ -60,7 +62,7 @@ pub value-cases : values
         end = 4;
         count = 2;
         edges = 0 ∷ 1 ∷ zeros 125;
-        jumps = unset 127;
+        jumps = unset maxEdges;
         steps = 0 ∷ 2 ∷ 1 ∷ 0 ∷ 7 ∷ 0 ∷ 0 ∷ 0 ∷ 0 ∷ 3 ∷ 1 ∷ 0 ∷ 0 ∷ 0 ∷ 0 ∷ 0 ∷ 1 ∷ 4 ∷ 0 ∷ 0 ∷ 0 ∷ 0 ∷ 0 ∷ 0 ∷ zeros 1000;
       };
     }

@@ -22,7 +22,7 @@ use Rattle.semantics.specs.Path as Model
 use Rattle.stepping.specs.declared.step.Effect.{Effect}
 use Rattle.stepping.specs.declared.step.Effect.the-variants.{Done, Refused}
 use Rattle.stepping.specs.Judged.{begunOf, judgedOf}
-use Rattle.path.specs.declared.path.Path.{Path}
+use Rattle.semantics.specs.declared.replayed.Path.{Path}
 use Rattle.path.specs.declared.path.Grown.{Grown}
 use Rattle.path.specs.declared.replay.ReplayOutcome as R
 use Rattle.path.specs.Values.{emptyPath, isJumpEdge, startedBy, appendedBy, Shows}

@@ -1,28 +1,27 @@
 -- A path by value: how it starts, how an edge is added, and what a caller reads off it.
 -- Document 01, "Path": "in a fixed array of 127 numbers"; "answers the path (end, steps, both stacks)".
-use Prim.Native.Nat.{ℕ, zero, suc, _+_, _<_}
+use Prim.Native.Nat.{ℕ, _+_, _<_}
 use mathlib.Core.Path.{_≡_}
 use mathlib.Core.Bool.{Bool, false}
-use mathlib.Core.List.{List, [], _∷_, _++_}
 use lib.Dec.{eqb}
-use lib.ListN.{length, getD, set, take, replicate}
+use lib.ListN.{length, set, take, replicate}
+use Rattle.semantics.specs.Limits.{maxEdges, stepsLength}
+use Rattle.semantics.specs.ReplayedPaths.{passagesTo}
 use Rattle.semantics.specs.declared.graph.Edge.{Edge}
 use Rattle.semantics.specs.declared.graph.Edge.the-variants as E
-use Rattle.semantics.specs.Lists.{consIf}
 use Rattle.semantics.specs.Path as Model
-use Rattle.semantics.specs.Calls.{Passage, edge, jump, passages, ReplayedPath}
-use Rattle.stepping.specs.declared.step.Step.{Step}
+use Rattle.semantics.specs.Calls.{passages}
+use Rattle.semantics.specs.declared.replayed.Step.{Step}
 use Rattle.stepping.specs.declared.step.Effect.{Effect}
 use Rattle.stepping.specs.declared.step.Effect.the-variants.{Done, Refused}
-use Rattle.path.specs.declared.path.Path.{Path}
+use Rattle.semantics.specs.declared.replayed.Path.{Path}
 use Rattle.path.specs.declared.path.Grown.{Grown}
-use Rattle.stepping.specs.Steps.{symbolsOf, scopesOf}
-use Rattle.stepping.specs.StepWords.{stepAt, withStep}
+use Rattle.stepping.specs.StepWords.{withStep}
 use Rattle.stepping.specs.Judged.{Ready, Stepped}
 pub mod Laws
 
 abbrev pub emptyPath : Path
-emptyPath = record { start = 0; end = 0; count = 0; edges = replicate 127 0; jumps = replicate 127 false; steps = replicate 1024 0 }
+emptyPath = record { start = 0; end = 0; count = 0; edges = replicate maxEdges 0; jumps = replicate maxEdges false; steps = replicate stepsLength 0 }
 
 abbrev pub isJumpEdge : Edge → Bool
 isJumpEdge E.Removed = false
@@ -30,7 +29,7 @@ isJumpEdge (E.Live s t p) = eqb (t .0) 1
 
 -- the reference as step 0
 abbrev pub startedBy : ℕ → Effect → Grown
-startedBy r (Done s) = record { effect = Done s; path = record { start = r; end = r; count = 0; edges = replicate 127 0; jumps = replicate 127 false; steps = withStep (replicate 1024 0) 0 s } }
+startedBy r (Done s) = record { effect = Done s; path = record { start = r; end = r; count = 0; edges = replicate maxEdges 0; jumps = replicate maxEdges false; steps = withStep (replicate stepsLength 0) 0 s } }
 startedBy r (Refused x) = record { effect = Refused x; path = emptyPath }
 
 -- the path with an edge and its step
@@ -44,31 +43,14 @@ appendedBy p e j (Refused x) = record { effect = Refused x; path = p }
 
 -- the lengths of its arrays
 pub record Sized (p : Path) : Type 0 where
-  pub edges : length (p .edges) ≡ 127
-  pub jumps : length (p .jumps) ≡ 127
-  pub steps : length (p .steps) ≡ 1024
+  pub edges : length (p .edges) ≡ maxEdges
+  pub jumps : length (p .jumps) ≡ maxEdges
+  pub steps : length (p .steps) ≡ stepsLength
 
 -- an edge may be added
 pub record Growing (p : Path) : Type 0 where
-  pub few : p .count < 127
+  pub few : p .count < maxEdges
   pub ready : Ready (p .steps) (p .count)
-
--- WHAT A CALLER READS
-
--- the first k edges, each with the jump behind it
-unfoldable pub passagesTo : Path → ℕ → List Passage
-passagesTo p zero = []
-passagesTo p (suc j) = passagesTo p j ++ (edge (getD (p .edges) j 0) ∷ consIf (getD (p .jumps) j false) (jump (stepAt (p .steps) (suc j) .end)) [])
-
--- the path as a replay answers it
-abbrev pub readPath : Path → ReplayedPath
-readPath p =
-    record {
-      end = p .end;
-      steps = passagesTo p (p .count);
-      symbols = symbolsOf (stepAt (p .steps)) (stepAt (p .steps) (p .count) .symbols);
-      scopes = scopesOf (stepAt (p .steps)) (stepAt (p .steps) (p .count) .scopes);
-    }
 
 -- a value stands for a path of the definitions
 pub record Shows (x : Path) (p : Model.Path) : Type 0 where

@@ -1,13 +1,13 @@
 // From outside: is a path complete, does one path shadow another? Each path is a reference and a lent edge list, replayed first.
 // Document 01, "Path".
 ghost use mathlib.Core.Path.{_≡_};
+ghost use Rattle.semantics.specs.Entries.{completeOf, shadowsOf};
 ghost use Rattle.semantics.specs.Limits.{base};
 ghost use Rattle.semantics.specs.Graph.{Graph, viewOf};
 ghost use Rattle.semantics.specs.Path as Model;
-ghost use Rattle.semantics.specs.Image.{symbolBytes, checkImage};
 ghost use Rattle.semantics.specs.Told.{toldJudgement};
-ghost use Rattle.semantics.specs.Calls.{leftFirst, completeCall, shadowsCall};
-ghost use Rattle.storage.specs.Rows.{Blocks, Loaded, Takes};
+ghost use Rattle.semantics.specs.Calls.{leftFirst};
+ghost use Rattle.storage.specs.Index.{Blocks, Loaded, Takes};
 ghost use Rattle.path.specs.Shadows.Laws.{JumpAt};
 ghost use Rattle.path.specs.Replays.{judgedAs};
 use crate::replay::replay_loaded;
@@ -18,8 +18,8 @@ use semantics::answer::Replayed;
 use semantics::graph::NodeId;
 use stepping::step;
 use stepping::steps::get_step;
+use storage::blocks;
 use storage::check;
-use storage::rows;
 
 // What is judged of a path that was replayed, or the refusal of its replay.
 fn judged(answer: Replayed, holds: bool) -> Judgement
@@ -41,7 +41,8 @@ fn shadows_loaded(
     right_edges: &[u32],
 ) -> Judgement
     requires { ⌜ Blocks (now index) ⌝ }
-    ensures { λ r. ⌜ ((g : Graph) → Loaded g (now (index .entry)) → JumpAt (viewOf g) → r ≡ leftFirst (Model.replay base (viewOf g) left (now («left_edges» .entry))) (Model.replay base (viewOf g) right (now («right_edges» .entry)))) ⌝ }
+    ensures { λ r. ⌜ ((g : Graph) → Loaded g (now (index .entry)) → JumpAt (viewOf g) → r
+        ≡ leftFirst (Model.replay base (viewOf g) left (now («left_edges» .entry))) (Model.replay base (viewOf g) right (now («right_edges» .entry)))) ⌝ }
 {
     let first = replay_loaded(index, left, left_edges).answer;
     let Replayed::Done = first else {
@@ -54,7 +55,7 @@ fn shadows_loaded(
 // The image is checked into the lent index, then the path is replayed and judged.
 fn is_complete_in(image: &[u8], index: &mut [u32], reference: u32, edges: &[u32]) -> Judgement
     requires { ⌜ Takes (now image) (now index) ⌝ }
-    ensures { λ r. ⌜ toldJudgement r ≡ toldJudgement (completeCall base (checkImage symbolBytes (now (image .entry))) reference (now (edges .entry))) ⌝ }
+    ensures { λ r. ⌜ toldJudgement r ≡ toldJudgement (completeOf (now (image .entry)) reference (now (edges .entry))) ⌝ }
 {
     match check::load_fresh(image, index) {
         Checked::Refused(r) => Judgement::Image(r),
@@ -74,13 +75,13 @@ fn is_complete_in(image: &[u8], index: &mut [u32], reference: u32, edges: &[u32]
 
 // Does the path of a reference and an edge list end at a definition with both stacks empty?
 pub fn is_complete(image: &[u8], reference: NodeId, edges: &[u32]) -> Judgement
-    ensures { λ r. ⌜ toldJudgement r ≡ toldJudgement (completeCall base (checkImage symbolBytes (now (image .entry))) (reference .0) (now (edges .entry))) ⌝ }
+    ensures { λ r. ⌜ toldJudgement r ≡ toldJudgement (completeOf (now (image .entry)) (reference .0) (now (edges .entry))) ⌝ }
 {
     if check::is_small(image) {
-        let mut index = [0u32; rows::SMALL];
+        let mut index = [0u32; blocks::SMALL];
         return is_complete_in(image, &mut index, reference.0, edges);
     }
-    let mut index = [0u32; rows::INDEX];
+    let mut index = [0u32; blocks::INDEX];
     is_complete_in(image, &mut index, reference.0, edges)
 }
 
@@ -94,7 +95,7 @@ fn shadows_in(
     right_edges: &[u32],
 ) -> Judgement
     requires { ⌜ Takes (now image) (now index) ⌝ }
-    ensures { λ r. ⌜ toldJudgement r ≡ toldJudgement (shadowsCall base (checkImage symbolBytes (now (image .entry))) left (now («left_edges» .entry)) right (now («right_edges» .entry))) ⌝ }
+    ensures { λ r. ⌜ toldJudgement r ≡ toldJudgement (shadowsOf (now (image .entry)) left (now («left_edges» .entry)) right (now («right_edges» .entry))) ⌝ }
 {
     match check::load_fresh(image, index) {
         Checked::Refused(r) => Judgement::Image(r),
@@ -114,12 +115,12 @@ pub fn shadows(
     right: NodeId,
     right_edges: &[u32],
 ) -> Judgement
-    ensures { λ r. ⌜ toldJudgement r ≡ toldJudgement (shadowsCall base (checkImage symbolBytes (now (image .entry))) (left .0) (now («left_edges» .entry)) (right .0) (now («right_edges» .entry))) ⌝ }
+    ensures { λ r. ⌜ toldJudgement r ≡ toldJudgement (shadowsOf (now (image .entry)) (left .0) (now («left_edges» .entry)) (right .0) (now («right_edges» .entry))) ⌝ }
 {
     if check::is_small(image) {
-        let mut index = [0u32; rows::SMALL];
+        let mut index = [0u32; blocks::SMALL];
         return shadows_in(image, &mut index, left.0, left_edges, right.0, right_edges);
     }
-    let mut index = [0u32; rows::INDEX];
+    let mut index = [0u32; blocks::INDEX];
     shadows_in(image, &mut index, left.0, left_edges, right.0, right_edges)
 }

@@ -2,36 +2,23 @@
 // What both stacks hold stands in its steps, as inside the searches.
 ghost use mathlib.Core.Path.{_≡_};
 ghost use Prim.Native.Nat.{_<_};
-ghost use Rattle.storage.specs.Rows.{Blocks, nodeRow, edgeRow};
+ghost use Rattle.semantics.specs.ReplayedPaths.{stepAt};
+ghost use Rattle.storage.specs.Index.{Blocks, nodeRow, edgeRow};
 ghost use Rattle.stepping.specs.Judged.{begunOf, judgedOf};
-ghost use Rattle.stepping.specs.StepWords.{stepAt};
 ghost use Rattle.path.specs.Values.{emptyPath, isJumpEdge, startedBy, appendedBy, Sized, Growing};
 use semantics::bounds::MAX_EDGES;
+use semantics::bounds::STEPS_WORDS;
 use semantics::graph::Edge;
 use semantics::graph::EdgeId;
+use semantics::graph::JUMP;
+use semantics::replayed::Path;
+use semantics::replayed::Step;
 use stepping::step::Effect;
-use stepping::step::Step;
 use stepping::step::begin;
 use stepping::steps::get_step;
 use stepping::steps::judge;
 use stepping::steps::put_step;
 use storage::store;
-
-const STEP_WORDS: usize = 1_024;
-
-const JUMP: u32 = 1;
-
-pub struct Path {
-    // the reference, the node where the path stands, and how many edges it has
-    pub start: u32,
-    pub end: u32,
-    pub count: u32,
-    // its edges, and which of them are followed by a jump step
-    pub edges: [u32; MAX_EDGES],
-    pub jumps: [bool; MAX_EDGES],
-    // a step for the reference and for each edge
-    pub steps: [u32; STEP_WORDS],
-}
 
 // What became of an edge, and the path behind it.
 pub struct Grown {
@@ -60,7 +47,7 @@ pub fn step(path: Path, k: u32) -> Step
 }
 
 // No path: what stands beside a refusal.
-pub fn empty() -> Path
+pub(crate) fn empty() -> Path
     ensures { λ r. ⌜ r ≡ emptyPath ⌝ }
 {
     Path {
@@ -69,7 +56,7 @@ pub fn empty() -> Path
         count: 0,
         edges: [0; MAX_EDGES],
         jumps: [false; MAX_EDGES],
-        steps: [0; STEP_WORDS],
+        steps: [0; STEPS_WORDS],
     }
 }
 
@@ -89,7 +76,7 @@ fn is_jump(index: &[u32], edge: u32) -> bool
 }
 
 // The path that starts at a reference.
-pub fn from_reference(index: &[u32], reference: u32) -> Grown
+pub(crate) fn from_reference(index: &[u32], reference: u32) -> Grown
     requires { ⌜ Blocks (now index) ⌝ }
     ensures { λ r. ⌜ r ≡ startedBy reference (begunOf (nodeRow (now (index .entry))) reference) ⌝ }
 {
@@ -110,9 +97,10 @@ pub fn from_reference(index: &[u32], reference: u32) -> Grown
 }
 
 // The path with an edge more, or as it was beside the refusal.
-pub fn append(path: Path, index: &[u32], edge: u32) -> Grown
+pub(crate) fn append(path: Path, index: &[u32], edge: u32) -> Grown
     requires { ⌜ Blocks (now index) × Growing path ⌝ }
-    ensures { λ r. ⌜ r ≡ appendedBy path edge (isJumpEdge (edgeRow (now (index .entry)) edge)) (judgedOf (nodeRow (now (index .entry))) (path .steps) (path .count) edge (edgeRow (now (index .entry)) edge)) ⌝ }
+    ensures { λ r. ⌜ r ≡ appendedBy path edge (isJumpEdge (edgeRow (now (index .entry)) edge))
+        (judgedOf (nodeRow (now (index .entry))) (path .steps) (path .count) edge (edgeRow (now (index .entry)) edge)) ⌝ }
 {
     let count = path.count;
     let mut steps = path.steps;

@@ -3,13 +3,12 @@
 ghost use mathlib.Core.Path.{_≡_};
 ghost use Rattle.semantics.specs.Graph.{nodeId};
 ghost use Rattle.semantics.specs.declared.graph.Edge.the-variants as E;
-ghost use Rattle.storage.specs.Rows.{Blocks, edgeRow};
+ghost use Rattle.storage.specs.Index.{Blocks, edgeRow};
 ghost use Rattle.path.specs.Shadows.{alike, meet, yes, shadowsEdges};
 use semantics::graph::Edge;
 use semantics::graph::EdgeId;
+use semantics::graph::JUMP;
 use storage::store;
-
-const JUMP: u32 = 1;
 
 // Where the walk stands behind two edges.
 pub enum Met {

@@ -6,7 +6,7 @@ ghost use Rattle.path_words.specs.Written.{Adds};
 pub const NONE: u32 = 0;
 
 // A word at a place, and the place behind it. A full area takes no more and the place stays, so that it never overflows.
-pub fn put(area: &mut [u32], at: usize, word: u32) -> usize
+pub(crate) fn put(area: &mut [u32], at: usize, word: u32) -> usize
     ensures { λ r. ⌜ Adds (now (area .entry)) at (now (area .exit)) r (word ∷ []) ⌝ }
 {
     if at < area.len() {
@@ -17,7 +17,7 @@ pub fn put(area: &mut [u32], at: usize, word: u32) -> usize
 }
 
 // What an item is, and its number.
-pub fn put_item(area: &mut [u32], at: usize, kind: u32, number: u32) -> usize
+pub(crate) fn put_item(area: &mut [u32], at: usize, kind: u32, number: u32) -> usize
     ensures { λ r. ⌜ Adds (now (area .entry)) at (now (area .exit)) r (kind ∷ number ∷ []) ⌝ }
 {
     let next = put(area, at, kind);

@@ -1,9 +1,8 @@
 // Both stacks, read off the steps cell by cell, tops first, and written.
 // The number of the top cell also bounds how many cells are read, as in stepping/specs/Steps.antt: no chain need be known to end.
-ghost use Rattle.stepping.specs.Steps.{scopesOf, attachedOf, symbolsOf};
-ghost use Rattle.stepping.specs.StepWords.{stepAt};
+ghost use Rattle.semantics.specs.ReplayedPaths.{stepAt, scopesOf, attachedOf, symbolsOf};
 ghost use Rattle.path_words.specs.Written.{Adds};
-ghost use Rattle.path_words.specs.PathWords.{closed, scopeWords, symbolWord, symbolWords};
+ghost use Rattle.semantics.specs.PathWords.{closed, scopeWords, symbolWord, symbolWords};
 use crate::cells;
 use crate::cells::part;
 use crate::put::NONE;
@@ -18,7 +17,7 @@ const PLAIN: u32 = 1;
 const SCOPED: u32 = 2;
 
 // The scopes from a cell down.
-pub fn write_scopes(steps: &[u32], top: u32, area: &mut [u32], from: usize) -> usize
+pub(crate) fn write_scopes(steps: &[u32], top: u32, area: &mut [u32], from: usize) -> usize
     ensures { λ r. ⌜ Adds (now (area .entry)) from (now (area .exit)) r (closed (scopeWords (scopesOf (stepAt (now (steps .entry))) top))) ⌝ }
 {
     let mut at = from;
@@ -37,7 +36,8 @@ pub fn write_scopes(steps: &[u32], top: u32, area: &mut [u32], from: usize) -> u
 
 // The symbol that step k made, with the scopes attached to it, if any are.
 fn write_symbol(steps: &[u32], k: u32, area: &mut [u32], from: usize) -> usize
-    ensures { λ r. ⌜ Adds (now (area .entry)) from (now (area .exit)) r (symbolWord (stepAt (now (steps .entry)) k .symbol) (attachedOf (stepAt (now (steps .entry))) (stepAt (now (steps .entry)) k .attached))) ⌝ }
+    ensures { λ r. ⌜ Adds (now (area .entry)) from (now (area .exit)) r
+        (symbolWord (stepAt (now (steps .entry)) k .symbol) (attachedOf (stepAt (now (steps .entry))) (stepAt (now (steps .entry)) k .attached))) ⌝ }
 {
     let symbol = part(steps, k, cells::SYMBOL);
     let attached = part(steps, k, cells::ATTACHED);
@@ -49,7 +49,7 @@ fn write_symbol(steps: &[u32], k: u32, area: &mut [u32], from: usize) -> usize
 }
 
 // The symbols from a cell down.
-pub fn write_symbols(steps: &[u32], top: u32, area: &mut [u32], from: usize) -> usize
+pub(crate) fn write_symbols(steps: &[u32], top: u32, area: &mut [u32], from: usize) -> usize
     ensures { λ r. ⌜ Adds (now (area .entry)) from (now (area .exit)) r (closed (symbolWords (symbolsOf (stepAt (now (steps .entry))) top))) ⌝ }
 {
     let mut at = from;

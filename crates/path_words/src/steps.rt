@@ -3,18 +3,18 @@ ghost use mathlib.Core.Path.{_≡_};
 ghost use mathlib.Core.Bool.{false};
 ghost use mathlib.Core.List.{[]};
 ghost use lib.ListN.{getD};
+ghost use Rattle.semantics.specs.ReplayedPaths.{passagesTo};
 ghost use Rattle.semantics.specs.Lists.{consIf};
 ghost use Rattle.semantics.specs.Calls.{jump};
-ghost use Rattle.path.specs.Values.{passagesTo};
 ghost use Rattle.path_words.specs.Written.{Adds};
-ghost use Rattle.path_words.specs.PathWords.{closed, stepWords};
+ghost use Rattle.semantics.specs.PathWords.{closed, stepWords};
 use crate::cells;
 use crate::cells::part;
 use crate::cells::word;
 use crate::put::NONE;
 use crate::put::put;
 use crate::put::put_item;
-use path::path::Path;
+use semantics::replayed::Path;
 
 // What stands in front of an edge.
 const EDGE: u32 = 1;
@@ -39,7 +39,7 @@ fn write_jump(jumps: bool, to: u32, area: &mut [u32], from: usize) -> usize
 }
 
 // Each edge, then the jump behind it if there is one.
-pub fn write_steps(path: Path, area: &mut [u32], from: usize) -> usize
+pub(crate) fn write_steps(path: Path, area: &mut [u32], from: usize) -> usize
     ensures { λ r. ⌜ Adds (now (area .entry)) from (now (area .exit)) r (closed (stepWords (passagesTo path (path .count)))) ⌝ }
 {
     let edges = path.edges;

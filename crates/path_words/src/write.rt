@@ -1,16 +1,16 @@
 // A path by value, written into a lent area. Document 01, "Path".
 ghost use mathlib.Core.Path.{_≡_};
 ghost use lib.ListN.{length};
-ghost use Rattle.path.specs.Values.{readPath};
-ghost use Rattle.path_words.specs.Written.{written};
-ghost use Rattle.path_words.specs.PathWords.{pathWords};
+ghost use Rattle.semantics.specs.Written.{written};
+ghost use Rattle.semantics.specs.ReplayedPaths.{readPath};
+ghost use Rattle.semantics.specs.PathWords.{pathWords};
 use crate::cells;
 use crate::cells::part;
 use crate::put::put;
 use crate::stacks::write_scopes;
 use crate::stacks::write_symbols;
 use crate::steps::write_steps;
-use path::path::Path;
+use semantics::replayed::Path;
 use words::slots::zero;
 
 // As many words as fit, and zeros behind them.

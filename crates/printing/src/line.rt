@@ -10,7 +10,7 @@ pub fn print_named(name: &[u8], number: u64) {
     io::print_decimal(STDOUT_FILENO, number);
 }
 
-pub fn wide(word: u32) -> u64 {
+pub(crate) fn wide(word: u32) -> u64 {
     word as u64
 }
 

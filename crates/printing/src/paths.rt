@@ -2,6 +2,7 @@
 ghost use mathlib.Core.Path.{_≡_};
 ghost use Prim.Native.Nat.{_≤_};
 ghost use lib.ListN.{length};
+ghost use Rattle.semantics.specs.Limits.{slotLength};
 ghost use Rattle.printing.specs.Areas.{areaWords};
 use crate::line;
 use semantics::bounds::MAX_EDGES;
@@ -25,7 +26,7 @@ fn at_most(number: u64, bound: usize) -> usize
 
 // The edges of a slot, behind their count.
 fn print_path(name: &[u8], slot: &[u32])
-    requires { ⌜ length (now slot) ≡ 128 ⌝ }
+    requires { ⌜ length (now slot) ≡ slotLength ⌝ }
 {
     let count = at_most(line::wide(slot[0]), MAX_EDGES);
     line::print(name);

@@ -2,14 +2,14 @@
 // is searched directly, breadth-first, without limits, with 128 waiting and 128 result slots. report.rt says what is printed.
 ghost use mathlib.Core.Path.{_≡_};
 ghost use lib.ListN.{length};
-ghost use Rattle.storage.specs.Rows.{INDEX};
+ghost use Rattle.storage.specs.Index.{INDEX};
 ghost use Rattle.printing.specs.Areas.{areaWords};
 
 mod report;
 
+use direct_search::direct;
 use libc::STDIN_FILENO;
 use printing::paths::AREA_WORDS;
-use search::direct;
 use semantics::answer::Checked;
 use semantics::answer::Resolution;
 use semantics::graph::NodeId;
@@ -17,8 +17,8 @@ use semantics::search::Limit;
 use semantics::search::SearchLimits;
 use semantics::search::SearchOrder;
 use stepping::node::is_reference;
+use storage::blocks;
 use storage::check;
-use storage::rows;
 use storage::store;
 use told::refusal;
 
@@ -33,7 +33,7 @@ fn resolve(image: &[u8], reference: u32, work: &mut [u32], result: &mut [u32])
 {
     let limits = SearchLimits {
         length: Limit::Absent,
-        paths: Limit::Absent,
+        expansions: Limit::Absent,
         complete: Limit::Absent,
     };
     let order = SearchOrder::BreadthFirst;
@@ -67,7 +67,7 @@ fn resolve_all(image: &[u8], index: &[u32], nodes: u32, work: &mut [u32], result
 fn resolve_image(image: &[u8], work: &mut [u32], result: &mut [u32])
     requires { ⌜ length (now result) ≡ areaWords ⌝ }
 {
-    let mut index = [0u32; rows::INDEX];
+    let mut index = [0u32; blocks::INDEX];
     match check::load(image, &mut index) {
         Checked::Refused(r) => report::tell_image_refused(refusal::image(r).number),
         Checked::Accepted {

@@ -7,7 +7,7 @@ use printing::line;
 use printing::paths;
 use semantics::search::SearchStats;
 
-pub fn tell_found(reference: u32, paths: u64, stats: SearchStats, result: &[u32])
+pub(crate) fn tell_found(reference: u32, paths: u64, stats: SearchStats, result: &[u32])
     requires { ⌜ length (now result) ≡ areaWords ⌝ }
 {
     line::print_word(b"ref ", reference);
@@ -20,13 +20,13 @@ pub fn tell_found(reference: u32, paths: u64, stats: SearchStats, result: &[u32]
     paths::print_paths(b"path", result, paths);
 }
 
-pub fn tell_refused(reference: u32, number: u32) {
+pub(crate) fn tell_refused(reference: u32, number: u32) {
     line::print_word(b"ref ", reference);
     line::print_word(b" refused ", number);
     line::end_line();
 }
 
-pub fn tell_image_refused(number: u32) {
+pub(crate) fn tell_image_refused(number: u32) {
     line::print_word(b"refused ", number);
     line::end_line();
 }

@@ -4,6 +4,7 @@ use Prim.Native.Nat.{ℕ, _+_, _<_, _≤_, _^_}
 use mathlib.Core.Path.{_≡_}
 use mathlib.Core.Bool.{Bool}
 use mathlib.Core.List.{List}
+use Rattle.semantics.specs.Limits.{slotLength}
 use Rattle.semantics.specs.Answer.{andThen}
 use Rattle.semantics.specs.Graph.{View}
 use Rattle.semantics.specs.Path.{Path}
@@ -20,7 +21,7 @@ pub mod Laws
 pub record Extendable (s : S.Search) (ws rs item : List ℕ) : Type 0 where
   pub pushable : Pushable s ws item
   pub fits : s .state .kept ≤ s .state .results
-  pub room : SlotsIn 128 (s .state .results) rs
+  pub room : SlotsIn slotLength (s .state .results) rs
   pub few : s .state .budget .complete + 1 < 2 ^ 64
 
 -- the enumeration keeps and pushes alike; the edge that led here is among those looked at

@@ -4,6 +4,7 @@ use Prim.Native.Nat.{ℕ, suc, _+_, _-_, _<_}
 use mathlib.Core.Path.{_≡_}
 use mathlib.Core.List.{List, [], _∷_, _++_}
 use lib.ListN.{length, take, drop, set}
+use Rattle.semantics.specs.Limits.{slotLength}
 use Rattle.semantics.specs.Words.{zeros, encode}
 pub mod Laws
 
@@ -13,7 +14,7 @@ withEdge item k e = set (set item 0 (k + 1)) (k + 1) e
 
 -- behind so many words the item is zeros
 abbrev pub Clear : ℕ → List ℕ → Type 0
-Clear L item = drop L item ≡ zeros (128 - L)
+Clear L item = drop L item ≡ zeros (slotLength - L)
 
 -- the words hold the path with these edges, and perhaps one edge that was tried behind them
 pub record Carries (L : ℕ) (item es : List ℕ) : Type 0 where

@@ -3,9 +3,9 @@
 use Prim.Native.Nat.{_+_}
 use mathlib.Core.Bool.{Bool, true}
 use Rattle.semantics.specs.Lists.{pick}
-use Rattle.budget.specs.declared.path_budget.Budget.{Budget}
-use Rattle.budget.specs.Budget.{limitsOf, budgetOf}
-use Rattle.search_state.specs.declared.passed.Passed.{Passed}
+use Rattle.path_budget.specs.declared.budget.Budget.{Budget}
+use Rattle.path_budget.specs.Budget.{limitsOf, budgetOf}
+use Rattle.search_state.specs.declared.dead_ends.DeadEnds.{DeadEnds}
 use Rattle.search_state.specs.declared.search.Search as S
 use Rattle.search_state.specs.declared.search.Going.{Going}
 use Rattle.search_state.specs.declared.search.Going.the-variants as Going
@@ -76,7 +76,7 @@ nextAt f (Next.Expand p) = Taken.Expand (at f p)
 nextAt f Next.TooMany = Taken.TooMany
 
 -- behind edges that lead nowhere, with this length flag
-abbrev pub countedOn : Bool → Passed → Progress → Progress
+abbrev pub countedOn : Bool → DeadEnds → Progress → Progress
 countedOn b d p = record {
   first = p .first;
   count = p .count;
@@ -92,5 +92,5 @@ countedOn b d p = record {
   completeLimited = p .completeLimited;
 }
 
-abbrev pub progressBy : Passed → Progress → Progress
+abbrev pub progressBy : DeadEnds → Progress → Progress
 progressBy d p = countedOn (pick (d .overlong) true (p .lengthLimited)) d p

@@ -7,7 +7,7 @@ use mathlib.Core.List.{List, List·Memᴰ}
 use lib.ListN.{length}
 use Rattle.semantics.specs.declared.search.SearchStats.{SearchStats}
 use Rattle.semantics.specs.declared.refusal.SearchRefusal.{SearchRefusal}
-use Rattle.semantics.specs.Limits.{base}
+use Rattle.semantics.specs.Limits.{base, slotLength}
 use Rattle.semantics.specs.Answer.{Answer, ok, refuse}
 use Rattle.semantics.specs.Graph.{View}
 use Rattle.semantics.specs.Path.{Path, replay}
@@ -16,9 +16,9 @@ use Rattle.semantics.specs.Direct.{searchSetting}
 use Rattle.semantics.specs.Recorded.{edgeLists}
 use Rattle.semantics.specs.Words.{encode, area}
 use Rattle.words.specs.Slots.{SlotsIn}
-use Rattle.graph_search.specs.declared.path_frontier.Frontier.{Frontier}
-use Rattle.graph_search.specs.Frontier.{Wider}
-use Rattle.graph_search.specs.Frontier.Stands.{Stands}
+use Rattle.path_frontier.specs.declared.frontier.Frontier.{Frontier}
+use Rattle.path_frontier.specs.Frontier.{Wider}
+use Rattle.path_frontier.specs.Frontier.Stands.{Stands}
 use Rattle.search_state.specs.declared.state.SearchState.{SearchState}
 use Rattle.search_state.specs.declared.search.Search as S
 use Rattle.search_state.specs.declared.search.Going.{Going}
@@ -35,15 +35,15 @@ slotIn L p = encode L (p .edges)
 
 -- and is kept, and expanded, in a slot of full length
 abbrev pub slotOf : Path → List ℕ
-slotOf p = slotIn 128 p
+slotOf p = slotIn slotLength p
 
 -- counts, flags and kept paths
 pub record Counts (st : SearchState) (rs : List ℕ) (m : State Path) : Type 0 where
   pub stats : statsIn st ≡ m .stats
   pub kept : st .kept ≡ length (m .kept)
   pub fits : st .kept ≤ st .results
-  pub room : SlotsIn 128 (st .results) rs
-  pub words : rs ≡ area 128 (length rs) (edgeLists (m .kept))
+  pub room : SlotsIn slotLength (st .results) rs
+  pub words : rs ≡ area slotLength (length rs) (edgeLists (m .kept))
 
 -- no count is above n: a sum of 64 bits holds one more
 pub record Few (n : ℕ) (t : SearchStats) : Type 0 where
@@ -60,7 +60,7 @@ Replayed g r p = replay base g r (p .edges) ≡ ok p
 
 -- waiting slots have a word for the count and each edge of a path that waits, and lie in the area with 128 words as well
 pub record Slotted (f : Frontier) (ws : List ℕ) (rest pending : List Path) : Type 0 where
-  pub wider : Wider f ws 128
+  pub wider : Wider f ws slotLength
   pub fits : (p : Path) → List·Memᴰ p rest ⊎ List·Memᴰ p pending → length (p .edges) < f .length
 
 -- the search in code, its work area and its result area stand for a state of the enumeration

@@ -4,12 +4,12 @@ use Prim.Native.Nat.{ℕ, _+_, _*_, _<_, _≤_}
 use mathlib.Core.Path.{_≡_}
 use mathlib.Core.List.{List}
 use lib.ListN.{length, getD, drop}
-use Rattle.semantics.specs.Limits.{base}
+use Rattle.semantics.specs.ReplayedPaths.{stepAt}
+use Rattle.semantics.specs.Limits.{base, maxEdges, stepLength}
 use Rattle.semantics.specs.Answer.{ok}
 use Rattle.semantics.specs.Graph.{Graph, View, viewOf}
 use Rattle.semantics.specs.Path.{Path, appendAll}
-use Rattle.storage.specs.Rows.{Loaded}
-use Rattle.stepping.specs.StepWords.{stepAt}
+use Rattle.storage.specs.Index.{Loaded}
 use Rattle.stepping.specs.Judged.{Stepped}
 pub mod Laws
 
@@ -26,8 +26,8 @@ pub record Retraces (index ws edges : List ℕ) (n : ℕ) : Type 0 where
   pub appended : appendAll base (viewOf graph) first edges ≡ ok path
   pub begun : Stepped ws 0 first
   pub laid : Laid (viewOf graph) first ws n
-  pub few : length edges ≤ 127
-  pub room : 8 * length edges + 8 ≤ length ws
+  pub few : length edges ≤ maxEdges
+  pub room : stepLength * length edges + stepLength ≤ length ws
 
 -- the steps of that path stand there, step 0 as before
 pub record Retraced (index ws edges : List ℕ) (n : ℕ) (t : Retraces index ws edges n) (ws′ : List ℕ) : Type 0 where
@@ -41,7 +41,7 @@ pub record Way (index edges : List ℕ) : Type 0 where
   pub loaded : Loaded graph index
   pub first : Path
   pub path : Path
-  pub few : length edges ≤ 127
+  pub few : length edges ≤ maxEdges
 
 -- behind i edges the steps stand for a path from which the others lead on
 pub record Mid (index edges : List ℕ) (w : Way index edges) (ws : List ℕ) (i : ℕ) : Type 0 where

@@ -5,16 +5,17 @@ use mathlib.Core.Path.{_≡_}
 use mathlib.Core.List.{List}
 use lib.Dec.{leb}
 use lib.ListN.{take, getD}
+use Rattle.semantics.specs.Limits.{slotLength, maxExpansions}
 use Rattle.semantics.specs.declared.refusal.SearchRefusal.the-variants as Search
 use Rattle.semantics.specs.Lists.{pick}
-use Rattle.graph_search.specs.declared.path_frontier.Frontier.{Frontier}
-use Rattle.graph_search.specs.declared.path_frontier.Pushed.{Pushed}
-use Rattle.graph_search.specs.declared.path_frontier.Pushed.the-variants as Pushed
-use Rattle.graph_search.specs.declared.path_frontier.Popped.{Popped}
-use Rattle.graph_search.specs.declared.path_frontier.Popped.the-variants as Popped
-use Rattle.budget.specs.Budget.{expansion}
+use Rattle.path_frontier.specs.declared.frontier.Frontier.{Frontier}
+use Rattle.path_frontier.specs.declared.frontier.Pushed.{Pushed}
+use Rattle.path_frontier.specs.declared.frontier.Pushed.the-variants as Pushed
+use Rattle.path_frontier.specs.declared.frontier.Popped.{Popped}
+use Rattle.path_frontier.specs.declared.frontier.Popped.the-variants as Popped
+use Rattle.path_budget.specs.Budget.{expansion}
 use Rattle.words.specs.Slots.{IsSlot, padded}
-use Rattle.graph_search.specs.Frontier.{Framed, Wider, MakesRoom, Pushes, Pops}
+use Rattle.path_frontier.specs.Frontier.{Framed, Wider, MakesRoom, Pushes, Pops}
 use Rattle.search_state.specs.declared.state.SearchState.{SearchState}
 use Rattle.search_state.specs.declared.search.Search as S
 use Rattle.search_state.specs.declared.search.Going.{Going}
@@ -35,9 +36,9 @@ goingOf s Pushed.Full = Refused Search.NoWaitingSlot
 -- an item has 128 words and fewer edges; the waiting slots may have fewer words, and lie in the area with 128 as well
 pub record Pushable (s : S.Search) (ws item : List ℕ) : Type 0 where
   pub framed : Framed (s .frontier) ws
-  pub wider : Wider (s .frontier) ws 128
-  pub slot : IsSlot 128 item
-  pub short : getD item 0 0 < 128
+  pub wider : Wider (s .frontier) ws slotLength
+  pub slot : IsSlot slotLength item
+  pub short : getD item 0 0 < slotLength
 
 -- room is made for the item's count and edges, and so much of it is pushed into the frontier; the search with it
 pub record Extends (s : S.Search) (ws item : List ℕ) (a : Going) (ws′ : List ℕ) : Type 0 where
@@ -57,7 +58,7 @@ Clears (Refused x) item = Unit {0}
 abbrev pub admittedOf : SearchState → Frontier → Taken
 admittedOf s f =
     pick (expansion (s .budget) .allowed)
-    (pick (leb 16777216 (s .budget .expanded)) TooMany (Expand (record { frontier = f; state = withBudget (expansion (s .budget) .budget) s })))
+    (pick (leb maxExpansions (s .budget .expanded)) TooMany (Expand (record { frontier = f; state = withBudget (expansion (s .budget) .budget) s })))
     (Over (withBudget (expansion (s .budget) .budget) s))
 
 abbrev pub takenOf : SearchState → Popped → Taken
@@ -67,8 +68,8 @@ takenOf s Popped.Empty = Over s
 -- a slot has its place in the front of the item, behind which are zeros, and one more expansion can be counted
 pub record Takeable (s : S.Search) (ws item : List ℕ) : Type 0 where
   pub framed : Framed (s .frontier) ws
-  pub short : s .frontier .length ≤ 128
-  pub slot : IsSlot 128 item
+  pub short : s .frontier .length ≤ slotLength
+  pub slot : IsSlot slotLength item
   pub clear : Clear (s .frontier .length) item
   pub few : s .state .budget .expanded + 1 < 2 ^ 64
 
@@ -76,7 +77,7 @@ pub record Takeable (s : S.Search) (ws item : List ℕ) : Type 0 where
 pub record PopsInto (f : Frontier) (ws : List ℕ) (a : Popped) (item ws′ : List ℕ) : Type 0 where
   pub words : List ℕ
   pub pops : Pops f ws a words ws′
-  pub laid : item ≡ padded 128 words
+  pub laid : item ≡ padded slotLength words
 
 -- the same, and the round that it opens
 pub record Taking (s : S.Search) (ws : List ℕ) (a : Taken) (item ws′ : List ℕ) : Type 0 where

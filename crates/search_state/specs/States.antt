@@ -3,12 +3,13 @@
 use Prim.Native.Nat.{ℕ, _+_}
 use mathlib.Core.List.{List}
 use lib.Dec.{ltb}
+use Rattle.semantics.specs.Limits.{slotLength}
 use Rattle.semantics.specs.declared.search.SearchLimits.{SearchLimits}
 use Rattle.semantics.specs.declared.search.SearchStats.{SearchStats}
 use Rattle.semantics.specs.Lists.{pick}
 use Rattle.words.specs.Slots.{putSlot}
-use Rattle.budget.specs.declared.path_budget.Budget.{Budget}
-use Rattle.budget.specs.Budget.{budgetOf, lengthening, completion, statsOf}
+use Rattle.path_budget.specs.declared.budget.Budget.{Budget}
+use Rattle.path_budget.specs.Budget.{budgetOf, lengthening, completion, statsOf}
 use Rattle.search_state.specs.declared.state.SearchState.{SearchState}
 use Rattle.search_state.specs.declared.state.Recorded.{Recorded}
 use Rattle.search_state.specs.declared.state.Recorded.the-variants.{Done, Full}
@@ -44,7 +45,7 @@ recordedBy s = pick (completion (s .kept) (s .budget) .allowed) (pick (ltb (s .k
 
 -- its words stand in the next slot where it is kept
 unfoldable pub resultAfter : SearchState → List ℕ → List ℕ → List ℕ
-resultAfter s item ws = pick (completion (s .kept) (s .budget) .allowed) (pick (ltb (s .kept) (s .results)) (putSlot 128 (s .kept) item ws) ws) ws
+resultAfter s item ws = pick (completion (s .kept) (s .budget) .allowed) (pick (ltb (s .kept) (s .results)) (putSlot slotLength (s .kept) item ws) ws) ws
 
 abbrev pub statsIn : SearchState → SearchStats
 statsIn s = statsOf (s .budget) (s .rejected) (s .cycles)

@@ -2,17 +2,17 @@
 // enums, which are copied in parts that overlap, and the processor waits for such copies. Document 01, "Answer" and "Budget and frontier".
 ghost use mathlib.Core.Path.{_≡_};
 ghost use Prim.Native.Nat.{_+_, _<_, _^_};
-ghost use Rattle.budget.specs.Budget.{budgetOf};
+ghost use Rattle.path_budget.specs.Budget.{budgetOf};
 ghost use Rattle.search_state.specs.Progresses.{frameOf, at, progressOf, courseOf, courseAt, nextOf, nextAt, progressBy};
 ghost use Rattle.search_state.specs.Searches.{Takeable, Taking};
 ghost use Rattle.search_state.specs.Extensions.{Extendable, ExtendsTo};
-use crate::passed::Passed;
+use crate::dead_ends::DeadEnds;
 use crate::search::Going;
 use crate::search::Search;
 use crate::search::Taken;
 use crate::state::SearchState;
-use budget::path_budget::Budget;
-use graph_search::path_frontier::Frontier;
+use path_budget::budget::Budget;
+use path_frontier::frontier::Frontier;
 use semantics::refusal::SearchRefusal;
 use semantics::search::SearchLimits;
 use semantics::search::SearchOrder;
@@ -63,13 +63,13 @@ impl Search {
         let budget = state.budget;
         let order = frontier.order;
         let length = budget.maxLength;
-        let paths = budget.maxPaths;
+        let expansions = budget.maxPaths;
         let complete = budget.maxComplete;
         Frame {
             order,
             limits: SearchLimits {
                 length,
-                paths,
+                expansions,
                 complete,
             },
             waiting: frontier.capacity,
@@ -107,11 +107,11 @@ impl Frame {
     {
         let limits = self.limits;
         let length = limits.length;
-        let paths = limits.paths;
+        let expansions = limits.expansions;
         let complete = limits.complete;
         Budget::new()
             .with_max_path_length(length)
-            .with_max_path_count(paths)
+            .with_max_path_count(expansions)
             .with_max_complete_path_count(complete)
     }
 }
@@ -168,7 +168,7 @@ impl Progress {
     }
 
     // The search that has come so far in this frame.
-    pub fn at(self, frame: Frame) -> Search
+    fn at(self, frame: Frame) -> Search
         ensures { λ r. ⌜ r ≡ at frame self ⌝ }
     {
         let state = SearchState {
@@ -185,7 +185,7 @@ impl Progress {
     }
 
     // Behind edges that lead nowhere.
-    pub fn passed_by(mut self, passed: Passed) -> Progress
+    pub fn passed_by(mut self, passed: DeadEnds) -> Progress
         requires { ⌜ (self .cycles + passed .cycles < 2 ^ 64) × (self .rejected + passed .rejected < 2 ^ 64) ⌝ }
         ensures { λ r. ⌜ r ≡ progressBy passed self ⌝ }
     {

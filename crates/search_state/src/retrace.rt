@@ -2,17 +2,14 @@
 // Document 01, "Answer": "Waiting paths are held likewise". Each edge was appended before, so none is judged.
 ghost use Prim.Native.Nat.{_+_, _*_, _≤_};
 ghost use lib.ListN.{length};
+ghost use Rattle.semantics.specs.Limits.{maxEdges, stepLength};
 ghost use Rattle.search_state.specs.Retraces.{Retraces, Retraced, Shared};
-use semantics::bounds::SLOT_WORDS;
-use stepping::again;
+use stepping::remaking;
 use stepping::steps;
-
-// The steps of a path of 127 edges, 8 words for each, step 0 being the reference.
-pub const STEP_WORDS: usize = 8 * SLOT_WORDS;
 
 // How many of the first edges stand in the steps already, which are laid out up to step n.
 fn shared(steps: &[u32], edges: &[u32], n: usize) -> usize
-    requires { ⌜ (length (now edges) ≤ 127) × (8 * length (now edges) + 8 ≤ length (now steps)) ⌝ }
+    requires { ⌜ (length (now edges) ≤ maxEdges) × (stepLength * length (now edges) + stepLength ≤ length (now steps)) ⌝ }
     ensures { λ r. ⌜ Shared (now (steps .entry)) (now (edges .entry)) n r ⌝ }
 {
     let mut i: usize = 0;
@@ -31,12 +28,13 @@ fn shared(steps: &[u32], edges: &[u32], n: usize) -> usize
 // The steps of these edges. Those that the path before has in common with it, of which steps 0 to n stand there, are not laid out again.
 pub fn retrace(index: &[u32], steps: &mut [u32], edges: &[u32], n: usize)
     requires { ⌜ Retraces (now index) (now steps) (now edges) n ⌝ }
-    ensures { λ _. ⌜ ((t : Retraces (now (index .entry)) (now (steps .entry)) (now (edges .entry)) n) → Retraced (now (index .entry)) (now (steps .entry)) (now (edges .entry)) n t (now (steps .exit))) ⌝ }
+    ensures { λ _. ⌜ ((t : Retraces (now (index .entry)) (now (steps .entry)) (now (edges .entry)) n)
+        → Retraced (now (index .entry)) (now (steps .entry)) (now (edges .entry)) n t (now (steps .exit))) ⌝ }
 {
     let mut i = shared(steps, edges, n);
     let mut last = steps::get_step(steps, i);
     while i < edges.len() {
-        last = again::remake(index, steps, i + 1, edges[i], last);
+        last = remaking::remake(index, steps, i + 1, edges[i], last);
         i += 1;
     }
 }

@@ -1,16 +1,17 @@
 // A search on the way: what waits, and what is counted and kept. Document 01, "Answer" and "Budget and frontier".
 ghost use mathlib.Core.Path.{_≡_};
 ghost use Prim.Native.Nat.{_≤_};
+ghost use Rattle.semantics.specs.Limits.{slotLength};
 ghost use Rattle.words.specs.Slots.{IsSlot};
-ghost use Rattle.graph_search.specs.Frontier.{Framed};
+ghost use Rattle.path_frontier.specs.Frontier.{Framed};
 ghost use Rattle.search_state.specs.Items.{Clear};
 ghost use Rattle.search_state.specs.Searches.{withState, Pushable, Extends, PopsInto, Takeable, Taking};
 ghost use Rattle.search_state.specs.Extensions.{Extendable, ExtendsTo};
 use crate::state::Recorded;
 use crate::state::SearchState;
-use graph_search::path_frontier::Frontier;
-use graph_search::path_frontier::Popped;
-use graph_search::path_frontier::Pushed;
+use path_frontier::frontier::Frontier;
+use path_frontier::frontier::Popped;
+use path_frontier::frontier::Pushed;
 use semantics::bounds::MAX_EXPANSIONS;
 use semantics::refusal::SearchRefusal;
 
@@ -34,7 +35,7 @@ pub enum Taken {
 
 // The next slot is copied into the front of the item. Behind it are zeros already: no path that was there had more words than a slot has.
 pub fn pop(frontier: Frontier, work: &mut [u32], item: &mut [u32]) -> Popped
-    requires { ⌜ Framed frontier (now work) × (frontier .length ≤ 128) × IsSlot 128 (now item) × Clear (frontier .length) (now item) ⌝ }
+    requires { ⌜ Framed frontier (now work) × (frontier .length ≤ slotLength) × IsSlot slotLength (now item) × Clear (frontier .length) (now item) ⌝ }
     ensures { λ r. ⌜ PopsInto frontier (now (work .entry)) r (now (item .exit)) (now (work .exit)) ⌝ }
 {
     let slot = frontier.length;

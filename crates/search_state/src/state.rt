@@ -2,9 +2,10 @@
 // report a search alike. Document 01, "Answer": statistics, flags, and result slots; 32 of "Turned back".
 ghost use mathlib.Core.Path.{_≡_};
 ghost use Prim.Native.Nat.{_+_, _<_, _≤_, _^_};
+ghost use Rattle.semantics.specs.Limits.{slotLength};
 ghost use Rattle.words.specs.Slots.{IsSlot, SlotsIn};
 ghost use Rattle.search_state.specs.States.{newState, withBudget, cutOne, rejectedOne, overlongBy, recordedBy, resultAfter, statsIn};
-use budget::path_budget::Budget;
+use path_budget::budget::Budget;
 use semantics::bounds::SLOT_WORDS;
 use semantics::search::SearchLimits;
 use semantics::search::SearchStats;
@@ -30,12 +31,12 @@ impl SearchState {
         ensures { λ r. ⌜ r ≡ newState limits results ⌝ }
     {
         let length = limits.length;
-        let paths = limits.paths;
+        let expansions = limits.expansions;
         let complete = limits.complete;
         SearchState {
             budget: Budget::new()
                 .with_max_path_length(length)
-                .with_max_path_count(paths)
+                .with_max_path_count(expansions)
                 .with_max_complete_path_count(complete),
             cycles: 0,
             rejected: 0,
@@ -86,7 +87,7 @@ impl SearchState {
 
     // A complete path just found is counted, and kept in the next slot unless the limit on complete paths refuses it.
     pub fn record_complete(self, result: &mut [u32], item: &[u32]) -> Recorded
-        requires { ⌜ (self .kept ≤ self .results) × SlotsIn 128 (self .results) (now result) × IsSlot 128 (now item) × (self .budget .complete + 1 < 2 ^ 64) ⌝ }
+        requires { ⌜ (self .kept ≤ self .results) × SlotsIn slotLength (self .results) (now result) × IsSlot slotLength (now item) × (self .budget .complete + 1 < 2 ^ 64) ⌝ }
         ensures { λ r. ⌜ r ≡ recordedBy self ⌝ }
         ensures { λ r. ⌜ now (result .exit) ≡ resultAfter self (now (item .entry)) (now (result .entry)) ⌝ }
     {

@@ -1,4 +1,5 @@
 -- An answer is a value or a refusal. Renders no part of document 01 by itself; which number a refusal has stands in Told.
+use mathlib.Core.Bool.{Bool, true, false}
 pub mod Laws
 
 pub data Answer {ℓ} (R : Type 0) (A : Type ℓ) : Type ℓ where
@@ -9,6 +10,11 @@ pub data Answer {ℓ} (R : Type 0) (A : Type ℓ) : Type ℓ where
 abbrev pub andThen {ℓ κ} : {R : Type 0} {A : Type ℓ} {B : Type κ} → Answer R A → (A → Answer R B) → Answer R B
 andThen (ok a) k = k a
 andThen (refuse r) k = refuse r
+
+-- the value where the test holds, else the refusal
+unfoldable pub okIf {ℓ} : {R : Type 0} {A : Type ℓ} → Bool → R → A → Answer R A
+okIf true r a = ok a
+okIf false r a = refuse r
 
 -- the refusal as a case of a wider one
 abbrev pub wrap {ℓ} : {R S : Type 0} {A : Type ℓ} → (R → S) → Answer R A → Answer S A

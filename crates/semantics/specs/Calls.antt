@@ -28,7 +28,7 @@ use Rattle.semantics.specs.declared.answer.Creation.{Creation}
 use Rattle.semantics.specs.declared.answer.Creation.the-variants as Creation
 use Rattle.semantics.specs.declared.answer.Replacement.{Replacement}
 use Rattle.semantics.specs.declared.answer.Replacement.the-variants as Replacement
-use Rattle.semantics.specs.Limits.{Bounds}
+use Rattle.semantics.specs.Limits.{Bounds, slotWords}
 use Rattle.semantics.specs.Answer.{Answer, ok, refuse}
 use Rattle.semantics.specs.Graph.{Graph, View, viewOf}
 use Rattle.semantics.specs.Path.{Symbol, Step, along, jumped, Path, replay, isComplete, shadows}
@@ -38,7 +38,7 @@ use Rattle.semantics.specs.Direct.{direct, searchSetting}
 use Rattle.semantics.specs.Linear.{linear, linearSetting}
 use Rattle.semantics.specs.PartialPaths.{Route, Slot, filePartials, partialSetting, partialStats}
 use Rattle.semantics.specs.Stitching.{stitched}
-use Rattle.semantics.specs.Words.{zeros, wholeSlots, area, slotWords}
+use Rattle.semantics.specs.Words.{zeros, wholeSlots, area}
 use Rattle.semantics.specs.Database.{checkDatabase, freshWords, hasRoom, replaceWords}
 pub mod Laws
 pub mod Statistics
@@ -78,44 +78,43 @@ pub record ReplayOutcome : Type 0 where
   pub answer : Replayed
   pub path : ReplayedPath
 
-unfoldable pub replayedAs : Answer ReplayRefusal Path → ReplayOutcome
-replayedAs (ok p) = record { answer = Replayed.Done; path = record { end = p .end; steps = passages (p .steps); symbols = p .stacks .symbols; scopes = p .stacks .scopes } }
-replayedAs (refuse r) = record { answer = Replayed.Refused r; path = noPath }
+unfoldable pub replayAnswer : Answer ReplayRefusal Path → ReplayOutcome
+replayAnswer (ok p) = record { answer = Replayed.Done; path = record { end = p .end; steps = passages (p .steps); symbols = p .stacks .symbols; scopes = p .stacks .scopes } }
+replayAnswer (refuse r) = record { answer = Replayed.Refused r; path = noPath }
 
-unfoldable pub completed : View → Answer ReplayRefusal Path → Judgement
+unfoldable pub completeAnswer : View → Answer ReplayRefusal Path → Judgement
 unfolding isComplete
-completed g (ok p) = Judgement.Done (isComplete g p)
-completed g (refuse r) = Judgement.Refused r
+completeAnswer g (ok p) = Judgement.Done (isComplete g p)
+completeAnswer g (refuse r) = Judgement.Refused r
 
-unfoldable pub shadowedBy : Path → Answer ReplayRefusal Path → Judgement
+unfoldable pub shadowsAnswer : Path → Answer ReplayRefusal Path → Judgement
 unfolding shadows
-shadowedBy p (ok q) = Judgement.Done (shadows p q)
-shadowedBy p (refuse r) = Judgement.Refused r
+shadowsAnswer p (ok q) = Judgement.Done (shadows p q)
+shadowsAnswer p (refuse r) = Judgement.Refused r
 
 -- the left path is replayed before the right one
 unfoldable pub leftFirst : Answer ReplayRefusal Path → Answer ReplayRefusal Path → Judgement
-unfolding shadowedBy
-leftFirst (ok p) right = shadowedBy p right
+unfolding shadowsAnswer
+leftFirst (ok p) right = shadowsAnswer p right
 leftFirst (refuse r) right = Judgement.Refused r
 
-module _ (bd : Bounds) where
-  -- a reference and an edge list
-  unfoldable pub replayCall : Answer ImageRefusal Graph → ℕ → List ℕ → ReplayOutcome
-  unfolding replayedAs replay viewOf
-  replayCall (ok g) r es = replayedAs (replay bd (viewOf g) r es)
-  replayCall (refuse x) r es = record { answer = Replayed.Image x; path = noPath }
+-- a reference and an edge list
+unfoldable pub replayCall : (bd : Bounds) → Answer ImageRefusal Graph → ℕ → List ℕ → ReplayOutcome
+unfolding replayAnswer replay viewOf
+replayCall bd (ok g) r es = replayAnswer (replay bd (viewOf g) r es)
+replayCall bd (refuse x) r es = record { answer = Replayed.Image x; path = noPath }
 
-  -- is the path of a reference and an edge list complete
-  unfoldable pub completeCall : Answer ImageRefusal Graph → ℕ → List ℕ → Judgement
-  unfolding completed replay viewOf
-  completeCall (ok g) r es = completed (viewOf g) (replay bd (viewOf g) r es)
-  completeCall (refuse x) r es = Judgement.Image x
+-- is the path of a reference and an edge list complete
+unfoldable pub completeCall : (bd : Bounds) → Answer ImageRefusal Graph → ℕ → List ℕ → Judgement
+unfolding completeAnswer replay viewOf
+completeCall bd (ok g) r es = completeAnswer (viewOf g) (replay bd (viewOf g) r es)
+completeCall bd (refuse x) r es = Judgement.Image x
 
-  -- does the left path shadow the right one
-  unfoldable pub shadowsCall : Answer ImageRefusal Graph → ℕ → List ℕ → ℕ → List ℕ → Judgement
-  unfolding leftFirst replay viewOf
-  shadowsCall (ok g) l ls r rs = leftFirst (replay bd (viewOf g) l ls) (replay bd (viewOf g) r rs)
-  shadowsCall (refuse x) l ls r rs = Judgement.Image x
+-- does the left path shadow the right one
+unfoldable pub shadowsCall : (bd : Bounds) → Answer ImageRefusal Graph → ℕ → List ℕ → ℕ → List ℕ → Judgement
+unfolding leftFirst replay viewOf
+shadowsCall bd (ok g) l ls r rs = leftFirst (replay bd (viewOf g) l ls) (replay bd (viewOf g) r rs)
+shadowsCall bd (refuse x) l ls r rs = Judgement.Image x
 
 -- THE SEARCHES
 
@@ -146,46 +145,48 @@ refused q a = record { answer = a; work = zeros (q .work); result = zeros (q .re
 abbrev pub refusedLinear : {A : Type 0} → LinearRequest → A → Outcome A
 refusedLinear q a = record { answer = a; work = []; result = zeros (q .result) }
 
-module _ (bd : Bounds) where
-  abbrev pub settingOf : Request → Setting SearchRefusal
-  settingOf q = searchSetting (q .order) (q .limits) (wholeSlots (slotWords bd) (q .work)) (wholeSlots (slotWords bd) (q .result))
+abbrev pub settingOf : (bd : Bounds) → Request → Setting SearchRefusal
+settingOf bd q = searchSetting (q .order) (q .limits) (wholeSlots (slotWords bd) (q .work)) (wholeSlots (slotWords bd) (q .result))
 
-  abbrev pub linearSettingOf : LinearRequest → Setting LinearRefusal
-  linearSettingOf q = linearSetting (q .limits) (wholeSlots (slotWords bd) (q .result))
+abbrev pub linearSettingOf : (bd : Bounds) → LinearRequest → Setting LinearRefusal
+linearSettingOf bd q = linearSetting (q .limits) (wholeSlots (slotWords bd) (q .result))
 
-  -- `reply` says which paths of the search are put into the slots: the returned, or the recorded ones
-  module _ (reply : State Path → List Path) where
-    unfoldable pub searched : Request → Answer SearchRefusal (State Path) → Outcome Resolution
-    unfolding area
-    searched q (ok s) = record { answer = Resolution.Done (length (reply s)) (s .stats); work = zeros (q .work); result = area (slotWords bd) (q .result) (edgeLists (reply s)) }
-    searched q (refuse r) = refused q (Resolution.Refused r)
+-- which paths of a search that has ended are put into the slots: the returned, or the recorded ones
+abbrev pub Reply : Type 0
+Reply = State Path → List Path
 
-    -- the image, then the node
-    unfoldable pub directCall : Answer ImageRefusal Graph → Request → Outcome Resolution
-    unfolding searched direct viewOf
-    directCall (ok g) q = searched q (direct bd (q .limits .length) (settingOf q) (viewOf g) (q .node))
-    directCall (refuse x) q = refused q (Resolution.Image x)
+-- what a finished or refused search leaves
+unfoldable pub searchOutcome : (bd : Bounds) (reply : Reply) → Request → Answer SearchRefusal (State Path) → Outcome Resolution
+unfolding area
+searchOutcome bd reply q (ok s) = record { answer = Resolution.Done (length (reply s)) (s .stats); work = zeros (q .work); result = area (slotWords bd) (q .result) (edgeLists (reply s)) }
+searchOutcome bd reply q (refuse r) = refused q (Resolution.Refused r)
 
-    unfoldable pub onSlots : Graph → Request → Answer DatabaseRefusal (List Slot) → Outcome Resolution
-    unfolding searched stitched viewOf
-    onSlots g q (ok db) = searched q (stitched bd (q .limits .length) (settingOf q) (viewOf g) db (q .node))
-    onSlots g q (refuse r) = refused q (Resolution.Database r)
+-- the image, then the node
+unfoldable pub directCall : (bd : Bounds) (reply : Reply) → Answer ImageRefusal Graph → Request → Outcome Resolution
+unfolding searchOutcome direct viewOf
+directCall bd reply (ok g) q = searchOutcome bd reply q (direct bd (q .limits .length) (settingOf bd q) (viewOf g) (q .node))
+directCall bd reply (refuse x) q = refused q (Resolution.Image x)
 
-    -- the image, 35, 34, then the node; `known` are the owners that a database may name. The database is only read
-    unfoldable pub stitchedCall : (ℕ → ℕ → Bool) → Answer ImageRefusal Graph → List ℕ → Request → Outcome Resolution
-    unfolding onSlots checkDatabase
-    stitchedCall known (ok g) words q = onSlots g q (checkDatabase bd known g words)
-    stitchedCall known (refuse x) words q = refused q (Resolution.Image x)
+unfoldable pub stitchedOutcome : (bd : Bounds) (reply : Reply) → Graph → Request → Answer DatabaseRefusal (List Slot) → Outcome Resolution
+unfolding searchOutcome stitched viewOf
+stitchedOutcome bd reply g q (ok db) = searchOutcome bd reply q (stitched bd (q .limits .length) (settingOf bd q) (viewOf g) db (q .node))
+stitchedOutcome bd reply g q (refuse r) = refused q (Resolution.Database r)
 
-    unfoldable pub linearly : LinearRequest → Answer LinearRefusal (State Path) → Outcome LinearResolution
-    unfolding area
-    linearly q (ok s) = record { answer = Linear.Done (length (reply s)) (s .stats); work = []; result = area (slotWords bd) (q .result) (edgeLists (reply s)) }
-    linearly q (refuse r) = refusedLinear q (Linear.Refused r)
+-- the image, 35, 34, then the node; `known` are the owners that a database may name. The database is only read
+unfoldable pub stitchedCall : (bd : Bounds) (reply : Reply) (known : ℕ → ℕ → Bool) → Answer ImageRefusal Graph → List ℕ → Request → Outcome Resolution
+unfolding stitchedOutcome checkDatabase
+stitchedCall bd reply known (ok g) words q = stitchedOutcome bd reply g q (checkDatabase bd known g words)
+stitchedCall bd reply known (refuse x) words q = refused q (Resolution.Image x)
 
-    unfoldable pub linearCall : Answer ImageRefusal Graph → LinearRequest → Outcome LinearResolution
-    unfolding linearly linear viewOf
-    linearCall (ok g) q = linearly q (linear bd (q .limits .length) (linearSettingOf q) (viewOf g) (q .node))
-    linearCall (refuse x) q = refusedLinear q (Linear.Image x)
+unfoldable pub linearOutcome : (bd : Bounds) (reply : Reply) → LinearRequest → Answer LinearRefusal (State Path) → Outcome LinearResolution
+unfolding area
+linearOutcome bd reply q (ok s) = record { answer = Linear.Done (length (reply s)) (s .stats); work = []; result = area (slotWords bd) (q .result) (edgeLists (reply s)) }
+linearOutcome bd reply q (refuse r) = refusedLinear q (Linear.Refused r)
+
+unfoldable pub linearCall : (bd : Bounds) (reply : Reply) → Answer ImageRefusal Graph → LinearRequest → Outcome LinearResolution
+unfolding linearOutcome linear viewOf
+linearCall bd reply (ok g) q = linearOutcome bd reply q (linear bd (q .limits .length) (linearSettingOf bd q) (viewOf g) (q .node))
+linearCall bd reply (refuse x) q = refusedLinear q (Linear.Image x)
 
 -- THE DATABASE
 
@@ -196,20 +197,20 @@ pub record Change (A : Type 0) : Type 0 where
   pub database : List ℕ
 
 -- 35 for under 3 words; a fresh database has no work area
-unfoldable pub created : Bool → Graph → List ℕ → Change Creation
-created true g words = record { answer = Creation.Done; work = []; database = freshWords g (length words) }
-created false g words = record { answer = Creation.Malformed; work = []; database = words }
+unfoldable pub creationOutcome : Bool → Graph → List ℕ → Change Creation
+creationOutcome true g words = record { answer = Creation.Done; work = []; database = freshWords g (length words) }
+creationOutcome false g words = record { answer = Creation.Malformed; work = []; database = words }
 
 unfoldable pub freshCall : Answer ImageRefusal Graph → List ℕ → Change Creation
-unfolding created
-freshCall (ok g) words = created (leb 3 (length words)) g words
+unfolding creationOutcome
+freshCall (ok g) words = creationOutcome (leb 3 (length words)) g words
 freshCall (refuse x) words = record { answer = Creation.Image x; work = []; database = words }
 
--- what replacing a file is asked: the limits on length and path count; work is the length of the lent area in words
+-- what replacing a file is asked: the limits on length and expansions; work is the length of the lent area in words
 pub record FileRequest : Type 0 where
   pub order : SearchOrder
   pub length : Limit
-  pub paths : Limit
+  pub expansions : Limit
   pub work : ℕ
   pub file : ℕ
 
@@ -217,28 +218,27 @@ pub record FileRequest : Type 0 where
 abbrev pub unaltered : {A : Type 0} → FileRequest → List ℕ → A → Change A
 unaltered q words a = record { answer = a; work = zeros (q .work); database = words }
 
-module _ (bd : Bounds) where
-  abbrev pub fileSettingOf : FileRequest → Setting PartialPathRefusal
-  fileSettingOf q = partialSetting (q .order) (q .paths) (wholeSlots (slotWords bd) (q .work))
+abbrev pub fileSettingOf : (bd : Bounds) → FileRequest → Setting PartialPathRefusal
+fileSettingOf bd q = partialSetting (q .order) (q .expansions) (wholeSlots (slotWords bd) (q .work))
 
-  -- 33 follows a finished computation
-  unfoldable pub stored : Bool → Graph → FileRequest → List ℕ → State Route → Change Replacement
-  unfolding replaceWords
-  stored true g q words s = record { answer = Replacement.Done (partialStats s); work = zeros (q .work); database = replaceWords bd g (q .file) s words }
-  stored false g q words s = unaltered q words Replacement.Full
+-- 33 follows a finished computation
+unfoldable pub filingOutcome : (bd : Bounds) → Bool → Graph → FileRequest → List ℕ → State Route → Change Replacement
+unfolding replaceWords
+filingOutcome bd true g q words s = record { answer = Replacement.Done (partialStats s); work = zeros (q .work); database = replaceWords bd g (q .file) s words }
+filingOutcome bd false g q words s = unaltered q words Replacement.Full
 
-  unfoldable pub computed : Graph → FileRequest → List ℕ → Answer PartialPathRefusal (State Route) → Change Replacement
-  unfolding stored hasRoom
-  computed g q words (ok s) = stored (hasRoom bd s words) g q words s
-  computed g q words (refuse r) = unaltered q words (Replacement.Refused r)
+unfoldable pub computationOutcome : (bd : Bounds) → Graph → FileRequest → List ℕ → Answer PartialPathRefusal (State Route) → Change Replacement
+unfolding filingOutcome hasRoom
+computationOutcome bd g q words (ok s) = filingOutcome bd (hasRoom bd s words) g q words s
+computationOutcome bd g q words (refuse r) = unaltered q words (Replacement.Refused r)
 
-  unfoldable pub onDatabase : Graph → FileRequest → List ℕ → Answer DatabaseRefusal (List Slot) → Change Replacement
-  unfolding computed filePartials
-  onDatabase g q words (ok db) = computed g q words (filePartials bd (q .length) (fileSettingOf q) g (q .file))
-  onDatabase g q words (refuse r) = unaltered q words (Replacement.Database r)
+unfoldable pub replacementOutcome : (bd : Bounds) → Graph → FileRequest → List ℕ → Answer DatabaseRefusal (List Slot) → Change Replacement
+unfolding computationOutcome filePartials
+replacementOutcome bd g q words (ok db) = computationOutcome bd g q words (filePartials bd (q .length) (fileSettingOf bd q) g (q .file))
+replacementOutcome bd g q words (refuse r) = unaltered q words (Replacement.Database r)
 
-  -- the image, 35, 34, 21, the computation, then 33
-  unfoldable pub replaceCall : (ℕ → ℕ → Bool) → Answer ImageRefusal Graph → FileRequest → List ℕ → Change Replacement
-  unfolding onDatabase checkDatabase
-  replaceCall known (ok g) q words = onDatabase g q words (checkDatabase bd known g words)
-  replaceCall known (refuse x) q words = unaltered q words (Replacement.Image x)
+-- the image, 35, 34, 21, the computation, then 33; `known` as above
+unfoldable pub replaceCall : (bd : Bounds) (known : ℕ → ℕ → Bool) → Answer ImageRefusal Graph → FileRequest → List ℕ → Change Replacement
+unfolding replacementOutcome checkDatabase
+replaceCall bd known (ok g) q words = replacementOutcome bd g q words (checkDatabase bd known g words)
+replaceCall bd known (refuse x) q words = unaltered q words (Replacement.Image x)

@@ -9,7 +9,7 @@ use Rattle.semantics.specs.declared.search.SearchOrder.the-variants.{Bre
 use Rattle.semantics.specs.Limits.{base}
 use Rattle.semantics.specs.Cases.Rows.{Row, _gives_, Agreed, refused, returned_expanded_complete_rejected_cycles_flags_paths_, noFlag, lengthFlag, countFlag, completeFlag, expansions_partials_cuts_flagged_slots_, unflagged}
 use Rattle.semantics.specs.Cases.Graphs.{imageA, imageB, imageC, imageD}
-use Rattle.semantics.specs.Cases.Asked.{replaying, directly, replacing, oneFile, stitching, linearly, partialsIn, request, recording, stitchedRecorded}
+use Rattle.semantics.specs.Cases.Asked.{replaying, directly, replacing, firstFiled, stitching, linearly, partialsIn, request, recording, stitchedRecorded}
 pub mod Rows
 pub mod Graphs
 pub mod Asked
@@ -21,9 +21,10 @@ pub mod Partials
 pub mod Databases
 pub mod Stitching
 pub mod Instance
+pub mod Entries
 
 pub starred : List (Row (List (List ℕ)))
-unfolding directly partialsIn stitching oneFile replaying linearly
+unfolding directly partialsIn stitching firstFiled replaying linearly
 starred =
     -- On A: "as above", that is "directly, breadth-first, without limits, with 128 waiting and 128 result slots":
     -- "ref 2 returned 1 expanded 3 complete 1 rejected 1 cycles 0", "path 0 1"
@@ -43,7 +44,7 @@ starred =
     -- "partial paths of file 0: 8 expansions, in order 2:[0], 3:[1], 3:[2], 2:[0 1], 2:[0 2]"
     ∷ (partialsIn base BreadthFirst Absent Absent 128 8 0 imageA gives expansions 8 partials 5 cuts 0 flagged unflagged slots (2 ∷ 0 ∷ []) ∷ (3 ∷ 1 ∷ []) ∷ (3 ∷ 2 ∷ []) ∷ (2 ∷ 0 ∷ 1 ∷ []) ∷ (2 ∷ 0 ∷ 2 ∷ []) ∷ [])
     -- "stitched: expanded 4, complete 2, rejected 2, one path"
-    ∷ (stitching BreadthFirst Absent Absent Absent imageA (oneFile imageA) gives returned 1 expanded 4 complete 2 rejected 2 cycles 0 flags noFlag paths (0 ∷ 1 ∷ []) ∷ [])
+    ∷ (stitching BreadthFirst Absent Absent Absent imageA (firstFiled imageA) gives returned 1 expanded 4 complete 2 rejected 2 cycles 0 flags noFlag paths (0 ∷ 1 ∷ []) ∷ [])
     -- "replay 0, 2: 15 at node 5"
     ∷ (replaying imageA 2 (0 ∷ 2 ∷ []) ∷ [] gives refused (15 ∷ 5 ∷ []))
     -- "replay 1: 13, expected 2, actual 3"
@@ -63,12 +64,12 @@ starred-cases = refl
 -- C, which has no star: "Direct records [0 2] and [0 1 2]; stitched [0 2]", which misses the list with the edge from root to root. On D both record the path
 -- through root and by jump
 pub recordings : List (Row (List (List ℕ)))
-unfolding recording stitchedRecorded replacing oneFile
+unfolding recording stitchedRecorded replacing firstFiled
 recordings =
     (recording BreadthFirst Absent Absent Absent imageC gives returned 2 expanded 5 complete 2 rejected 0 cycles 1 flags noFlag paths (0 ∷ 2 ∷ []) ∷ (0 ∷ 1 ∷ 2 ∷ []) ∷ [])
-    ∷ (stitchedRecorded base (request base BreadthFirst Absent Absent Absent 8 8) imageC (oneFile imageC) gives returned 1 expanded 4 complete 2 rejected 0 cycles 0 flags noFlag paths (0 ∷ 2 ∷ []) ∷ [])
+    ∷ (stitchedRecorded base (request base BreadthFirst Absent Absent Absent 8 8) imageC (firstFiled imageC) gives returned 1 expanded 4 complete 2 rejected 0 cycles 0 flags noFlag paths (0 ∷ 2 ∷ []) ∷ [])
     ∷ (recording DepthFirst Absent Absent Absent imageD gives returned 1 expanded 6 complete 1 rejected 0 cycles 0 flags noFlag paths (0 ∷ 1 ∷ 2 ∷ 3 ∷ 4 ∷ []) ∷ [])
-    ∷ (stitchedRecorded base (request base BreadthFirst Absent Absent Absent 8 8) imageD ((replacing imageD 1 (oneFile imageD)) .database) gives returned 1 expanded 4 complete 1 rejected 0 cycles 0 flags noFlag paths (0 ∷ 1 ∷ 2 ∷ 3 ∷ 4 ∷ []) ∷ [])
+    ∷ (stitchedRecorded base (request base BreadthFirst Absent Absent Absent 8 8) imageD ((replacing imageD 1 (firstFiled imageD)) .database) gives returned 1 expanded 4 complete 1 rejected 0 cycles 0 flags noFlag paths (0 ∷ 1 ∷ 2 ∷ 3 ∷ 4 ∷ []) ∷ [])
     ∷ []
 
 pub recording-cases : Agreed recordings

@@ -2,19 +2,19 @@
 -- Document 01, "Partial paths", second paragraph; 33, 34 and 35 of "Turned back".
 use Prim.Native.Nat.{ℕ, zero, suc, _+_, _-_, _*_}
 use mathlib.Core.Bool.{Bool, true, false}
-use mathlib.Core.List.{List, [], _∷_, _++_, map}
+use mathlib.Core.List.{List, [], _∷_, _++_, map, flatten}
 use lib.Dec.{eqb, leb, ltb}
 use lib.ListN.{length, getD, take, drop}
 use lib.Seq.{slice}
 use Rattle.semantics.specs.declared.refusal.DatabaseRefusal.{DatabaseRefusal}
 use Rattle.semantics.specs.declared.refusal.DatabaseRefusal.the-variants.{Malformed, Outgrown}
-use Rattle.semantics.specs.Lists.{and}
-use Rattle.semantics.specs.Limits.{Bounds}
-use Rattle.semantics.specs.Answer.{Answer, ok, refuse, andThen}
+use Rattle.semantics.specs.Lists.{and, pick}
+use Rattle.semantics.specs.Limits.{Bounds, recordWords}
+use Rattle.semantics.specs.Answer.{Answer, andThen, okIf}
 use Rattle.semantics.specs.Graph.{Graph}
 use Rattle.semantics.specs.Enumeration.{State}
 use Rattle.semantics.specs.PartialPaths.{Route, Slot, dead, slot, slotOf}
-use Rattle.semantics.specs.Words.{zeros, wholeSlots, slotsOf, recordWords}
+use Rattle.semantics.specs.Words.{zeros, wholeSlots, slotsOf}
 pub mod Laws
 pub mod Checked
 pub mod Lookup
@@ -28,14 +28,9 @@ nodesIn ws = getD ws 1 0
 abbrev pub filesIn : List ℕ → ℕ
 filesIn ws = getD ws 2 0
 
-unfoldable pub chosen : Bool → ℕ → ℕ → ℕ
-chosen true m n = m
-chosen false m n = n
-
 -- the lesser of 4,096 and the whole slots lent
 unfoldable pub capacity : Bounds → List ℕ → ℕ
-unfolding chosen
-capacity bd ws = chosen (ltb (wholeSlots (recordWords bd) (length ws - 3)) 4096) (wholeSlots (recordWords bd) (length ws - 3)) 4096
+capacity bd ws = pick (ltb (wholeSlots (recordWords bd) (length ws - 3)) 4096) (wholeSlots (recordWords bd) (length ws - 3)) 4096
 
 -- owner + 1 or 0 for dead, start, end, edge count, edges
 unfoldable pub decode : List ℕ → Slot
@@ -56,8 +51,8 @@ unfolding records decode
 slotsIn bd ws = map decode (records bd ws)
 
 -- which owners a database may name, given the stored F: the files
-abbrev pub filesOnly : ℕ → ℕ → Bool
-filesOnly files f = ltb f files
+abbrev pub knownOwners : ℕ → ℕ → Bool
+knownOwners files f = ltb f files
 
 -- a live record has a known owner, a start below N and 1 to 127 edges
 unfoldable pub sound : Bounds → (ℕ → ℕ → Bool) → ℕ → ℕ → List ℕ → Bool
@@ -73,17 +68,12 @@ unfoldable pub wellFormed : Bounds → (ℕ → ℕ → Bool) → List ℕ → B
 unfolding capacity every sound records
 wellFormed bd known ws = and (leb 3 (length ws)) (and (leb (usedIn ws) (capacity bd ws)) (every (sound bd known (nodesIn ws) (filesIn ws)) (records bd ws)))
 
--- the refusal unless the test holds
-unfoldable pub passIf {ℓ} : {A : Type ℓ} → Bool → DatabaseRefusal → A → Answer DatabaseRefusal A
-passIf true r a = ok a
-passIf false r a = refuse r
-
 -- 35, then 34, then the slots
 unfoldable pub checkDatabase : Bounds → (ℕ → ℕ → Bool) → Graph → List ℕ → Answer DatabaseRefusal (List Slot)
-unfolding passIf wellFormed slotsIn
+unfolding okIf wellFormed slotsIn
 checkDatabase bd known g ws =
-    andThen (passIf (wellFormed bd known ws) Malformed ws)
-    (λ x. passIf (and (leb (nodesIn ws) (length (g .nodes))) (leb (filesIn ws) (g .files))) Outgrown (slotsIn bd ws))
+    andThen (okIf (wellFormed bd known ws) Malformed ws)
+    (λ x. okIf (and (leb (nodesIn ws) (length (g .nodes))) (leb (filesIn ws) (g .files))) Outgrown (slotsIn bd ws))
 
 -- a fresh database holds 0, N, F and zeros
 abbrev pub freshWords : Graph → ℕ → List ℕ
@@ -99,10 +89,6 @@ unfolding zeroIf
 clearRecord f [] = []
 clearRecord f (zero ∷ ws) = zero ∷ ws
 clearRecord f (suc w ∷ ws) = zeroIf (eqb w f) (suc w ∷ ws)
-
-unfoldable pub flatten : List (List ℕ) → List ℕ
-flatten [] = []
-flatten (x ∷ xs) = x ++ flatten xs
 
 -- the words behind the new slots stay as they were
 unfoldable pub replaceWords : Bounds → Graph → ℕ → State Route → List ℕ → List ℕ
@@ -146,3 +132,7 @@ lookupPart bd known i ws = partIf (and (wellFormed bd known ws) (ltb i (usedIn w
 -- the words of a part
 abbrev pub wordsOf : Part → List ℕ → List ℕ
 wordsOf p ws = slice (p .from) (p .upTo) ws
+
+-- where word i of a slice stands: in the slice's own memory, 4 bytes a word behind its start
+abbrev pub wordPlace : ℕ × ℕ → ℕ → ℕ × ℕ
+wordPlace p i = (p .0, i * 4 + p .1)

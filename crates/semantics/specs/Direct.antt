@@ -1,7 +1,6 @@
 -- Direct search from a reference.
 -- Document 01, "Answer": `try_compute`.
 use Prim.Native.Nat.{ℕ, suc}
-use mathlib.Core.Bool.{Bool, true, false}
 use mathlib.Core.List.{List, [], _∷_, map}
 use lib.Dec.{ltb}
 use lib.ListN.{length}
@@ -16,7 +15,7 @@ use Rattle.semantics.specs.Limits.{Bounds, within}
 use Rattle.semantics.specs.Answer.{Answer, ok, refuse, andThen, wrap}
 use Rattle.semantics.specs.Graph.{View}
 use Rattle.semantics.specs.Path.{Path, append, isComplete, fromReference}
-use Rattle.semantics.specs.Enumeration.{Try, cut, overlong, reject, stop, go, Setting, slots, State, enumerate}
+use Rattle.semantics.specs.Enumeration.{Try, reject, go, tested, Setting, slots, State, enumerate}
 pub mod Laws
 pub mod Unbounded
 
@@ -26,25 +25,10 @@ module _ {R : Type 0} where
   extended g (ok q) = go (isComplete g q) q
   extended g (refuse r) = reject
 
-  unfoldable pub ifRoom : Bool → R → View → Path → ℕ → Try R Path
-  unfolding append extended
-  ifRoom true tooLong g p e = extended g (append g p e)
-  ifRoom false tooLong g p e = stop tooLong
-
-  unfoldable pub ifShort : Bool → R → Bounds → View → Path → ℕ → Try R Path
-  unfolding ifRoom
-  ifShort true tooLong bd g p e = ifRoom (ltb (length (p .edges)) (bd .edges)) tooLong g p e
-  ifShort false tooLong bd g p e = overlong
-
-  unfoldable pub unlessCycle : Bool → R → Bounds → Limit → View → Path → ℕ → Try R Path
-  unfolding ifShort
-  unlessCycle true tooLong bd lim g p e = cut
-  unlessCycle false tooLong bd lim g p e = ifShort (within (suc (length (p .edges))) lim) tooLong bd g p e
-
   -- cycle, length, the bound (with the refusal that stands for 30), append, completeness
   unfoldable pub judge : R → Bounds → Limit → View → Path → ℕ → Try R Path
-  unfolding unlessCycle has
-  judge tooLong bd lim g p e = unlessCycle (has e (p .edges)) tooLong bd lim g p e
+  unfolding tested has append extended
+  judge tooLong bd lim g p e = tested (has e (p .edges)) (within (suc (length (p .edges))) lim) (ltb (length (p .edges)) (bd .edges)) tooLong (extended g (append g p e))
 
   unfoldable pub tries : R → Bounds → Limit → View → Path → List (Try R Path)
   unfolding judge
@@ -54,7 +38,7 @@ abbrev pub searchSetting : SearchOrder → SearchLimits → ℕ → ℕ → Sett
 searchSetting order limits waiting results =
     record {
       order = order;
-      maxCount = limits .paths;
+      maxCount = limits .expansions;
       maxComplete = limits .complete;
       waiting = slots waiting Search.NoWaitingSlot;
       results = slots results Search.NoResultSlot;

@@ -10,17 +10,26 @@ use Rattle.semantics.specs.declared.search.SearchOrder.the-variants.{Bre
 use Rattle.semantics.specs.declared.search.Limit.{Limit}
 use Rattle.semantics.specs.declared.search.SearchStats.{SearchStats}
 use Rattle.semantics.specs.Limits.{below}
-use Rattle.semantics.specs.Answer.{Answer, ok, refuse, andThen}
+use Rattle.semantics.specs.Answer.{Answer, ok, refuse, andThen, okIf}
 pub mod Laws
 pub mod Statistics
 pub mod Simulation
 pub mod Room
+pub mod Held
 
 -- what becomes of one edge, or of one partial path, looked at from a waiting item
 pub data Try (R W : Type 0) : Type 0 where
   cut overlong reject : Try R W
   stop : R → Try R W
   go : (complete : Bool) (item : W) → Try R W
+
+module _ {R W : Type 0} where
+  -- the tests before anything is appended: cycle, then length, then the bound (with the refusal that stands for 30)
+  unfoldable pub tested : (cycle short room : Bool) → R → Try R W → Try R W
+  tested true short room tooLong next = cut
+  tested false false room tooLong next = overlong
+  tested false true false tooLong next = stop tooLong
+  tested false true true tooLong next = next
 
 -- so many slots, and the refusal that is given when all are taken
 pub data Area (R : Type 0) : Type 0 where
@@ -49,35 +58,62 @@ pub record State (W : Type 0) : Type 0 where
   pub stats : SearchStats
   pub tally : Tally
 
+-- a count goes up by one, a flag is raised, a count or a flag stays
+abbrev pub more : ℕ → ℕ
+more n = n + 1
+
+abbrev pub raised : Bool → Bool
+raised b = true
+
+abbrev pub stays : {A : Type 0} → A → A
+stays x = x
+
+-- the statistics with each count and each flag changed so: here alone do their fields stand side by side
+abbrev pub changed : (expanded complete rejected cycles : ℕ → ℕ) (length count completes : Bool → Bool) → SearchStats → SearchStats
+changed expanded complete rejected cycles length count completes s =
+    record {
+      expanded = expanded (s .expanded);
+      complete = complete (s .complete);
+      rejected = rejected (s .rejected);
+      cycles = cycles (s .cycles);
+      lengthLimited = length (s .lengthLimited);
+      countLimited = count (s .countLimited);
+      completeLimited = completes (s .completeLimited);
+    }
+
 abbrev pub addExpanded : SearchStats → SearchStats
-addExpanded s = record { expanded = s .expanded + 1; complete = s .complete; rejected = s .rejected; cycles = s .cycles; lengthLimited = s .lengthLimited; countLimited = s .countLimited; completeLimited = s .completeLimited }
+addExpanded = changed more stays stays stays stays stays stays
 
 abbrev pub addComplete : SearchStats → SearchStats
-addComplete s = record { expanded = s .expanded; complete = s .complete + 1; rejected = s .rejected; cycles = s .cycles; lengthLimited = s .lengthLimited; countLimited = s .countLimited; completeLimited = s .completeLimited }
+addComplete = changed stays more stays stays stays stays stays
 
 abbrev pub addRejected : SearchStats → SearchStats
-addRejected s = record { expanded = s .expanded; complete = s .complete; rejected = s .rejected + 1; cycles = s .cycles; lengthLimited = s .lengthLimited; countLimited = s .countLimited; completeLimited = s .completeLimited }
+addRejected = changed stays stays more stays stays stays stays
 
 abbrev pub addCycle : SearchStats → SearchStats
-addCycle s = record { expanded = s .expanded; complete = s .complete; rejected = s .rejected; cycles = s .cycles + 1; lengthLimited = s .lengthLimited; countLimited = s .countLimited; completeLimited = s .completeLimited }
+addCycle = changed stays stays stays more stays stays stays
 
 abbrev pub flagLength : SearchStats → SearchStats
-flagLength s = record { expanded = s .expanded; complete = s .complete; rejected = s .rejected; cycles = s .cycles; lengthLimited = true; countLimited = s .countLimited; completeLimited = s .completeLimited }
+flagLength = changed stays stays stays stays raised stays stays
 
 abbrev pub flagCount : SearchStats → SearchStats
-flagCount s = record { expanded = s .expanded; complete = s .complete; rejected = s .rejected; cycles = s .cycles; lengthLimited = s .lengthLimited; countLimited = true; completeLimited = s .completeLimited }
+flagCount = changed stays stays stays stays stays raised stays
 
 abbrev pub flagComplete : SearchStats → SearchStats
-flagComplete s = record { expanded = s .expanded; complete = s .complete; rejected = s .rejected; cycles = s .cycles; lengthLimited = s .lengthLimited; countLimited = s .countLimited; completeLimited = true }
+flagComplete = changed stays stays stays stays stays stays raised
+
+-- the same of the counts that no call returns
+abbrev pub tallied : (looked tooLong pushed : ℕ → ℕ) → Tally → Tally
+tallied looked tooLong pushed t = record { looked = looked (t .looked); overlong = tooLong (t .overlong); pushed = pushed (t .pushed) }
 
 abbrev pub addLooked : Tally → Tally
-addLooked t = record { looked = t .looked + 1; overlong = t .overlong; pushed = t .pushed }
+addLooked = tallied more stays stays
 
 abbrev pub addOverlong : Tally → Tally
-addOverlong t = record { looked = t .looked; overlong = t .overlong + 1; pushed = t .pushed }
+addOverlong = tallied stays more stays
 
 abbrev pub addPushed : Tally → Tally
-addPushed t = record { looked = t .looked; overlong = t .overlong; pushed = t .pushed + 1 }
+addPushed = tallied stays stays more
 
 abbrev pub noStats : SearchStats
 noStats = record { expanded = 0; complete = 0; rejected = 0; cycles = 0; lengthLimited = false; countLimited = false; completeLimited = false }
@@ -85,20 +121,28 @@ noStats = record { expanded = 0; complete = 0; rejected = 0; cycles = 0; lengthL
 abbrev pub noTally : Tally
 noTally = record { looked = 0; overlong = 0; pushed = 0 }
 
+-- THE LOOP, beside the lines of `try_compute`:
+--     while let Some(path) = frontier.pop() {                      turn, popped
+--         if !state.budget.admit_expansion() { break; }            admit: the path-count flag; with no expansion left, final: 36
+--         for edge in graph.outgoing(path.end()) {                 tries, each, one
+--             if path.contains_edge(edge) { .. continue; }         tested, judged: cut
+--             if !state.budget.admit_length(..) { continue; }      tested, judged: overlong; then the bound: 30
+--             if next.append(graph, edge).is_err() { .. continue; }   judged: reject
+--             if next.is_complete(graph) { state.record_complete(&next); }   keep
+--             frontier.push(next);                                 pushItem; merge has the order of taking
+--         }
+--     }
+
 -- what stands at the top of a round: the search is over, or an item is to be expanded
 pub data Turn (W : Type 0) : Type 0 where
   over : State W → Turn W
   expand : W → State W → Turn W
 
-unfoldable pub placeIf {ℓ} : {R : Type 0} {A : Type ℓ} → Bool → R → A → Answer R A
-placeIf true r a = ok a
-placeIf false r a = refuse r
-
 -- with n slots taken, one more, or the refusal
 unfoldable pub place {ℓ} : {R : Type 0} {A : Type ℓ} → Area R → ℕ → A → Answer R A
-unfolding placeIf
+unfolding okIf
 place unlimited n a = ok a
-place (slots size r) n a = placeIf (ltb n size) r a
+place (slots size r) n a = okIf (ltb n size) r a
 
 module _ {W : Type 0} where
   abbrev pub blank : State W

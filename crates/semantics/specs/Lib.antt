@@ -17,6 +17,10 @@ pub mod Acceptance
 pub mod Words
 pub mod Database
 pub mod Calls
+pub mod ReplayedPaths
+pub mod Asked
+pub mod Written
+pub mod PathWords
+pub mod Entries
 pub mod Demand
-pub mod Held
 pub mod Cases

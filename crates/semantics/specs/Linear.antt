@@ -39,7 +39,7 @@ onlyTries bd lim g p = first (p .end) (tries Linear.TooLong bd lim g p)
 -- nothing waits beside the one path, so there are no waiting slots and the order of taking does not matter
 abbrev pub linearSetting : SearchLimits → ℕ → Setting LinearRefusal
 linearSetting limits results =
-    record { order = BreadthFirst; maxCount = limits .paths; maxComplete = limits .complete; waiting = unlimited; results = slots results Linear.NoResultSlot; tooMany = Linear.TooManyExpansions }
+    record { order = BreadthFirst; maxCount = limits .expansions; maxComplete = limits .complete; waiting = unlimited; results = slots results Linear.NoResultSlot; tooMany = Linear.TooManyExpansions }
 
 unfoldable pub linear : Bounds → Limit → Setting LinearRefusal → View → ℕ → Answer LinearRefusal (State Path)
 unfolding onlyTries enumerate fromReference

@@ -18,7 +18,7 @@ use Rattle.semantics.specs.Lists.{or, and, consIf, has, select}
 use Rattle.semantics.specs.Limits.{Bounds, within}
 use Rattle.semantics.specs.Answer.{Answer, refuse}
 use Rattle.semantics.specs.Graph.{fileId, Graph, View, viewOf, fileOf, isFile, isStart, isEndpoint}
-use Rattle.semantics.specs.Enumeration.{Try, cut, overlong, stop, go, Setting, slots, unlimited, State, enumerate}
+use Rattle.semantics.specs.Enumeration.{Try, go, tested, Setting, slots, unlimited, State, enumerate}
 pub mod Laws
 
 -- a partial path on the way: stacks are not examined
@@ -50,25 +50,15 @@ targetOf (E.Live s t p) = t .0
 abbrev pub longer : Route → ℕ → ℕ → Route
 longer r e t = record { start = r .start; current = t; edges = r .edges ++ (e ∷ []) }
 
-unfoldable pub ifRoom : Bool → View → Route → ℕ → Try PartialPathRefusal Route
+-- a route that passed the tests reaches an endpoint or not
+unfoldable pub reached : View → Route → ℕ → Try PartialPathRefusal Route
 unfolding targetOf
-ifRoom true g r e = go (isEndpoint (g .node (targetOf (g .edge e)))) (longer r e (targetOf (g .edge e)))
-ifRoom false g r e = stop TooLong
-
-unfoldable pub ifShort : Bool → Bounds → View → Route → ℕ → Try PartialPathRefusal Route
-unfolding ifRoom
-ifShort true bd g r e = ifRoom (ltb (length (r .edges)) (bd .edges)) g r e
-ifShort false bd g r e = overlong
-
-unfoldable pub unlessCycle : Bool → Bounds → Limit → View → Route → ℕ → Try PartialPathRefusal Route
-unfolding ifShort
-unlessCycle true bd lim g r e = cut
-unlessCycle false bd lim g r e = ifShort (within (suc (length (r .edges))) lim) bd g r e
+reached g r e = go (isEndpoint (g .node (targetOf (g .edge e)))) (longer r e (targetOf (g .edge e)))
 
 -- cycle, length, the bound, then whether it reaches an endpoint
 unfoldable pub judgeRoute : Bounds → Limit → View → Route → ℕ → Try PartialPathRefusal Route
-unfolding unlessCycle has
-judgeRoute bd lim g r e = unlessCycle (has e (r .edges)) bd lim g r e
+unfolding tested has reached
+judgeRoute bd lim g r e = tested (has e (r .edges)) (within (suc (length (r .edges))) lim) (ltb (length (r .edges)) (bd .edges)) TooLong (reached g r e)
 
 -- only the owner's edges are looked at: `mine` tells them
 unfoldable pub routeTries : Bounds → Limit → View → (ℕ → Bool) → Route → List (Try PartialPathRefusal Route)

@@ -1,7 +1,7 @@
 -- Stitched search from a reference over the slots of a database.
 -- Document 01, "Partial paths": `try_compute_from_partials`. A used partial path shares an edge, so its number is not kept.
 use Prim.Native.Nat.{ℕ, _+_}
-use mathlib.Core.Bool.{Bool, true, false}
+use mathlib.Core.Bool.{Bool}
 use mathlib.Core.List.{List, [], _∷_}
 use lib.Dec.{eqb, leb}
 use lib.ListN.{length}
@@ -16,7 +16,7 @@ use Rattle.semantics.specs.Limits.{Bounds, within}
 use Rattle.semantics.specs.Answer.{Answer, ok, refuse, andThen, wrap}
 use Rattle.semantics.specs.Graph.{View}
 use Rattle.semantics.specs.Path.{Path, appendAll, isComplete, fromReference}
-use Rattle.semantics.specs.Enumeration.{Try, cut, overlong, reject, stop, go, Setting, State, enumerate}
+use Rattle.semantics.specs.Enumeration.{Try, reject, stop, go, tested, Setting, State, enumerate}
 use Rattle.semantics.specs.PartialPaths.{Slot, dead, slot}
 pub mod Laws
 pub mod Used
@@ -40,25 +40,15 @@ unfolding isComplete ended
 extended g (ok q) = go (isComplete g q) q
 extended g (refuse r) = ended r
 
-unfoldable pub ifRoom : Bool → Bounds → View → Path → List ℕ → Try SearchRefusal Path
-unfolding appendAll extended
-ifRoom true bd g p es = extended g (appendAll bd g p es)
-ifRoom false bd g p es = stop Search.TooLong
-
-unfoldable pub ifShort : Bool → Bounds → View → Path → List ℕ → Try SearchRefusal Path
-unfolding ifRoom
-ifShort true bd g p es = ifRoom (leb (length (p .edges) + length es) (bd .edges)) bd g p es
-ifShort false bd g p es = overlong
-
-unfoldable pub unlessCycle : Bool → Bounds → Limit → View → Path → List ℕ → Try SearchRefusal Path
-unfolding ifShort
-unlessCycle true bd lim g p es = cut
-unlessCycle false bd lim g p es = ifShort (within (length (p .edges) + length es) lim) bd g p es
+-- a try of a partial path's edges; the first of the three tests is made by who asks
+unfoldable pub joined : Bool → Bounds → Limit → View → Path → List ℕ → Try SearchRefusal Path
+unfolding tested appendAll extended
+joined cycle bd lim g p es = tested cycle (within (length (p .edges) + length es) lim) (leb (length (p .edges) + length es) (bd .edges)) Search.TooLong (extended g (appendAll bd g p es))
 
 -- per partial path: cycle, length, the bound, append, completeness
 unfoldable pub judgeSlot : Bounds → Limit → View → Path → List ℕ → Try SearchRefusal Path
-unfolding unlessCycle shares
-judgeSlot bd lim g p es = unlessCycle (shares es (p .edges)) bd lim g p es
+unfolding joined shares
+judgeSlot bd lim g p es = joined (shares es (p .edges)) bd lim g p es
 
 -- the live slots that start at the path's end, by ascending number
 unfoldable pub slotTries : Bounds → Limit → View → List Slot → Path → List (Try SearchRefusal Path)

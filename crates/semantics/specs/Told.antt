@@ -1,8 +1,9 @@
 -- What each case of an answer is in document 01: its number, then the values that are returned with it.
 -- Document 01, "Turned back"; a call that is not refused has the number 0 here. Told/Laws shows that nothing is lost: answers told alike are the same.
-use Prim.Native.Nat.{ℕ}
+use Prim.Native.Nat.{ℕ, _-_}
 use mathlib.Core.Bool.{Bool, true, false}
 use mathlib.Core.List.{List, [], _∷_}
+use Rattle.semantics.specs.Database.{Part}
 use Rattle.semantics.specs.declared.search.SearchStats.{SearchStats}
 use Rattle.semantics.specs.declared.search.PartialPathStats.{PartialPathStats}
 use Rattle.semantics.specs.declared.refusal.ImageRefusal.{ImageRefusal}
@@ -131,3 +132,7 @@ toldReplacement (Replacement.Image r) = toldImage r
 toldReplacement (Replacement.Database r) = toldDatabase r
 toldReplacement (Replacement.Refused r) = toldPartial r
 toldReplacement Replacement.Full = 33 ∷ []
+
+-- where a part begins, and how many words it has
+abbrev pub toldPart : Part → List ℕ
+toldPart p = p .from ∷ (p .upTo - p .from) ∷ []

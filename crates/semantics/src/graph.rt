@@ -7,6 +7,11 @@ pub struct FileId(pub u32);
 
 pub struct PartialPathId(pub u32);
 
+// The nodes that lack a file: root is node 0, jump is node 1.
+pub const ROOT: u32 = 0;
+
+pub const JUMP: u32 = 1;
+
 // A node record by its kind, 0 to 8.
 pub enum Node {
     Removed,

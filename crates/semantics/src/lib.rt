@@ -2,5 +2,7 @@
 pub mod answer;
 pub mod bounds;
 pub mod graph;
+pub mod kinds;
 pub mod refusal;
+pub mod replayed;
 pub mod search;

@@ -13,7 +13,7 @@ pub enum Limit {
 // On a path's length, on expansions (the path count), and on the complete paths that are kept.
 pub struct SearchLimits {
     pub length: Limit,
-    pub paths: Limit,
+    pub expansions: Limit,
     pub complete: Limit,
 }
 

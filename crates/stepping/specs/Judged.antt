@@ -6,6 +6,8 @@ use mathlib.Core.Bool.{Bool, false}
 use mathlib.Core.List.{List}
 use lib.Dec.{eqb}
 use lib.ListN.{length, getD}
+use Rattle.semantics.specs.Limits.{stepLength}
+use Rattle.semantics.specs.ReplayedPaths.{stepAt}
 use Rattle.semantics.specs.declared.graph.Node.{Node}
 use Rattle.semantics.specs.declared.graph.Edge.{Edge}
 use Rattle.semantics.specs.declared.graph.Edge.the-variants as E
@@ -13,13 +15,13 @@ use Rattle.semantics.specs.declared.refusal.PathRefusal.the-variants.{UnknownNo
 use Rattle.semantics.specs.Lists.{pick}
 use Rattle.semantics.specs.Graph.{nodeId, edgeId, traits, isReference, isDefinition, isExported}
 use Rattle.semantics.specs.Path.{Path}
-use Rattle.stepping.specs.declared.step.Step.{Step}
+use Rattle.semantics.specs.declared.replayed.Step.{Step}
 use Rattle.stepping.specs.declared.step.Effect.{Effect}
 use Rattle.stepping.specs.declared.step.Effect.the-variants.{Done, Refused}
 use Rattle.stepping.specs.Steps.{plainStep, askedScope, appliedOf, remadeOf, stacksOf, Low}
-use Rattle.stepping.specs.StepWords.{stepAt, makerIn, withStep}
+use Rattle.stepping.specs.StepWords.{makerIn, withStep}
 pub mod Laws
-pub mod Again
+pub mod Remaking
 
 -- a step with empty stacks, behind which a reference is applied
 abbrev pub noStep : Step
@@ -61,16 +63,16 @@ module _ (nodes : ℕ → Node) where
 -- the last of k + 1 steps, and those that made the tops of its stacks, are in the words
 pub record Ready (ws : List ℕ) (k : ℕ) : Type 0 where
   pub few : k < 4294967294
-  pub room : 8 * k + 8 ≤ length ws
+  pub room : stepLength * k + stepLength ≤ length ws
   pub symbols : stepAt ws k .symbols ≤ k + 1
   pub scopes : stepAt ws k .scopes ≤ k + 1
 
 -- there is room for step k, and those that made the tops of the stacks of the step before are in the words
 pub record Behind (ws : List ℕ) (last : Step) (k : ℕ) : Type 0 where
   pub few : k < 4294967295
-  pub room : 8 * k + 8 ≤ length ws
-  pub symbols : 8 * last .symbols ≤ length ws
-  pub scopes : 8 * last .scopes ≤ length ws
+  pub room : stepLength * k + stepLength ≤ length ws
+  pub symbols : stepLength * last .symbols ≤ length ws
+  pub scopes : stepLength * last .scopes ≤ length ws
 
 -- the words behind a judgement: the step is added
 unfoldable pub wordsAfter : List ℕ → ℕ → Effect → List ℕ

@@ -1,17 +1,16 @@
 -- The steps of a path as cells: what a node does behind a step, and the stacks that the cells stand for.
 -- Document 01, "Path"; Steps/Laws shows that this is `extend` of the definitions.
-use Prim.Native.Nat.{ℕ, zero, suc, _+_, _-_, _≤_}
+use Prim.Native.Nat.{ℕ, _+_, _-_, _≤_}
 use mathlib.Core.Bool.{Bool}
-use mathlib.Core.Option.{Option, none, some}
-use mathlib.Core.List.{List, [], _∷_}
 use lib.Dec.{eqb, ltb}
+use Rattle.semantics.specs.ReplayedPaths.{scopesOf, symbolsOf}
 use Rattle.semantics.specs.declared.graph.Node.{Node}
 use Rattle.semantics.specs.declared.graph.Node.the-variants as N
 use Rattle.semantics.specs.declared.refusal.PathRefusal.the-variants.{UnknownNode, EmptySymbolStack, IncorrectPoppedSymbol, UnexpectedAttachedScopes, MissingAttachedScopes, EmptyScopeStack, UnknownAttachedScope}
 use Rattle.semantics.specs.Lists.{pick}
 use Rattle.semantics.specs.Graph.{nodeId}
-use Rattle.semantics.specs.Path.{Symbol, Stacks}
-use Rattle.stepping.specs.declared.step.Step.{Step}
+use Rattle.semantics.specs.Path.{Stacks}
+use Rattle.semantics.specs.declared.replayed.Step.{Step}
 use Rattle.stepping.specs.declared.step.Effect.{Effect}
 use Rattle.stepping.specs.declared.step.Effect.the-variants.{Done, Refused}
 pub mod Laws
@@ -89,31 +88,6 @@ remadeOf (N.Pop f symbol d) target edge k last top over = plainStep edge target 
 remadeOf (N.PushScoped f symbol scope r) target edge k last top over = pushScopedStep symbol (scope .0) target edge k last
 remadeOf (N.PopScoped f symbol d) target edge k last top over = plainStep edge target (top .below) (top .attached)
 remadeOf (N.DropScopes f) target edge k last top over = plainStep edge target (last .symbols) 0
-
--- THE STACKS that cells stand for, tops first; f gives each step
-
--- from a scope cell down
-unfoldable pub scopesFrom : (ℕ → Step) → ℕ → ℕ → List ℕ
-scopesFrom f zero c = []
-scopesFrom f (suc n) zero = []
-scopesFrom f (suc n) (suc c) = f c .scope ∷ scopesFrom f n (f c .scopes)
-
-abbrev pub scopesOf : (ℕ → Step) → ℕ → List ℕ
-scopesOf f c = scopesFrom f c c
-
--- the scopes attached to a symbol, if any are
-abbrev pub attachedOf : (ℕ → Step) → ℕ → Option (List ℕ)
-attachedOf f zero = none
-attachedOf f (suc c) = some (scopesOf f (suc c))
-
--- from a symbol cell down
-unfoldable pub symbolsFrom : (ℕ → Step) → ℕ → ℕ → List Symbol
-symbolsFrom f zero c = []
-symbolsFrom f (suc n) zero = []
-symbolsFrom f (suc n) (suc c) = record { symbol = f c .symbol; scopes = attachedOf f (f c .attached) } ∷ symbolsFrom f n (f c .below)
-
-abbrev pub symbolsOf : (ℕ → Step) → ℕ → List Symbol
-symbolsOf f c = symbolsFrom f c c
 
 -- the two stacks whose tops a step names
 abbrev pub stacksOf : (ℕ → Step) → Step → Stacks

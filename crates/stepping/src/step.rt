@@ -4,7 +4,7 @@
 ghost use mathlib.Core.Path.{_≡_};
 ghost use Prim.Native.Nat.{_<_};
 ghost use Rattle.semantics.specs.Graph.{isExported};
-ghost use Rattle.storage.specs.Rows.{Blocks, nodeRow, edgeRow};
+ghost use Rattle.storage.specs.Index.{Blocks, nodeRow, edgeRow};
 ghost use Rattle.stepping.specs.Steps.{plainStep, pushStep, pushScopedStep, popOf, popScopedOf, jumpOf, pushScopedOf, askedScope, appliedOf};
 ghost use Rattle.stepping.specs.Judged.{begunOf, followed, completeStep};
 use crate::node::is_reference;
@@ -14,21 +14,8 @@ use semantics::graph::EdgeId;
 use semantics::graph::Node;
 use semantics::graph::NodeId;
 use semantics::refusal::PathRefusal;
+use semantics::replayed::Step;
 use storage::store;
-
-pub struct Step {
-    // the edge that was appended, and the node where the path stands behind it
-    pub edge: u32,
-    pub end: u32,
-    // the top cells of both stacks
-    pub symbols: u32,
-    pub scopes: u32,
-    // the cell that this step made: a symbol, the scopes attached to it, the symbol below; a scope, on the scope stack
-    pub symbol: u32,
-    pub attached: u32,
-    pub below: u32,
-    pub scope: u32,
-}
 
 // What becomes of an edge: the step that is added, or the refusal.
 pub enum Effect {
@@ -36,7 +23,7 @@ pub enum Effect {
     Refused(PathRefusal),
 }
 
-pub fn plain(edge: u32, end: u32, symbols: u32, scopes: u32) -> Step
+pub(crate) fn plain(edge: u32, end: u32, symbols: u32, scopes: u32) -> Step
     ensures { λ r. ⌜ r ≡ plainStep edge end symbols scopes ⌝ }
 {
     Step {
@@ -93,7 +80,7 @@ fn jump(exported: bool, target: u32, edge: u32, last: Step, over: Step) -> Effec
     Effect::Refused(PathRefusal::UnknownAttachedScope(NodeId(over.scope)))
 }
 
-pub fn push(symbol: u32, target: u32, edge: u32, k: u32, last: Step) -> Step
+pub(crate) fn push(symbol: u32, target: u32, edge: u32, k: u32, last: Step) -> Step
     requires { ⌜ k < 4294967295 ⌝ }
     ensures { λ r. ⌜ r ≡ pushStep symbol target edge k last ⌝ }
 {
@@ -109,7 +96,14 @@ pub fn push(symbol: u32, target: u32, edge: u32, k: u32, last: Step) -> Step
     }
 }
 
-pub fn pushed_scoped(symbol: u32, scope: u32, target: u32, edge: u32, k: u32, last: Step) -> Step
+pub(crate) fn pushed_scoped(
+    symbol: u32,
+    scope: u32,
+    target: u32,
+    edge: u32,
+    k: u32,
+    last: Step,
+) -> Step
     requires { ⌜ k < 4294967295 ⌝ }
     ensures { λ r. ⌜ r ≡ pushScopedStep symbol scope target edge k last ⌝ }
 {
@@ -145,7 +139,7 @@ fn push_scoped(
 
 // Step k: a node is applied behind `last`; `top` made the top symbol, `over` the top scope. Both the judgement of an edge and what is
 // appended.
-pub fn applied(
+fn applied(
     index: &[u32],
     node: Node,
     target: u32,
@@ -198,7 +192,7 @@ pub fn applied(
 }
 
 // What becomes of an edge behind `last`: 12, 13, or its target applied.
-pub fn follow(index: &[u32], edge: u32, k: u32, last: Step, top: Step, over: Step) -> Effect
+pub(crate) fn follow(index: &[u32], edge: u32, k: u32, last: Step, top: Step, over: Step) -> Effect
     requires { ⌜ (k < 4294967295) × Blocks (now index) ⌝ }
     ensures { λ r. ⌜ r ≡ followed (nodeRow (now (index .entry))) edge k last top over (edgeRow (now (index .entry)) edge) ⌝ }
 {

@@ -3,43 +3,47 @@
 ghost use mathlib.Core.Path.{_≡_};
 ghost use Prim.Native.Nat.{_+_, _-_, _*_, _≤_};
 ghost use lib.ListN.{length};
-ghost use Rattle.storage.specs.Rows.{Blocks, nodeRow, edgeRow};
-ghost use Rattle.stepping.specs.StepWords.{stepAt, withStep, makerIn};
+ghost use Rattle.semantics.specs.Limits.{stepLength};
+ghost use Rattle.semantics.specs.ReplayedPaths.{stepAt};
+ghost use Rattle.storage.specs.Index.{Blocks, nodeRow, edgeRow};
+ghost use Rattle.stepping.specs.StepWords.{withStep, makerIn};
 ghost use Rattle.stepping.specs.Judged.{Ready, judgedOf, wordsAfter};
+use crate::layout;
 use crate::step::Effect;
-use crate::step::Step;
 use crate::step::follow;
+use semantics::bounds::STEP_WORDS;
+use semantics::replayed::Step;
 
 pub fn get_step(steps: &[u32], k: usize) -> Step
-    requires { ⌜ 8 * k + 8 ≤ length (now steps) ⌝ }
+    requires { ⌜ stepLength * k + stepLength ≤ length (now steps) ⌝ }
     ensures { λ r. ⌜ r ≡ stepAt (now (steps .entry)) k ⌝ }
 {
-    let at = 8 * k;
+    let at = STEP_WORDS * k;
     Step {
         edge: steps[at],
-        end: steps[at + 1],
-        symbols: steps[at + 2],
-        scopes: steps[at + 3],
-        symbol: steps[at + 4],
-        attached: steps[at + 5],
-        below: steps[at + 6],
-        scope: steps[at + 7],
+        end: steps[at + layout::END],
+        symbols: steps[at + layout::SYMBOLS],
+        scopes: steps[at + layout::SCOPES],
+        symbol: steps[at + layout::SYMBOL],
+        attached: steps[at + layout::ATTACHED],
+        below: steps[at + layout::BELOW],
+        scope: steps[at + layout::SCOPE],
     }
 }
 
 pub fn put_step(steps: &mut [u32], k: usize, s: Step)
-    requires { ⌜ 8 * k + 8 ≤ length (now steps) ⌝ }
+    requires { ⌜ stepLength * k + stepLength ≤ length (now steps) ⌝ }
     ensures { λ _. ⌜ now (steps .exit) ≡ withStep (now (steps .entry)) k s ⌝ }
 {
-    let at = 8 * k;
+    let at = STEP_WORDS * k;
     steps[at] = s.edge;
-    steps[at + 1] = s.end;
-    steps[at + 2] = s.symbols;
-    steps[at + 3] = s.scopes;
-    steps[at + 4] = s.symbol;
-    steps[at + 5] = s.attached;
-    steps[at + 6] = s.below;
-    steps[at + 7] = s.scope;
+    steps[at + layout::END] = s.end;
+    steps[at + layout::SYMBOLS] = s.symbols;
+    steps[at + layout::SCOPES] = s.scopes;
+    steps[at + layout::SYMBOL] = s.symbol;
+    steps[at + layout::ATTACHED] = s.attached;
+    steps[at + layout::BELOW] = s.below;
+    steps[at + layout::SCOPE] = s.scope;
 }
 
 // The number of the step that made a cell; step 0 for none.
@@ -53,8 +57,8 @@ fn made_by(cell: u32) -> usize
 }
 
 // The step that made a cell. Only its number is chosen by a test, so that of its words none is read but those that are asked for.
-pub fn maker(steps: &[u32], cell: u32) -> Step
-    requires { ⌜ (8 * cell ≤ length (now steps)) × (8 ≤ length (now steps)) ⌝ }
+pub(crate) fn maker(steps: &[u32], cell: u32) -> Step
+    requires { ⌜ (stepLength * cell ≤ length (now steps)) × (stepLength ≤ length (now steps)) ⌝ }
     ensures { λ r. ⌜ r ≡ makerIn (now (steps .entry)) cell ⌝ }
 {
     get_step(steps, made_by(cell))
@@ -73,7 +77,7 @@ pub fn judge(index: &[u32], steps: &[u32], k: u32, edge: u32) -> Effect
 
 // Judges an edge, and adds its step where it is not refused.
 pub fn append(index: &[u32], steps: &mut [u32], k: u32, edge: u32) -> Effect
-    requires { ⌜ Blocks (now index) × Ready (now steps) k × (8 * (k + 1) + 8 ≤ length (now steps)) ⌝ }
+    requires { ⌜ Blocks (now index) × Ready (now steps) k × (stepLength * (k + 1) + stepLength ≤ length (now steps)) ⌝ }
     ensures { λ r. ⌜ r ≡ judgedOf (nodeRow (now (index .entry))) (now (steps .entry)) k edge (edgeRow (now (index .entry)) edge) ⌝ }
     ensures { λ r. ⌜ now (steps .exit) ≡ wordsAfter (now (steps .entry)) (k + 1) r ⌝ }
 {

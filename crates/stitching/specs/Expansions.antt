@@ -1,47 +1,32 @@
 -- The expansion of a path by the partial paths of a database, in code against the enumeration.
 -- Document 01, "Partial paths": `try_compute_from_partials`.
-use Prim.Native.Nat.{ℕ, _≤_}
+use Prim.Native.Nat.{ℕ}
 use mathlib.Core.Path.{_≡_}
 use mathlib.Core.List.{List}
 use lib.ListN.{length, take, drop}
+use Rattle.search_rounds.specs.Expanding.{Expanding}
 use Rattle.semantics.specs.declared.refusal.SearchRefusal.{SearchRefusal}
-use Rattle.semantics.specs.Limits.{base}
+use Rattle.semantics.specs.Limits.{base, slotLength}
 use Rattle.semantics.specs.Answer.{Answer}
-use Rattle.semantics.specs.Graph.{Graph, viewOf}
+use Rattle.semantics.specs.Graph.{viewOf}
 use Rattle.semantics.specs.Path.{Path}
 use Rattle.semantics.specs.Enumeration.{State, one, each}
 use Rattle.semantics.specs.Stitching.{judgeSlot}
-use Rattle.storage.specs.Rows.{Loaded}
-use Rattle.stepping.specs.Judged.{Stepped}
 use Rattle.search_state.specs.declared.search.Search as S
 use Rattle.search_state.specs.declared.search.Going.{Going}
-use Rattle.search_state.specs.Items.{Clear}
 use Rattle.search_state.specs.Searches.{Clears}
 use Rattle.search_state.specs.Progresses.{frameOf}
-use Rattle.search_state.specs.Reps.{settingOf, Replayed, Rep, Tells}
+use Rattle.search_state.specs.Reps.{settingOf, Tells}
 use Rattle.database.specs.Records.{edgeWords}
 use Rattle.stitching_trial.specs.Trials.{KeptTo}
-use Rattle.stitching.specs.Requests.{triesIn}
+use Rattle.stitching.specs.StitchedAnswers.{triesIn}
 pub mod Laws
 pub mod Partials
 pub mod Rounds
 
--- THE PATH UNDER EXPANSION: its edges in the item, its steps, and the state of the enumeration; at most `most` partial paths were looked at
-pub record Given (most : ℕ) (index steps item : List ℕ) (k : ℕ) (s : S.Search) (ws rs : List ℕ) : Type 0 where
-  pub graph : Graph
-  pub loaded : Loaded graph index
-  pub reference : ℕ
-  pub path : Path
-  pub count : length (path .edges) ≡ k
-  pub stepped : Stepped steps k path
-  pub long : 1024 ≤ length steps
-  pub slot : length item ≡ 128
-  pub held : take k (drop 1 item) ≡ path .edges
-  pub clear : Clear (s .frontier .length) item
-  pub good : Replayed (viewOf graph) reference path
-  pub model : State Path
-  pub rep : Rep (viewOf graph) reference s ws rs model
-  pub small : model .tally .looked ≤ most
+-- the path under expansion: the item holds its edges, and behind them what an earlier trial stored there
+abbrev pub Given : ℕ → List ℕ → List ℕ → List ℕ → ℕ → S.Search → List ℕ → List ℕ → Type 0
+Given = Expanding (λ k item es. (length item ≡ slotLength) × (take k (drop 1 item) ≡ es))
 
 module _ (words : List ℕ) (most : ℕ) (index steps item : List ℕ) (k : ℕ) (s : S.Search) (ws rs : List ℕ) (v : Given most index steps item k s ws rs) where
   -- the enumeration's answer to one partial path

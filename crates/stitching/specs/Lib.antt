@@ -1,2 +1,2 @@
 pub mod Expansions
-pub mod Requests
+pub mod StitchedAnswers

@@ -2,32 +2,30 @@
 // `try_compute_from_partials`. The database is lent to be read.
 ghost use mathlib.Core.Path.{_≡_};
 ghost use lib.ListN.{length};
-ghost use Rattle.semantics.specs.Limits.{base};
+ghost use Rattle.semantics.specs.Words.{zeros};
+ghost use Rattle.semantics.specs.Entries.{requestOf, stitchedSearch, Does};
+ghost use Rattle.semantics.specs.Limits.{base, lookedEver, lookedBefore};
 ghost use Rattle.semantics.specs.Graph.{Graph, viewOf};
-ghost use Rattle.semantics.specs.Image.{symbolBytes, checkImage};
 ghost use Rattle.semantics.specs.Recorded.{recorded, returned};
-ghost use Rattle.semantics.specs.Database.{filesOnly, checkDatabase};
+ghost use Rattle.semantics.specs.Database.{knownOwners, checkDatabase};
 ghost use Rattle.semantics.specs.Told.{toldResolution};
-ghost use Rattle.semantics.specs.Calls.{onSlots, stitchedCall};
-ghost use Rattle.storage.specs.Rows.{Loaded, Takes};
+ghost use Rattle.semantics.specs.Calls.{stitchedOutcome};
+ghost use Rattle.storage.specs.Index.{Loaded, Takes, HoldsGraph, Sized};
 ghost use Rattle.path.specs.Shadows.Laws.{JumpAt};
-ghost use Rattle.recorded.specs.Beatable.{HoldsGraph};
-ghost use Rattle.recorded.specs.Replies.{replyOf};
+ghost use Rattle.reply.specs.Replies.{replyOf};
 ghost use Rattle.stitching_trial.specs.Links.{Readable, Linked, Tryable};
 ghost use Rattle.stitching.specs.Expansions.{Given, Tried, Expanded};
 ghost use Rattle.search_state.specs.Searches.{Clears};
-ghost use Rattle.rounds.specs.Drives.{Rounding, Rounded, Driving, Ends, DrivenTo};
-ghost use Rattle.rounds.specs.Requests.{requestOf, Does};
-ghost use Rattle.stitching.specs.Requests.{triesIn, stitchedOf, foundOf, Sized};
-use crate::onward;
+ghost use Rattle.search_rounds.specs.Drives.{Rounding, Rounded, Driving, Ends, DrivenTo};
+ghost use Rattle.stitching.specs.StitchedAnswers.{triesIn, stitchedOf, foundOf};
+use crate::continuation;
 use database::check;
 use database::check::Inspected;
 use database::layout;
-use recorded::reply::Reply;
-use rounds::driven::Driven;
-use rounds::driven::conclude;
-use rounds::start::start;
-use search_state::retrace::STEP_WORDS;
+use reply::finish::Reply;
+use search_rounds::conclusion::SearchEnd;
+use search_rounds::conclusion::conclude;
+use search_rounds::start::start;
 use search_state::retrace::retrace;
 use search_state::search::Going;
 use search_state::search::Search;
@@ -35,16 +33,17 @@ use search_state::search::Taken;
 use semantics::answer::Checked;
 use semantics::answer::Resolution;
 use semantics::bounds::SLOT_WORDS;
+use semantics::bounds::STEPS_WORDS;
 use semantics::graph::NodeId;
 use semantics::refusal::SearchRefusal;
 use semantics::search::SearchLimits;
 use semantics::search::SearchOrder;
 use stepping::steps;
-use stitching_trial::grown;
+use stitching_trial::joined_path;
 use stitching_trial::links;
 use stitching_trial::trial;
-use stitching_trial::trial::Trial;
-use storage::rows;
+use stitching_trial::trial::StitchTrial;
+use storage::blocks;
 use words::slots;
 
 // Partial path i is tried on the path of k edges in the item: counted where it is cut, too long or rejected, else recorded and pushed.
@@ -59,20 +58,24 @@ fn try_partial(
     work: &mut [u32],
     result: &mut [u32],
 ) -> Going
-    requires { ⌜ Tryable (now words) i × Given 1099511627776 (now index) (now steps) (now item) k search (now work) (now result) ⌝ }
-    ensures { λ r. ⌜ ((v : Given 1099511627776 (now (index .entry)) (now (steps .entry)) (now (item .entry)) k search (now (work .entry)) (now (result .entry))) → Tried (now (words .entry)) 1099511627776 (now (index .entry)) (now (steps .entry)) (now (item .entry)) k search (now (work .entry)) (now (result .entry)) v i r (now (steps .exit)) (now (item .exit)) (now (work .exit)) (now (result .exit))) ⌝ }
+    requires { ⌜ Tryable (now words) i × Given lookedEver (now index) (now steps) (now item) k search (now work) (now result) ⌝ }
+    ensures { λ r. ⌜ ((v : Given lookedEver (now (index .entry)) (now (steps .entry)) (now (item .entry)) k search (now (work .entry)) (now (result .entry)))
+        → Tried (now (words .entry)) lookedEver (now (index .entry)) (now (steps .entry)) (now (item .entry)) k search (now (work .entry)) (now (result .entry)) v i r
+        (now (steps .exit)) (now (item .exit)) (now (work .exit)) (now (result .exit))) ⌝ }
 {
     let state = search.state;
     let budget = state.budget;
     let edges = layout::edges(words, i);
-    match trial::judge(index, steps, &item[1..k + 1], edges, budget) {
-        Trial::Cut => Going::On(search.with_state(state.cut())),
-        Trial::Overlong => Going::On(search.with_state(state.measure((k + edges.len()) as u64))),
-        Trial::Rejected => Going::On(search.with_state(state.reject())),
-        Trial::Refused(r) => Going::Refused(r),
-        Trial::Extended { complete } => {
-            grown::with_edges(item, k, edges);
-            onward::extend(search, complete, work, result, item)
+    match trial::judge_partial_path(index, steps, &item[1..k + 1], edges, budget) {
+        StitchTrial::Cut => Going::On(search.with_state(state.cut())),
+        StitchTrial::Overlong => Going::On(search.with_state(state.measure(
+            (k + edges.len()) as u64,
+        ))),
+        StitchTrial::Rejected => Going::On(search.with_state(state.reject())),
+        StitchTrial::Refused(r) => Going::Refused(r),
+        StitchTrial::Extended { complete } => {
+            joined_path::with_edges(item, k, edges);
+            continuation::extend(search, complete, work, result, item)
         }
     }
 }
@@ -89,9 +92,11 @@ fn expand(
     work: &mut [u32],
     result: &mut [u32],
 ) -> Going
-    requires { ⌜ Linked (now words) (now links) × Given 549755813888 (now index) (now steps) (now item) k search (now work) (now result) ⌝ }
-    ensures { λ r. ⌜ ((v : Given 549755813888 (now (index .entry)) (now (steps .entry)) (now (item .entry)) k search (now (work .entry)) (now (result .entry))) → Expanded (now (words .entry)) 549755813888 (now (index .entry)) (now (steps .entry)) (now (item .entry)) k search (now (work .entry)) (now (result .entry)) v r (now (steps .exit)) (now (work .exit)) (now (result .exit))) ⌝ }
-    ensures { λ r. ⌜ (Given 549755813888 (now (index .entry)) (now (steps .entry)) (now (item .entry)) k search (now (work .entry)) (now (result .entry)) → Clears r (now (item .exit))) ⌝ }
+    requires { ⌜ Linked (now words) (now links) × Given lookedBefore (now index) (now steps) (now item) k search (now work) (now result) ⌝ }
+    ensures { λ r. ⌜ ((v : Given lookedBefore (now (index .entry)) (now (steps .entry)) (now (item .entry)) k search (now (work .entry)) (now (result .entry)))
+        → Expanded (now (words .entry)) lookedBefore (now (index .entry)) (now (steps .entry)) (now (item .entry)) k search (now (work .entry)) (now (result .entry)) v r
+        (now (steps .exit)) (now (work .exit)) (now (result .exit))) ⌝ }
+    ensures { λ r. ⌜ (Given lookedBefore (now (index .entry)) (now (steps .entry)) (now (item .entry)) k search (now (work .entry)) (now (result .entry)) → Clears r (now (item .exit))) ⌝ }
 {
     let mut on = search;
     let mut link = links::first(links, steps::get_step(steps, k).end);
@@ -119,9 +124,11 @@ fn round(
     work: &mut [u32],
     result: &mut [u32],
 ) -> Going
-    requires { ⌜ Linked (now words) (now links) × Rounding 549755813888 (now index) (now steps) (now item) laid search (now work) (now result) ⌝ }
-    ensures { λ r. ⌜ ((v : Rounding 549755813888 (now (index .entry)) (now (steps .entry)) (now (item .entry)) laid search (now (work .entry)) (now (result .entry))) → Rounded (triesIn (now (words .entry))) 549755813888 (now (index .entry)) (now (steps .entry)) (now (item .entry)) laid search (now (work .entry)) (now (result .entry)) v r (now (steps .exit)) (now (work .exit)) (now (result .exit))) ⌝ }
-    ensures { λ r. ⌜ (Rounding 549755813888 (now (index .entry)) (now (steps .entry)) (now (item .entry)) laid search (now (work .entry)) (now (result .entry)) → Clears r (now (item .exit))) ⌝ }
+    requires { ⌜ Linked (now words) (now links) × Rounding lookedBefore (now index) (now steps) (now item) laid search (now work) (now result) ⌝ }
+    ensures { λ r. ⌜ ((v : Rounding lookedBefore (now (index .entry)) (now (steps .entry)) (now (item .entry)) laid search (now (work .entry)) (now (result .entry)))
+        → Rounded (triesIn (now (words .entry))) lookedBefore (now (index .entry)) (now (steps .entry)) (now (item .entry)) laid search (now (work .entry))
+        (now (result .entry)) v r (now (steps .exit)) (now (work .exit)) (now (result .exit))) ⌝ }
+    ensures { λ r. ⌜ (Rounding lookedBefore (now (index .entry)) (now (steps .entry)) (now (item .entry)) laid search (now (work .entry)) (now (result .entry)) → Clears r (now (item .exit))) ⌝ }
 {
     let k = item[0] as usize;
     retrace(index, steps, &item[1..k + 1], laid);
@@ -138,16 +145,18 @@ fn drive(
     search: Search,
     work: &mut [u32],
     result: &mut [u32],
-) -> Driven
+) -> SearchEnd
     requires { ⌜ Linked (now words) (now links) × Driving (now index) (now steps) (now item) search (now work) (now result) ⌝ }
-    ensures { λ r. ⌜ ((v : Driving (now (index .entry)) (now (steps .entry)) (now (item .entry)) search (now (work .entry)) (now (result .entry))) → DrivenTo (triesIn (now (words .entry))) (now (index .entry)) (now (steps .entry)) (now (item .entry)) search (now (work .entry)) (now (result .entry)) v r (now (result .exit))) ⌝ }
+    ensures { λ r. ⌜ ((v : Driving (now (index .entry)) (now (steps .entry)) (now (item .entry)) search (now (work .entry)) (now (result .entry)))
+        → DrivenTo (triesIn (now (words .entry))) (now (index .entry)) (now (steps .entry)) (now (item .entry)) search (now (work .entry)) (now (result .entry)) v r
+        (now (result .exit))) ⌝ }
 {
     let mut on = search;
     let mut laid: usize = 0;
     loop {
-        match onward::take(on, work, item) {
-            Taken::Over(state) => return Driven::Over(state),
-            Taken::TooMany => return Driven::Refused(SearchRefusal::TooManyExpansions),
+        match continuation::take(on, work, item) {
+            Taken::Over(state) => return SearchEnd::Over(state),
+            Taken::TooMany => return SearchEnd::Refused(SearchRefusal::TooManyExpansions),
             Taken::Expand(next) => {
                 let k = item[0] as usize;
                 match round(index, words, links, steps, item, laid, next, work, result) {
@@ -155,16 +164,16 @@ fn drive(
                         on = s;
                         laid = k;
                     }
-                    Going::Refused(r) => return Driven::Refused(r),
+                    Going::Refused(r) => return SearchEnd::Refused(r),
                 }
             }
         }
     }
 }
 
-// The search on a loaded graph and a checked database: the kept paths stand in the result slots where it is over, and the work area as it was
-// left.
-fn attempt(
+// The search on a loaded graph and a checked database, in a result area that is zero: the kept paths stand in its slots where the search is
+// over, and the work area as it was left.
+fn search_kept(
     index: &[u32],
     words: &[u32],
     reference: u32,
@@ -172,11 +181,12 @@ fn attempt(
     limits: SearchLimits,
     work: &mut [u32],
     result: &mut [u32],
-) -> Driven
-    requires { ⌜ HoldsGraph (now index) × Readable (now words) ⌝ }
-    ensures { λ r. ⌜ ((g : Graph) → Loaded g (now (index .entry)) → Ends r (now (result .exit)) (stitchedOf g (now (words .entry)) (requestOf order limits (now (work .entry)) (now (result .entry)) reference))) ⌝ }
+) -> SearchEnd
+    requires { ⌜ HoldsGraph (now index) × Readable (now words) × (now result ≡ zeros (length (now result))) ⌝ }
+    ensures { λ r. ⌜ ((g : Graph) → Loaded g (now (index .entry)) → Ends r (now (result .exit))
+        (stitchedOf g (now (words .entry)) (requestOf order limits (now (work .entry)) (now (result .entry)) reference))) ⌝ }
 {
-    let mut steps = [0u32; STEP_WORDS];
+    let mut steps = [0u32; STEPS_WORDS];
     let mut item = [0u32; SLOT_WORDS];
     match start(
         index,
@@ -202,12 +212,30 @@ fn attempt(
                 result,
             )
         }
-        Going::Refused(r) => Driven::Refused(r),
+        Going::Refused(r) => SearchEnd::Refused(r),
     }
 }
 
+// The same, in a result area with any words.
+fn attempt(
+    index: &[u32],
+    words: &[u32],
+    reference: u32,
+    order: SearchOrder,
+    limits: SearchLimits,
+    work: &mut [u32],
+    result: &mut [u32],
+) -> SearchEnd
+    requires { ⌜ HoldsGraph (now index) × Readable (now words) ⌝ }
+    ensures { λ r. ⌜ ((g : Graph) → Loaded g (now (index .entry)) → Ends r (now (result .exit))
+        (stitchedOf g (now (words .entry)) (requestOf order limits (now (work .entry)) (now (result .entry)) reference))) ⌝ }
+{
+    slots::zero(result);
+    search_kept(index, words, reference, order, limits, work, result)
+}
+
 // The search with the paths of the reply; both areas as every call leaves them.
-pub fn search_loaded(
+fn search_loaded(
     index: &[u32],
     words: &[u32],
     reference: u32,
@@ -218,7 +246,9 @@ pub fn search_loaded(
     result: &mut [u32],
 ) -> Resolution
     requires { ⌜ HoldsGraph (now index) × Readable (now words) ⌝ }
-    ensures { λ r. ⌜ ((g : Graph) → Loaded g (now (index .entry)) → JumpAt (viewOf g) → Does (foundOf g (now (words .entry)) reply (requestOf order limits (now (work .entry)) (now (result .entry)) reference)) r (now (work .exit)) (now (result .exit))) ⌝ }
+    ensures { λ r. ⌜ ((g : Graph) → Loaded g (now (index .entry)) → JumpAt (viewOf g)
+        → Does (foundOf g (now (words .entry)) reply (requestOf order limits (now (work .entry)) (now (result .entry)) reference)) r (now (work .exit))
+        (now (result .exit))) ⌝ }
 {
     let driven = attempt(index, words, reference, order, limits, work, result);
     conclude(index, driven, reply, work, result)
@@ -238,7 +268,9 @@ fn search_database(
     result: &mut [u32],
 ) -> Resolution
     requires { ⌜ Sized (now index) nodes files ⌝ }
-    ensures { λ r. ⌜ ((g : Graph) → Loaded g (now (index .entry)) → JumpAt (viewOf g) → nodes ≡ length (g .nodes) → files ≡ g .files → Does (onSlots base (replyOf reply) g (requestOf order limits (now (work .entry)) (now (result .entry)) reference) (checkDatabase base filesOnly g (now (words .entry)))) r (now (work .exit)) (now (result .exit))) ⌝ }
+    ensures { λ r. ⌜ ((g : Graph) → Loaded g (now (index .entry)) → JumpAt (viewOf g) → nodes ≡ length (g .nodes) → files ≡ g .files
+        → Does (stitchedOutcome base (replyOf reply) g (requestOf order limits (now (work .entry)) (now (result .entry)) reference)
+        (checkDatabase base knownOwners g (now (words .entry)))) r (now (work .exit)) (now (result .exit))) ⌝ }
 {
     match check::check(words, nodes, files) {
         Inspected::Refused(r) => {
@@ -265,7 +297,8 @@ fn search_in(
     result: &mut [u32],
 ) -> Resolution
     requires { ⌜ Takes (now image) (now index) ⌝ }
-    ensures { λ r. ⌜ Does (stitchedCall base (replyOf reply) filesOnly (checkImage symbolBytes (now (image .entry))) (now (words .entry)) (requestOf order limits (now (work .entry)) (now (result .entry)) reference)) r (now (work .exit)) (now (result .exit)) ⌝ }
+    ensures { λ r. ⌜ Does (stitchedSearch (replyOf reply) (now (image .entry)) (now (words .entry)) reference order limits (now (work .entry)) (now (result .entry))) r
+        (now (work .exit)) (now (result .exit)) ⌝ }
 {
     match storage::check::load_fresh(image, index) {
         Checked::Refused(r) => {
@@ -303,10 +336,11 @@ fn search_image(
     work: &mut [u32],
     result: &mut [u32],
 ) -> Resolution
-    ensures { λ r. ⌜ Does (stitchedCall base (replyOf reply) filesOnly (checkImage symbolBytes (now (image .entry))) (now (words .entry)) (requestOf order limits (now (work .entry)) (now (result .entry)) reference)) r (now (work .exit)) (now (result .exit)) ⌝ }
+    ensures { λ r. ⌜ Does (stitchedSearch (replyOf reply) (now (image .entry)) (now (words .entry)) reference order limits (now (work .entry)) (now (result .entry))) r
+        (now (work .exit)) (now (result .exit)) ⌝ }
 {
     if storage::check::is_small(image) {
-        let mut index = [0u32; rows::SMALL];
+        let mut index = [0u32; blocks::SMALL];
         return search_in(
             image,
             &mut index,
@@ -319,7 +353,7 @@ fn search_image(
             result,
         );
     }
-    let mut index = [0u32; rows::INDEX];
+    let mut index = [0u32; blocks::INDEX];
     search_in(
         image,
         &mut index,
@@ -343,9 +377,10 @@ pub fn search(
     work: &mut [u32],
     result: &mut [u32],
 ) -> Resolution
-    ensures { λ r. ⌜ toldResolution r ≡ toldResolution (stitchedCall base returned filesOnly (checkImage symbolBytes (now (image .entry))) (now (words .entry)) (requestOf order limits (now (work .entry)) (now (result .entry)) (reference .0)) .answer) ⌝ }
-    ensures { λ _. ⌜ now (work .exit) ≡ stitchedCall base returned filesOnly (checkImage symbolBytes (now (image .entry))) (now (words .entry)) (requestOf order limits (now (work .entry)) (now (result .entry)) (reference .0)) .work ⌝ }
-    ensures { λ _. ⌜ now (result .exit) ≡ stitchedCall base returned filesOnly (checkImage symbolBytes (now (image .entry))) (now (words .entry)) (requestOf order limits (now (work .entry)) (now (result .entry)) (reference .0)) .result ⌝ }
+    ensures { λ r. ⌜ toldResolution r ≡ toldResolution (stitchedSearch returned (now (image .entry)) (now (words .entry)) (reference .0) order limits (now (work .entry))
+        (now (result .entry)) .answer) ⌝ }
+    ensures { λ _. ⌜ now (work .exit) ≡ stitchedSearch returned (now (image .entry)) (now (words .entry)) (reference .0) order limits (now (work .entry)) (now (result .entry)) .work ⌝ }
+    ensures { λ _. ⌜ now (result .exit) ≡ stitchedSearch returned (now (image .entry)) (now (words .entry)) (reference .0) order limits (now (work .entry)) (now (result .entry)) .result ⌝ }
 {
     search_image(
         image,
@@ -369,9 +404,10 @@ pub fn search_recorded(
     work: &mut [u32],
     result: &mut [u32],
 ) -> Resolution
-    ensures { λ r. ⌜ toldResolution r ≡ toldResolution (stitchedCall base recorded filesOnly (checkImage symbolBytes (now (image .entry))) (now (words .entry)) (requestOf order limits (now (work .entry)) (now (result .entry)) (reference .0)) .answer) ⌝ }
-    ensures { λ _. ⌜ now (work .exit) ≡ stitchedCall base recorded filesOnly (checkImage symbolBytes (now (image .entry))) (now (words .entry)) (requestOf order limits (now (work .entry)) (now (result .entry)) (reference .0)) .work ⌝ }
-    ensures { λ _. ⌜ now (result .exit) ≡ stitchedCall base recorded filesOnly (checkImage symbolBytes (now (image .entry))) (now (words .entry)) (requestOf order limits (now (work .entry)) (now (result .entry)) (reference .0)) .result ⌝ }
+    ensures { λ r. ⌜ toldResolution r ≡ toldResolution (stitchedSearch recorded (now (image .entry)) (now (words .entry)) (reference .0) order limits (now (work .entry))
+        (now (result .entry)) .answer) ⌝ }
+    ensures { λ _. ⌜ now (work .exit) ≡ stitchedSearch recorded (now (image .entry)) (now (words .entry)) (reference .0) order limits (now (work .entry)) (now (result .entry)) .work ⌝ }
+    ensures { λ _. ⌜ now (result .exit) ≡ stitchedSearch recorded (now (image .entry)) (now (words .entry)) (reference .0) order limits (now (work .entry)) (now (result .entry)) .result ⌝ }
 {
     search_image(
         image,

@@ -2,14 +2,13 @@
 -- Document 01, "Answer": "A result slot is 128 words of 32 bits: edge count, edges, zeros .. Waiting paths are held likewise".
 use Prim.Native.Nat.{ℕ, zero, suc, _+_, _-_, _<_, _≤_}
 use native.Mathlib.Omega.{arith}
-use native.Mathlib.Numerals.{add-one}
-use mathlib.Core.Path.{_≡_, refl, sym, ap, ap₂, subst, _∙_}
+use mathlib.Core.Path.{_≡_, refl, sym, ap, ap₂, _∙_}
 use mathlib.Core.List.{List, [], _∷_, _++_, append-nil, append-assoc}
 use borrow.Rule.Slice.PartMut.{putMid, post-is}
 use lib.ListN.{length, take, drop, set, getD, length-append, length-drop, length-set, drop-of-length-le}
 use lib.Seq.{length-take-le, take-suc, take-all}
 use Rattle.semantics.specs.Words.{zeros, encode}
-use Rattle.search_state.specs.Items.{withEdge, Carries}
+use Rattle.search_state.specs.Items.{withEdge}
 use Rattle.search_state.specs.Items.Laws.{carries-slot}
 
 -- ---- cut
@@ -25,10 +24,10 @@ take-padded (x ∷ es) zero n h k = absurd (omega (arith, h))
 take-padded (x ∷ es) (suc m) n h k = ap (λ (l : List ℕ). x ∷ l) (take-padded es m n (omega (arith, h)) (omega (arith, k)) ∙ ap (λ (j : ℕ). es ++ zeros j) (let z : m - length es ≡ suc m - suc (length es) = omega arith in z))
 
 -- the count stored, and zeros behind the first k edges
-pub cut-short : (m : ℕ) (item : List ℕ) (k : ℕ) → length item ≡ suc m → k ≤ m → (z : List ℕ) → z ≡ zeros (m - k) → putMid (k + 1) (suc m - (k + 1)) (set item 0 k) z ≡ encode (suc m) (take k (drop 1 item))
+pub cut-short : (m : ℕ) (item : List ℕ) (k : ℕ) → length item ≡ suc m → k ≤ m → {z : List ℕ} → z ≡ zeros (m - k) → putMid (k + 1) (suc m - (k + 1)) (set item 0 k) z ≡ encode (suc m) (take k (drop 1 item))
 unfolding encode
-cut-short m [] k l h z e = absurd (omega (arith, l))
-cut-short m (w ∷ rest) k l h z e =
+cut-short m [] k l h e = absurd (omega (arith, l))
+cut-short m (w ∷ rest) k l h {z} e =
     let n : length (take k rest) ≡ k = length-take-le k rest (omega (arith, l, h)) in
     let a : take (k + 1) (k ∷ rest) ≡ k ∷ take k rest = ap (λ (j : ℕ). take j (k ∷ rest)) (let y : k + 1 ≡ suc k = omega arith in y) in
     let b : drop (suc m) (k ∷ rest) ≡ [] = drop-of-length-le (k ∷ rest) {i = suc m} (omega (arith, l)) in
@@ -56,12 +55,12 @@ up-none : (ps edges : List ℕ) → upTo 0 ps edges ≡ ps
 up-none ps edges = append-nil ps
 
 -- at the head of the loop: the first i edges stand behind those of the path
-pub grown-start : (m : ℕ) (item ps edges : List ℕ) → item ≡ encode (suc m) ps → item ≡ encode (suc m) (upTo 0 ps edges)
-grown-start m item ps edges e = e ∙ ap (encode (suc m)) (sym (up-none ps edges))
+pub grown-start : (m : ℕ) {item : List ℕ} (ps edges : List ℕ) → item ≡ encode (suc m) ps → item ≡ encode (suc m) (upTo 0 ps edges)
+grown-start m ps edges e = e ∙ ap (encode (suc m)) (sym (up-none ps edges))
 
-pub grown-again : (m : ℕ) (item ps edges : List ℕ) (k i : ℕ) → item ≡ encode (suc m) (upTo i ps edges) → length ps ≡ k → k + length edges ≤ m → i < length edges
-    → (item′ : List ℕ) → item′ ≡ withEdge item (k + i) (getD edges i 0) → item′ ≡ encode (suc m) (upTo (i + 1) ps edges)
-grown-again m item ps edges k i e n f h item′ q =
+pub grown-again : (m : ℕ) {item : List ℕ} (ps edges : List ℕ) {k : ℕ} (i : ℕ) → item ≡ encode (suc m) (upTo i ps edges) → length ps ≡ k → k + length edges ≤ m → i < length edges
+    → {item′ : List ℕ} → item′ ≡ withEdge item (k + i) (getD edges i 0) → item′ ≡ encode (suc m) (upTo (i + 1) ps edges)
+grown-again m ps edges {k} i e n f h q =
     let es = upTo i ps edges in
     let t : length (take i edges) ≡ i = length-take-le i edges (omega (arith, h)) in
     let c : length es ≡ k + i = length-append ps (take i edges) ∙ (let z : length ps + length (take i edges) ≡ k + i = omega (arith, n, t) in z) in
@@ -70,13 +69,13 @@ grown-again m item ps edges k i e n f h item′ q =
     append-assoc ps (take i edges) (getD edges i 0 ∷ []) ∙ ap (λ (l : List ℕ). ps ++ l) (sym (take-suc edges i 0 h)) ∙ ap (λ (j : ℕ). upTo j ps edges) (let z : suc i ≡ i + 1 = omega arith in z) in
     q ∙ ap (λ (l : List ℕ). withEdge l (k + i) (getD edges i 0)) e ∙ ap (λ (j : ℕ). withEdge (encode (suc m) es) j (getD edges i 0)) (sym c) ∙ g ∙ ap (encode (suc m)) s
 
-pub grown-end : (m : ℕ) (item ps edges : List ℕ) (i : ℕ) → item ≡ encode (suc m) (upTo i ps edges) → length edges ≤ i → item ≡ encode (suc m) (ps ++ edges)
-grown-end m item ps edges i e h = e ∙ ap (λ (l : List ℕ). encode (suc m) (ps ++ l)) (take-all i edges h)
+pub grown-end : (m : ℕ) {item : List ℕ} (ps edges : List ℕ) (i : ℕ) → item ≡ encode (suc m) (upTo i ps edges) → length edges ≤ i → item ≡ encode (suc m) (ps ++ edges)
+grown-end m ps edges i e h = e ∙ ap (λ (l : List ℕ). encode (suc m) (ps ++ l)) (take-all i edges h)
 
 -- the first edges of what was grown are those of the path
-pub grown-front : (m : ℕ) (ps es : List ℕ) (k : ℕ) → length ps ≡ k → k + length es ≤ m → take k (drop 1 (encode (suc m) (ps ++ es))) ≡ ps
+pub grown-front : (m : ℕ) (ps es : List ℕ) {k : ℕ} → length ps ≡ k → k + length es ≤ m → take k (drop 1 (encode (suc m) (ps ++ es))) ≡ ps
 unfolding encode
-grown-front m ps es k n h =
+grown-front m ps es n h =
     ap (λ (j : ℕ). take j (take m (ps ++ es ++ zeros (suc m)))) (sym n) ∙ front ps es m (zeros (suc m)) (omega (arith, n, h))
   where
     front : (ps es : List ℕ) (m : ℕ) (zs : List ℕ) → length ps ≤ m → take (length ps) (take m (ps ++ es ++ zs)) ≡ ps

@@ -7,10 +7,10 @@ use mathlib.Core.List.{List, [], _∷_}
 use lib.Dec.{eqb, ltb}
 use lib.ListN.{length, getD, set, drop}
 use Rattle.semantics.specs.Lists.{pick, consIf}
-use Rattle.semantics.specs.Limits.{base}
+use Rattle.semantics.specs.Limits.{base, maxEdges}
 use Rattle.semantics.specs.PartialPaths.{Slot, dead, slot}
-use Rattle.semantics.specs.Database.{nodesIn, filesOnly, slotsIn, wellFormed}
-use Rattle.storage.specs.Rows.{NODES}
+use Rattle.semantics.specs.Database.{nodesIn, knownOwners, slotsIn, wellFormed}
+use Rattle.storage.specs.Index.{NODES}
 use Rattle.database.specs.Records.{InWords, countWord}
 pub mod Laws
 
@@ -52,13 +52,17 @@ startingAt n i (slot f s e es ∷ ss) = consIf (eqb s n) i (startingAt n (suc i)
 
 -- words that meet neither 35 nor, with any loaded graph, 34
 pub record Readable (words : List ℕ) : Type 0 where
-  pub formed : wellFormed base filesOnly words ≡ true
+  pub formed : wellFormed base knownOwners words ≡ true
   pub nodes : nodesIn words ≤ NODES
 
--- the records from i on are linked
-pub record LinkedFrom (words links : List ℕ) (i : ℕ) : Type 0 where
+-- the slots of a list are linked from number i on
+pub record Linking (db : List Slot) (links : List ℕ) (i : ℕ) : Type 0 where
   pub long : length links ≡ LINKS
-  pub passes : (n : ℕ) → Passes links (firstLink links n) (startingAt n i (drop i (slotsIn base words)))
+  pub passes : (n : ℕ) → Passes links (firstLink links n) (startingAt n i (drop i db))
+
+-- those that the words hold
+abbrev pub LinkedFrom : List ℕ → List ℕ → ℕ → Type 0
+LinkedFrom words links i = Linking (slotsIn base words) links i
 
 -- all records of such words are
 pub record Linked (words links : List ℕ) : Type 0 where
@@ -71,7 +75,7 @@ pub record Tryable (words : List ℕ) (i : ℕ) : Type 0 where
   pub known : i < RECORDS
   pub inside : InWords base i words
   pub some : 1 ≤ countWord base i words
-  pub few : countWord base i words ≤ 127
+  pub few : countWord base i words ≤ maxEdges
 
 -- each of the numbers is so
 abbrev pub Each : (ℕ → Type 0) → List ℕ → Type 0

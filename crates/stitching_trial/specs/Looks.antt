@@ -10,9 +10,8 @@ use Rattle.semantics.specs.declared.refusal.SearchRefusal.{SearchRefusal}
 use Rattle.semantics.specs.Limits.{within}
 use Rattle.semantics.specs.Graph.{View}
 use Rattle.semantics.specs.Path.{Path}
-use Rattle.semantics.specs.Enumeration.{State, Try, cut, overlong, reject, stop, go, one, judged, withStats, withTally, addLooked, addOverlong, addCycle, addRejected, flagLength}
-use Rattle.budget.specs.Budget.{lengthening, limitsOf}
-use Rattle.budget.specs.Budget.Laws.{lengthening-limits, lengthening-refused}
+use Rattle.semantics.specs.Enumeration.{State, cut, overlong, reject, stop, go, one, judged, withTally, addLooked, addCycle, addRejected, flagLength}
+use Rattle.path_budget.specs.Budget.Laws.{lengthening-limits, lengthening-refused}
 use Rattle.search_state.specs.declared.search.Search as S
 use Rattle.search_state.specs.declared.search.Going.{Going}
 use Rattle.search_state.specs.declared.search.Going.the-variants.{On, Refused}
@@ -98,4 +97,4 @@ module _ (g : View) (r : ℕ) (s : S.Search) (ws rs : List ℕ) (m : State Path)
 
   -- and leaves the item clear behind the words of a slot
   pub look-clears : (b : Bool) (q : Path) → Replayed g r q → (item : List ℕ) → item ≡ slotOf q → (a : Going) (ws′ rs′ : List ℕ) → ExtendsTo s b ws rs item a ws′ rs′ → Clears a item
-  look-clears b q good item e a ws′ rs′ x = extend-clears g r (frameOf s) b a ws′ rs′ lookedAt q item e (x g r lookedAt q (m .tally .looked) rep-looked (rep .few) refl good e)
+  look-clears b q good item e a ws′ rs′ x = extend-clears g r (frameOf s) b a ws′ rs′ lookedAt q e (x g r lookedAt q (m .tally .looked) rep-looked (rep .few) refl good e)

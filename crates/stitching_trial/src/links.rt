@@ -9,7 +9,7 @@ ghost use Rattle.semantics.specs.Database.{usedIn};
 ghost use Rattle.stitching_trial.specs.Links.{LINKS, firstLink, nextLink, Readable, LinkedFrom, Linked};
 use database::layout;
 use semantics::bounds;
-use storage::rows;
+use storage::blocks;
 
 // The first record of each start node, then for each record the next one with the same start. A link is a record's number plus 1; 0 is none.
 const NEXT: usize = 2048;
@@ -21,7 +21,7 @@ pub fn first(links: &[u32], node: u32) -> u32
     requires { ⌜ length (now links) ≡ LINKS ⌝ }
     ensures { λ r. ⌜ r ≡ firstLink (now (links .entry)) node ⌝ }
 {
-    if node < rows::NODES {
+    if node < blocks::NODES {
         links[node as usize]
     } else {
         0

@@ -3,8 +3,8 @@
 ghost use mathlib.Core.Path.{_≡_};
 ghost use Rattle.semantics.specs.Lists.{shares};
 ghost use Rattle.stitching_trial.specs.Trials.{Appends, AppendsTo, endedBy, Judging, JudgedAs};
-use budget::path_budget::Budget;
-use search_state::item;
+use path_budget::budget::Budget;
+use search_state::path_slot;
 use semantics::bounds::MAX_EDGES;
 use semantics::refusal::PathRefusal;
 use semantics::refusal::SearchRefusal;
@@ -12,7 +12,7 @@ use stepping::step;
 use stepping::step::Effect;
 use stepping::steps;
 
-pub enum Trial {
+pub enum StitchTrial {
     Cut,
     Overlong,
     Rejected,
@@ -25,7 +25,7 @@ fn shares(edges: &[u32], path: &[u32]) -> bool
     ensures { λ r. ⌜ r ≡ shares (now (edges .entry)) (now (path .entry)) ⌝ }
 {
     for i in 0..edges.len() {
-        if item::contains(path, edges[i]) {
+        if path_slot::contains(path, edges[i]) {
             return true;
         }
     }
@@ -35,7 +35,8 @@ fn shares(edges: &[u32], path: &[u32]) -> bool
 // The edges are appended in order behind the k edges of the path, whose own steps stay. Answers the last step or the first refusal.
 fn append_all(index: &[u32], steps: &mut [u32], k: usize, edges: &[u32]) -> Effect
     requires { ⌜ Appends (now index) (now steps) k (now edges) ⌝ }
-    ensures { λ r. ⌜ ((v : Appends (now (index .entry)) (now (steps .entry)) k (now (edges .entry))) → AppendsTo (now (index .entry)) (now (steps .entry)) k (now (edges .entry)) v r (now (steps .exit))) ⌝ }
+    ensures { λ r. ⌜ ((v : Appends (now (index .entry)) (now (steps .entry)) k (now (edges .entry)))
+        → AppendsTo (now (index .entry)) (now (steps .entry)) k (now (edges .entry)) v r (now (steps .exit))) ⌝ }
 {
     let mut i: usize = 0;
     while i < edges.len() {
@@ -49,35 +50,42 @@ fn append_all(index: &[u32], steps: &mut [u32], k: usize, edges: &[u32]) -> Effe
 }
 
 // An unknown edge ends the search with 12, any other refusal of the path rules is a rejection.
-fn ended(refusal: PathRefusal) -> Trial
+fn ended(refusal: PathRefusal) -> StitchTrial
     ensures { λ r. ⌜ r ≡ endedBy refusal ⌝ }
 {
     match refusal {
         PathRefusal::UnknownEdge(edge) => {
-            Trial::Refused(SearchRefusal::Path(PathRefusal::UnknownEdge(edge)))
+            StitchTrial::Refused(SearchRefusal::Path(PathRefusal::UnknownEdge(edge)))
         }
-        PathRefusal::UnknownNode(_) => Trial::Rejected,
-        PathRefusal::NotReference(_) => Trial::Rejected,
+        PathRefusal::UnknownNode(_) => StitchTrial::Rejected,
+        PathRefusal::NotReference(_) => StitchTrial::Rejected,
         PathRefusal::IncorrectSource {
             expected: _,
             actual: _,
-        } => Trial::Rejected,
-        PathRefusal::EmptySymbolStack(_) => Trial::Rejected,
-        PathRefusal::IncorrectPoppedSymbol(_) => Trial::Rejected,
-        PathRefusal::UnexpectedAttachedScopes(_) => Trial::Rejected,
-        PathRefusal::MissingAttachedScopes(_) => Trial::Rejected,
-        PathRefusal::EmptyScopeStack(_) => Trial::Rejected,
-        PathRefusal::UnknownAttachedScope(_) => Trial::Rejected,
+        } => StitchTrial::Rejected,
+        PathRefusal::EmptySymbolStack(_) => StitchTrial::Rejected,
+        PathRefusal::IncorrectPoppedSymbol(_) => StitchTrial::Rejected,
+        PathRefusal::UnexpectedAttachedScopes(_) => StitchTrial::Rejected,
+        PathRefusal::MissingAttachedScopes(_) => StitchTrial::Rejected,
+        PathRefusal::EmptyScopeStack(_) => StitchTrial::Rejected,
+        PathRefusal::UnknownAttachedScope(_) => StitchTrial::Rejected,
     }
 }
 
 // `path` are the edges of the path; its steps stand in `steps`, and what is tried behind them is overwritten by the next trial.
-pub fn judge(index: &[u32], steps: &mut [u32], path: &[u32], edges: &[u32], budget: Budget) -> Trial
+pub fn judge_partial_path(
+    index: &[u32],
+    steps: &mut [u32],
+    path: &[u32],
+    edges: &[u32],
+    budget: Budget,
+) -> StitchTrial
     requires { ⌜ Judging (now index) (now steps) (now path) (now edges) ⌝ }
-    ensures { λ r. ⌜ ((v : Judging (now (index .entry)) (now (steps .entry)) (now (path .entry)) (now (edges .entry))) → JudgedAs (now (index .entry)) (now (steps .entry)) (now (path .entry)) (now (edges .entry)) v (budget .maxLength) r (now (steps .exit))) ⌝ }
+    ensures { λ r. ⌜ ((v : Judging (now (index .entry)) (now (steps .entry)) (now (path .entry)) (now (edges .entry)))
+        → JudgedAs (now (index .entry)) (now (steps .entry)) (now (path .entry)) (now (edges .entry)) v (budget .maxLength) r (now (steps .exit))) ⌝ }
 {
     if shares(edges, path) {
-        return Trial::Cut;
+        return StitchTrial::Cut;
     }
     let whole = path.len() + edges.len();
     let asked = budget.admitted_length(whole as u64);
@@ -85,14 +93,14 @@ pub fn judge(index: &[u32], steps: &mut [u32], path: &[u32], edges: &[u32], budg
         if whole <= MAX_EDGES {
             match append_all(index, steps, path.len(), edges) {
                 Effect::Done(last) => {
-                    return Trial::Extended {
+                    return StitchTrial::Extended {
                         complete: step::is_complete(index, last),
                     };
                 }
                 Effect::Refused(r) => return ended(r),
             }
         }
-        return Trial::Refused(SearchRefusal::TooLong);
+        return StitchTrial::Refused(SearchRefusal::TooLong);
     }
-    Trial::Overlong
+    StitchTrial::Overlong
 }

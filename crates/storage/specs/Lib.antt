@@ -1,4 +1,4 @@
-pub mod Rows
+pub mod Index
 pub mod Links
 pub mod References
 pub mod Checks

@@ -5,7 +5,7 @@ use mathlib.Core.Path.{_≡_}
 use mathlib.Core.List.{List}
 use lib.ListN.{length, drop}
 use Rattle.semantics.specs.Graph.{Graph, viewOf, outgoing}
-use Rattle.storage.specs.Rows.{NODES, EDGES, Blocks, nodeRow, edgeRow, firstRow, Runs}
+use Rattle.storage.specs.Index.{NODES, EDGES, Blocks, nodeRow, edgeRow, firstRow, Runs}
 pub mod Laws
 
 -- the records of the graph are in place, and the edges from e on are linked

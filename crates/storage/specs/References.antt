@@ -7,7 +7,7 @@ use mathlib.Core.List.{List}
 use lib.ListN.{length}
 use Rattle.semantics.specs.Acceptance.{nodeFits, edgeFits}
 use Rattle.semantics.specs.Graph.{Graph, viewOf}
-use Rattle.storage.specs.Rows.{BLOCK, SOURCE, cell}
+use Rattle.storage.specs.Index.{BLOCK, SOURCE, cell}
 pub mod Laws
 
 -- k is the first number below `count` where the test fails, or `count`

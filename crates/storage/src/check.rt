@@ -3,23 +3,25 @@
 ghost use mathlib.Core.Path.{_≡_};
 ghost use Prim.Native.Nat.{_<_};
 ghost use lib.ListN.{length};
+ghost use Rattle.storage.specs.References.{Sources};
+ghost use Rattle.semantics.specs.Entries.{graphIn, checkOf};
 ghost use Rattle.semantics.specs.declared.answer.Checked.the-variants as Checked;
 ghost use Rattle.semantics.specs.declared.refusal.ImageRefusal.the-variants as Image;
 ghost use Rattle.semantics.specs.Answer.{ok};
 ghost use Rattle.semantics.specs.Calls.{checkCall};
 ghost use Rattle.semantics.specs.Graph.{Graph};
-ghost use Rattle.semantics.specs.Image.{symbolBytes, firstRecord, header, placeOf, graphOf, checkImage};
+ghost use Rattle.semantics.specs.Image.{symbolBytes, firstRecord, header, placeOf, graphOf};
 ghost use Rattle.semantics.specs.Told.{toldChecked};
 ghost use Rattle.storage.specs.Checks.{referencesOf};
 ghost use Rattle.image.specs.Filling.{Held};
 ghost use Rattle.image.specs.Records.{Headed, Room};
-ghost use Rattle.storage.specs.Rows.{INDEX, isSmall, Takes, Loaded};
+ghost use Rattle.storage.specs.Index.{INDEX, isSmall, Takes, Loaded};
+use crate::blocks;
 use crate::links;
 use crate::refs;
-use crate::rows;
 use image::header;
+use image::reached::Reached;
 use image::scan;
-use image::step::Step;
 use semantics::answer::Checked;
 use semantics::refusal::ImageRefusal;
 
@@ -33,13 +35,12 @@ fn misfit(image: &[u8], from: usize, k: u32) -> Checked
     })
 }
 
-// What the records refer to; where all is well, the edges are linked.
-fn refer(image: &[u8], index: &mut [u32]) -> Checked
+// Is all there that the records refer to? 5 at the place of the first that does not fit, else the counts. Nothing is linked yet.
+fn judge_references(image: &[u8], index: &[u32]) -> Checked
     requires { ⌜ Headed (now image) ⌝ }
     requires { ⌜ Held (graphOf symbolBytes (now image)) (now index) ⌝ }
-    requires { ⌜ Room (now image) (now index) ⌝ }
     ensures { λ r. ⌜ r ≡ checkCall (referencesOf (now (image .entry))) ⌝ }
-    ensures { λ r. ⌜ ((g : Graph) → referencesOf (now (image .entry)) ≡ ok g → Loaded g (now (index .exit))) ⌝ }
+    ensures { λ _. ⌜ ((g : Graph) → referencesOf (now (image .entry)) ≡ ok g → Sources (now (index .entry))) ⌝ }
 {
     let nodes = header::nodes(image);
     let n = refs::misfit_node(index, nodes);
@@ -51,7 +52,6 @@ fn refer(image: &[u8], index: &mut [u32]) -> Checked
     if e < edges {
         return misfit(image, scan::place(image, header::FIRST_RECORD, nodes), e);
     }
-    links::link(index, edges);
     Checked::Accepted {
         files: header::files(image),
         nodes,
@@ -59,43 +59,64 @@ fn refer(image: &[u8], index: &mut [u32]) -> Checked
     }
 }
 
+// What the records refer to is judged; where all is well, the edges are linked.
+fn refer(image: &[u8], index: &mut [u32]) -> Checked
+    requires { ⌜ Headed (now image) ⌝ }
+    requires { ⌜ Held (graphOf symbolBytes (now image)) (now index) ⌝ }
+    requires { ⌜ Room (now image) (now index) ⌝ }
+    ensures { λ r. ⌜ r ≡ checkCall (referencesOf (now (image .entry))) ⌝ }
+    ensures { λ r. ⌜ ((g : Graph) → referencesOf (now (image .entry)) ≡ ok g → Loaded g (now (index .exit))) ⌝ }
+{
+    let judged = judge_references(image, index);
+    let Checked::Accepted {
+        files: _,
+        nodes: _,
+        edges,
+    } = judged
+    else {
+        return judged;
+    };
+    links::link(index, edges);
+    judged
+}
+
 // The records in order, bytes left over, what the records refer to.
 fn read(image: &[u8], index: &mut [u32]) -> Checked
     requires { ⌜ header (now image) ≡ ok firstRecord ⌝ }
     requires { ⌜ Takes (now image) (now index) ⌝ }
-    ensures { λ r. ⌜ r ≡ checkCall (checkImage symbolBytes (now (image .entry))) ⌝ }
-    ensures { λ r. ⌜ ((g : Graph) → checkImage symbolBytes (now (image .entry)) ≡ ok g → Loaded g (now (index .exit))) ⌝ }
+    ensures { λ r. ⌜ r ≡ checkOf (now (image .entry)) ⌝ }
+    ensures { λ r. ⌜ ((g : Graph) → graphIn (now (image .entry)) ≡ ok g → Loaded g (now (index .exit))) ⌝ }
 {
     match scan::records(image, index) {
-        Step::Next(last) => {
+        Reached::Next(last) => {
             if last != image.len() {
                 return Checked::Refused(ImageRefusal::Length);
             }
             refer(image, index)
         }
-        Step::Refused(r) => Checked::Refused(r),
+        Reached::Refused(r) => Checked::Refused(r),
     }
 }
 
 // The check into a fresh index: where the image is accepted, the index then holds its graph.
 pub fn load_fresh(image: &[u8], index: &mut [u32]) -> Checked
     requires { ⌜ Takes (now image) (now index) ⌝ }
-    ensures { λ r. ⌜ r ≡ checkCall (checkImage symbolBytes (now (image .entry))) ⌝ }
-    ensures { λ r. ⌜ ((g : Graph) → checkImage symbolBytes (now (image .entry)) ≡ ok g → Loaded g (now (index .exit))) ⌝ }
+    ensures { λ r. ⌜ r ≡ checkOf (now (image .entry)) ⌝ }
+    ensures { λ r. ⌜ ((g : Graph) → graphIn (now (image .entry)) ≡ ok g → Loaded g (now (index .exit))) ⌝ }
 {
     match header::header(image) {
-        Step::Next(_) => read(image, index),
-        Step::Refused(r) => Checked::Refused(r),
+        Reached::Next(_) => read(image, index),
+        Reached::Refused(r) => Checked::Refused(r),
     }
 }
 
 // The same into a large index with any words.
 pub fn load(image: &[u8], index: &mut [u32]) -> Checked
     requires { ⌜ length (now index) ≡ INDEX ⌝ }
-    ensures { λ r. ⌜ r ≡ checkCall (checkImage symbolBytes (now (image .entry))) ⌝ }
-    ensures { λ r. ⌜ ((g : Graph) → checkImage symbolBytes (now (image .entry)) ≡ ok g → Loaded g (now (index .exit))) ⌝ }
+    ensures { λ r. ⌜ r ≡ checkOf (now (image .entry)) ⌝ }
+    ensures { λ r. ⌜ ((g : Graph) → graphIn (now (image .entry)) ≡ ok g → Loaded g (now (index .exit))) ⌝ }
 {
-    rows::clear(index);
+    blocks::clear(index);
     load_fresh(image, index)
 }
 
@@ -106,10 +127,10 @@ pub fn is_small(image: &[u8]) -> bool
     if image.len() < header::FIRST_RECORD {
         return false;
     }
-    if rows::FEW < header::nodes(image) {
+    if blocks::FEW < header::nodes(image) {
         return false;
     }
-    if rows::FEW < header::edges(image) {
+    if blocks::FEW < header::edges(image) {
         return false;
     }
     true
@@ -117,12 +138,12 @@ pub fn is_small(image: &[u8]) -> bool
 
 // The check of any bytes. A small image gets a small index: zeroing a large one would take longer than the check.
 pub fn check(image: &[u8]) -> Checked
-    ensures { λ r. ⌜ toldChecked r ≡ toldChecked (checkCall (checkImage symbolBytes (now (image .entry)))) ⌝ }
+    ensures { λ r. ⌜ toldChecked r ≡ toldChecked (checkOf (now (image .entry))) ⌝ }
 {
     if is_small(image) {
-        let mut index = [0u32; rows::SMALL];
+        let mut index = [0u32; blocks::SMALL];
         return load_fresh(image, &mut index);
     }
-    let mut index = [0u32; rows::INDEX];
+    let mut index = [0u32; blocks::INDEX];
     load_fresh(image, &mut index)
 }

@@ -5,4 +5,4 @@ pub mod links;
 pub mod refs;
 pub mod store;
 // The blocks of the index that `image` fills and `store` reads.
-pub use image::rows;
+pub use image::blocks;

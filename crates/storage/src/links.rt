@@ -4,10 +4,10 @@ ghost use mathlib.Core.Path.{_≡_};
 ghost use Prim.Native.Nat.{ℕ, _+_, _*_, _<_, _≤_};
 ghost use lib.ListN.{length};
 ghost use Rattle.semantics.specs.Graph.{Graph};
-ghost use Rattle.storage.specs.Rows.{EDGES, BLOCK, Blocks, Loaded};
+ghost use Rattle.storage.specs.Index.{EDGES, BLOCK, Blocks, Loaded};
 ghost use Rattle.storage.specs.Links.{Linked};
 ghost use Rattle.storage.specs.References.{Sources};
-use crate::rows;
+use crate::blocks;
 
 // A live edge goes in front of the edges of its source that are linked already.
 fn link_one(index: &mut [u32], e: u32)
@@ -17,12 +17,12 @@ fn link_one(index: &mut [u32], e: u32)
     ensures { λ _. ⌜ Sources (now (index .exit)) ⌝ }
     ensures { λ _. ⌜ ((g : Graph) → e < length (g .edges) → Linked g (now (index .entry)) (e + 1) → Linked g (now (index .exit)) e) ⌝ }
 {
-    let at = rows::BLOCK * e as usize;
-    let source = index[at + rows::SOURCE];
+    let at = blocks::BLOCK * e as usize;
+    let source = index[at + blocks::SOURCE];
     if 0 < source {
-        let from = rows::BLOCK * (source - 1) as usize;
-        index[at + rows::NEXT] = index[from + rows::FIRST];
-        index[from + rows::FIRST] = e + 1;
+        let from = blocks::BLOCK * (source - 1) as usize;
+        index[at + blocks::NEXT] = index[from + blocks::FIRST];
+        index[from + blocks::FIRST] = e + 1;
     }
 }
 

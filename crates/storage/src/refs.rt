@@ -8,28 +8,23 @@ ghost use Rattle.semantics.specs.Acceptance.{exportedIn, edgeFits};
 ghost use Rattle.semantics.specs.Graph.{Graph, nodeId, viewOf};
 ghost use Rattle.image.specs.Filling.{Held};
 ghost use Rattle.storage.specs.References.{First, nodeTest, edgeTest};
-ghost use Rattle.storage.specs.Rows.{Blocks};
-use crate::rows;
-
-// Kinds of nodes: the root and the jump stand below the scope, a removed node is 0.
-const SCOPE: u32 = 3;
-
-const PUSH_SCOPED: u32 = 6;
-
-const JUMP: u32 = 1;
+ghost use Rattle.storage.specs.Index.{Blocks};
+use crate::blocks;
+use semantics::graph::JUMP;
+use semantics::kinds;
 
 // Is node n an exported scope of the file?
 fn exported_in(index: &[u32], file: u32, n: u32) -> bool
     requires { ⌜ Blocks (now index) ⌝ }
     ensures { λ r. ⌜ ((g : Graph) → Held g (now (index .entry)) → r ≡ exportedIn file ((viewOf g) .node n)) ⌝ }
 {
-    if rows::word(index, rows::KIND, n) != SCOPE {
+    if blocks::word(index, blocks::KIND, n) != kinds::SCOPE {
         return false;
     }
-    if rows::word(index, rows::FLAG, n) != 1 {
+    if blocks::word(index, blocks::FLAG, n) != 1 {
         return false;
     }
-    rows::word(index, rows::FILE, n) == file
+    blocks::word(index, blocks::FILE, n) == file
 }
 
 // Only a push-scoped node refers to another one.
@@ -37,13 +32,13 @@ fn node_fits(index: &[u32], n: u32) -> bool
     requires { ⌜ Blocks (now index) ⌝ }
     ensures { λ r. ⌜ ((g : Graph) → Held g (now (index .entry)) → r ≡ nodeTest g n) ⌝ }
 {
-    if rows::word(index, rows::KIND, n) != PUSH_SCOPED {
+    if blocks::word(index, blocks::KIND, n) != kinds::PUSH_SCOPED {
         return true;
     }
     exported_in(
         index,
-        rows::word(index, rows::FILE, n),
-        rows::word(index, rows::SCOPE, n),
+        blocks::word(index, blocks::FILE, n),
+        blocks::word(index, blocks::SCOPE, n),
     )
 }
 
@@ -55,21 +50,21 @@ fn ends_fit(index: &[u32], s: u32, t: u32) -> bool
     if s == JUMP {
         return false;
     }
-    let source = rows::word(index, rows::KIND, s);
-    if source == 0 {
+    let source = blocks::word(index, blocks::KIND, s);
+    if source == kinds::REMOVED {
         return false;
     }
-    let target = rows::word(index, rows::KIND, t);
-    if target == 0 {
+    let target = blocks::word(index, blocks::KIND, t);
+    if target == kinds::REMOVED {
         return false;
     }
-    if source < SCOPE {
+    if source < kinds::SCOPE {
         return true;
     }
-    if target < SCOPE {
+    if target < kinds::SCOPE {
         return true;
     }
-    rows::word(index, rows::FILE, s) == rows::word(index, rows::FILE, t)
+    blocks::word(index, blocks::FILE, s) == blocks::word(index, blocks::FILE, t)
 }
 
 // A removed edge refers to nothing.
@@ -77,15 +72,15 @@ fn edge_fits(index: &[u32], e: u32) -> bool
     requires { ⌜ Blocks (now index) ⌝ }
     ensures { λ r. ⌜ ((g : Graph) → Held g (now (index .entry)) → r ≡ edgeTest g e) ⌝ }
 {
-    let source = rows::word(index, rows::SOURCE, e);
+    let source = blocks::word(index, blocks::SOURCE, e);
     if source < 1 {
         return true;
     }
-    ends_fit(index, source - 1, rows::word(index, rows::TARGET, e))
+    ends_fit(index, source - 1, blocks::word(index, blocks::TARGET, e))
 }
 
 // The first node that does not fit, or the count.
-pub fn misfit_node(index: &[u32], count: u32) -> u32
+pub(crate) fn misfit_node(index: &[u32], count: u32) -> u32
     requires { ⌜ Blocks (now index) ⌝ }
     ensures { λ r. ⌜ r ≤ count ⌝ }
     ensures { λ r. ⌜ ((g : Graph) → Held g (now (index .entry)) → First (nodeTest g) count r) ⌝ }
@@ -101,7 +96,7 @@ pub fn misfit_node(index: &[u32], count: u32) -> u32
 }
 
 // The first edge that does not fit, or the count.
-pub fn misfit_edge(index: &[u32], count: u32) -> u32
+pub(crate) fn misfit_edge(index: &[u32], count: u32) -> u32
     requires { ⌜ Blocks (now index) ⌝ }
     ensures { λ r. ⌜ r ≤ count ⌝ }
     ensures { λ r. ⌜ ((g : Graph) → Held g (now (index .entry)) → First (edgeTest g) count r) ⌝ }

@@ -5,26 +5,22 @@ ghost use Prim.Native.Nat.{_+_, _*_, _<_};
 ghost use lib.Dec.{eqb};
 ghost use lib.ListN.{length, getD};
 ghost use Rattle.semantics.specs.Graph.{fileOf, isFile, isDefinition, isExported, isStart, isEndpoint};
-ghost use Rattle.storage.specs.Rows.{FLAG, BLOCK, Blocks, cell, nodeRow, edgeRow, firstRow, nextRow, targetRow, isPlain};
-use crate::rows;
+ghost use Rattle.storage.specs.Index.{FLAG, BLOCK, Blocks, cell, nodeRow, edgeRow, firstRow, nextRow, targetRow, isPlain};
+use crate::blocks;
 use semantics::graph::Edge;
 use semantics::graph::EdgeId;
 use semantics::graph::FileId;
 use semantics::graph::Node;
 use semantics::graph::NodeId;
+use semantics::kinds;
 use words::bytes;
-
-// The kinds of the nodes that have a file, from the first to the last.
-const SCOPE: u32 = 3;
-
-const DROP_SCOPES: u32 = 8;
 
 // The word of a node's flag, in the block that stands at a place.
 fn flag(index: &[u32], at: usize) -> bool
     requires { ⌜ at + FLAG < length (now index) ⌝ }
     ensures { λ r. ⌜ r ≡ eqb (getD (now (index .entry)) (at + FLAG) 0) 1 ⌝ }
 {
-    index[at + rows::FLAG] == 1
+    index[at + blocks::FLAG] == 1
 }
 
 // Each kind reads the words that it has.
@@ -32,41 +28,41 @@ pub fn node(index: &[u32], n: NodeId) -> Node
     requires { ⌜ Blocks (now index) ⌝ }
     ensures { λ r. ⌜ r ≡ nodeRow (now (index .entry)) (n .0) ⌝ }
 {
-    let at = rows::BLOCK * n.0 as usize;
+    let at = blocks::BLOCK * n.0 as usize;
     if index.len() <= at {
         return Node::Removed;
     }
-    let kind = index[at + rows::KIND];
+    let kind = index[at + blocks::KIND];
     match kind {
-        1 => Node::Root,
-        2 => Node::JumpToScope,
-        3 => Node::Scope {
-            file: FileId(index[at + rows::FILE]),
+        kinds::ROOT => Node::Root,
+        kinds::JUMP_TO_SCOPE => Node::JumpToScope,
+        kinds::SCOPE => Node::Scope {
+            file: FileId(index[at + blocks::FILE]),
             exported: flag(index, at),
         },
-        4 => Node::Push {
-            file: FileId(index[at + rows::FILE]),
-            symbol: index[at + rows::SYMBOL],
+        kinds::PUSH => Node::Push {
+            file: FileId(index[at + blocks::FILE]),
+            symbol: index[at + blocks::SYMBOL],
             reference: flag(index, at),
         },
-        5 => Node::Pop {
-            file: FileId(index[at + rows::FILE]),
-            symbol: index[at + rows::SYMBOL],
+        kinds::POP => Node::Pop {
+            file: FileId(index[at + blocks::FILE]),
+            symbol: index[at + blocks::SYMBOL],
             definition: flag(index, at),
         },
-        6 => Node::PushScoped {
-            file: FileId(index[at + rows::FILE]),
-            symbol: index[at + rows::SYMBOL],
-            scope: NodeId(index[at + rows::SCOPE]),
+        kinds::PUSH_SCOPED => Node::PushScoped {
+            file: FileId(index[at + blocks::FILE]),
+            symbol: index[at + blocks::SYMBOL],
+            scope: NodeId(index[at + blocks::SCOPE]),
             reference: flag(index, at),
         },
-        7 => Node::PopScoped {
-            file: FileId(index[at + rows::FILE]),
-            symbol: index[at + rows::SYMBOL],
+        kinds::POP_SCOPED => Node::PopScoped {
+            file: FileId(index[at + blocks::FILE]),
+            symbol: index[at + blocks::SYMBOL],
             definition: flag(index, at),
         },
-        8 => Node::DropScopes {
-            file: FileId(index[at + rows::FILE]),
+        kinds::DROP_SCOPES => Node::DropScopes {
+            file: FileId(index[at + blocks::FILE]),
         },
         _ => Node::Removed,
     }
@@ -76,18 +72,18 @@ pub fn edge(index: &[u32], e: EdgeId) -> Edge
     requires { ⌜ Blocks (now index) ⌝ }
     ensures { λ r. ⌜ r ≡ edgeRow (now (index .entry)) (e .0) ⌝ }
 {
-    let at = rows::BLOCK * e.0 as usize;
+    let at = blocks::BLOCK * e.0 as usize;
     if index.len() <= at {
         return Edge::Removed;
     }
-    let source = index[at + rows::SOURCE];
+    let source = index[at + blocks::SOURCE];
     if source < 1 {
         return Edge::Removed;
     }
     Edge::Live {
         source: NodeId(source - 1),
-        target: NodeId(index[at + rows::TARGET]),
-        precedence: bytes::signed(index[at + rows::PRECEDENCE]),
+        target: NodeId(index[at + blocks::TARGET]),
+        precedence: bytes::signed(index[at + blocks::PRECEDENCE]),
     }
 }
 
@@ -97,7 +93,7 @@ pub fn target(index: &[u32], e: EdgeId) -> NodeId
     requires { ⌜ BLOCK * e .0 < length (now index) ⌝ }
     ensures { λ r. ⌜ r .0 ≡ targetRow (now (index .entry)) (e .0) ⌝ }
 {
-    NodeId(index[rows::BLOCK * e.0 as usize + rows::TARGET])
+    NodeId(index[blocks::BLOCK * e.0 as usize + blocks::TARGET])
 }
 
 // Root or a scope, which change neither stack. A live node has a block, so that no bound is tested.
@@ -106,8 +102,8 @@ pub fn is_plain(index: &[u32], n: NodeId) -> bool
     requires { ⌜ BLOCK * n .0 < length (now index) ⌝ }
     ensures { λ r. ⌜ r ≡ isPlain (nodeRow (now (index .entry)) (n .0)) ⌝ }
 {
-    match index[rows::BLOCK * n.0 as usize + rows::KIND] {
-        1 | 3 => true,
+    match index[blocks::BLOCK * n.0 as usize + blocks::KIND] {
+        kinds::ROOT | kinds::SCOPE => true,
         _ => false,
     }
 }
@@ -117,7 +113,7 @@ fn is_marked(index: &[u32], n: NodeId) -> bool
     requires { ⌜ Blocks (now index) ⌝ }
     ensures { λ r. ⌜ r ≡ eqb (cell (now (index .entry)) FLAG (n .0)) 1 ⌝ }
 {
-    rows::word(index, rows::FLAG, n.0) == 1
+    blocks::word(index, blocks::FLAG, n.0) == 1
 }
 
 // An exported scope.
@@ -125,8 +121,8 @@ pub fn is_exported(index: &[u32], n: NodeId) -> bool
     requires { ⌜ Blocks (now index) ⌝ }
     ensures { λ r. ⌜ r ≡ isExported (nodeRow (now (index .entry)) (n .0)) ⌝ }
 {
-    match rows::word(index, rows::KIND, n.0) {
-        3 => is_marked(index, n),
+    match blocks::word(index, blocks::KIND, n.0) {
+        kinds::SCOPE => is_marked(index, n),
         _ => false,
     }
 }
@@ -136,8 +132,8 @@ pub fn is_definition(index: &[u32], n: NodeId) -> bool
     requires { ⌜ Blocks (now index) ⌝ }
     ensures { λ r. ⌜ r ≡ isDefinition (nodeRow (now (index .entry)) (n .0)) ⌝ }
 {
-    match rows::word(index, rows::KIND, n.0) {
-        5 | 7 => is_marked(index, n),
+    match blocks::word(index, blocks::KIND, n.0) {
+        kinds::POP | kinds::POP_SCOPED => is_marked(index, n),
         _ => false,
     }
 }
@@ -147,9 +143,9 @@ pub fn is_start(index: &[u32], n: NodeId) -> bool
     requires { ⌜ Blocks (now index) ⌝ }
     ensures { λ r. ⌜ r ≡ isStart (nodeRow (now (index .entry)) (n .0)) ⌝ }
 {
-    match rows::word(index, rows::KIND, n.0) {
-        3 => is_marked(index, n),
-        4 | 6 => is_marked(index, n),
+    match blocks::word(index, blocks::KIND, n.0) {
+        kinds::SCOPE => is_marked(index, n),
+        kinds::PUSH | kinds::PUSH_SCOPED => is_marked(index, n),
         _ => false,
     }
 }
@@ -159,10 +155,10 @@ pub fn is_endpoint(index: &[u32], n: NodeId) -> bool
     requires { ⌜ Blocks (now index) ⌝ }
     ensures { λ r. ⌜ r ≡ isEndpoint (nodeRow (now (index .entry)) (n .0)) ⌝ }
 {
-    match rows::word(index, rows::KIND, n.0) {
-        1 => true,
-        2 => true,
-        3 | 5 | 7 => is_marked(index, n),
+    match blocks::word(index, blocks::KIND, n.0) {
+        kinds::ROOT => true,
+        kinds::JUMP_TO_SCOPE => true,
+        kinds::SCOPE | kinds::POP | kinds::POP_SCOPED => is_marked(index, n),
         _ => false,
     }
 }
@@ -172,14 +168,14 @@ pub fn is_of_file(index: &[u32], n: NodeId, file: u32) -> bool
     requires { ⌜ Blocks (now index) ⌝ }
     ensures { λ r. ⌜ r ≡ isFile file (fileOf (nodeRow (now (index .entry)) (n .0))) ⌝ }
 {
-    let kind = rows::word(index, rows::KIND, n.0);
-    if kind < SCOPE {
+    let kind = blocks::word(index, blocks::KIND, n.0);
+    if kind < kinds::SCOPE {
         return false;
     }
-    if DROP_SCOPES < kind {
+    if kinds::DROP_SCOPES < kind {
         return false;
     }
-    rows::word(index, rows::FILE, n.0) == file
+    blocks::word(index, blocks::FILE, n.0) == file
 }
 
 // The link to the first edge that leaves a node: the edge's number plus 1, or 0.
@@ -187,7 +183,7 @@ pub fn first(index: &[u32], n: NodeId) -> u32
     requires { ⌜ Blocks (now index) ⌝ }
     ensures { λ r. ⌜ r ≡ firstRow (now (index .entry)) (n .0) ⌝ }
 {
-    rows::word(index, rows::FIRST, n.0)
+    blocks::word(index, blocks::FIRST, n.0)
 }
 
 // The link to the next edge of the same source.
@@ -195,5 +191,5 @@ pub fn next(index: &[u32], e: EdgeId) -> u32
     requires { ⌜ Blocks (now index) ⌝ }
     ensures { λ r. ⌜ r ≡ nextRow (now (index .entry)) (e .0) ⌝ }
 {
-    rows::word(index, rows::NEXT, e.0)
+    blocks::word(index, blocks::NEXT, e.0)
 }

@@ -20,7 +20,7 @@ pub struct Told {
     pub second: u32,
 }
 
-pub fn bare(number: u32) -> Told
+fn bare(number: u32) -> Told
     ensures { λ r. ⌜ numbersOf r ≡ number ∷ [] ⌝ }
 {
     Told {
@@ -31,7 +31,7 @@ pub fn bare(number: u32) -> Told
     }
 }
 
-pub fn valued(number: u32, value: u32) -> Told
+fn valued(number: u32, value: u32) -> Told
     ensures { λ r. ⌜ numbersOf r ≡ number ∷ value ∷ [] ⌝ }
 {
     Told {
@@ -67,7 +67,7 @@ pub fn image(refusal: ImageRefusal) -> Told
 }
 
 // 10 to 19, with a node, an edge, or two nodes.
-pub fn path(refusal: PathRefusal) -> Told
+fn path(refusal: PathRefusal) -> Told
     ensures { λ r. ⌜ numbersOf r ≡ toldPath refusal ⌝ }
 {
     match refusal {

@@ -39,7 +39,7 @@ fn lay_out(edges: &[u32], slot: &mut [u32])
 }
 
 // Slot i becomes zeros.
-pub fn zero_slot(area: &mut [u32], length: usize, i: usize)
+fn zero_slot(area: &mut [u32], length: usize, i: usize)
     requires { ⌜ InArea length i (now area) ⌝ }
     ensures { λ _. ⌜ now (area .exit) ≡ putSlot length i (zeros length) (now (area .entry)) ⌝ }
 {
@@ -87,7 +87,7 @@ pub fn copy_slot(area: &mut [u32], length: usize, from: usize, to: usize)
 }
 
 // Slots i and j change places, word by word, so that no other area is needed.
-pub fn swap_slots(area: &mut [u32], length: usize, i: usize, j: usize)
+fn swap_slots(area: &mut [u32], length: usize, i: usize, j: usize)
     requires { ⌜ InArea length i (now area) × InArea length j (now area) ⌝ }
     ensures { λ _. ⌜ now (area .exit) ≡ swapSlots length i j (now (area .entry)) ⌝ }
 {

@@ -23,13 +23,21 @@ slice-aggregate-tell : tie.Need-slice-aggregate-tell
 slice-aggregate-tell c = search needs
 
 tell-requires : tie.Need-tell-requires
-tell-requires c κs = c .before .before .before .before .before .before .before .before .before .before .record-both .kept .1 .1 .1 .1 .1 .1 .0 ∙ c .before .before .before .before .before .before .before .before .before .before .before .before .before .before .before .before .before .before .before .before .before .before .before .before .before .before .before .pre .1
+tell-requires c κs =
+    let c₁ = c .before .before .before .before .before .before .before .before .before .before in
+    let record-both = c₁ .record-both in
+    let p = c₁ .before .before .before .before .before .before .before .before .before .before .before .before .before .before .before .before .before .pre in
+    record-both .kept .1 .1 .1 .1 .1 .1 .0 ∙ p .1
 
 slice-aggregate-tell-2 : tie.Need-slice-aggregate-tell-2
 slice-aggregate-tell-2 c = search needs
 
 tell-requires-2 : tie.Need-tell-requires-2
-tell-requires-2 c κs = c .before .before .before .before .before .before .before .before .before .before .before .before .before .record-both .kept .1 .1 .1 .1 .1 .1 .1 .1 .0 ∙ c .before .before .before .before .before .before .before .before .before .before .before .before .before .before .before .before .before .before .before .before .before .before .before .before .before .before .before .before .before .before .pre .2
+tell-requires-2 c κs =
+    let c₁ = c .before .before .before .before .before .before .before .before .before .before .before .before .before in
+    let record-both = c₁ .record-both in
+    let p = c₁ .before .before .before .before .before .before .before .before .before .before .before .before .before .before .before .before .before .pre in
+    record-both .kept .1 .1 .1 .1 .1 .1 .1 .1 .0 ∙ p .2
 
 same-length : tie.Need-same-length
 same-length c = search needs

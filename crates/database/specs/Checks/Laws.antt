@@ -13,15 +13,15 @@ use lib.ListN.{length, getD, drop, drop-of-length-le}
 use lib.Seq.{drop-cons}
 use Rattle.semantics.specs.declared.refusal.DatabaseRefusal.{DatabaseRefusal}
 use Rattle.semantics.specs.declared.refusal.DatabaseRefusal.the-variants.{Malformed, Outgrown}
-use Rattle.semantics.specs.Lists.{and}
+use Rattle.semantics.specs.Lists.{and, pick}
 use Rattle.semantics.specs.Lists.Laws.{and-true}
-use Rattle.semantics.specs.Limits.{Bounds}
-use Rattle.semantics.specs.Answer.{Answer, ok, refuse, andThen}
+use Rattle.semantics.specs.Limits.{Bounds, recordWords}
+use Rattle.semantics.specs.Answer.{Answer, ok, refuse, andThen, okIf}
 use Rattle.semantics.specs.Graph.{Graph}
 use Rattle.semantics.specs.PartialPaths.{Slot, dead, slot}
-use Rattle.semantics.specs.Words.{wholeSlots, recordWords}
+use Rattle.semantics.specs.Words.{wholeSlots}
 use Rattle.semantics.specs.Words.Laws.{length-slots, whole-fits}
-use Rattle.semantics.specs.Database.{usedIn, nodesIn, filesIn, chosen, capacity, records, slotsIn, sound, every, wellFormed, passIf, checkDatabase, recordPlace}
+use Rattle.semantics.specs.Database.{usedIn, nodesIn, filesIn, capacity, records, slotsIn, sound, every, wellFormed, checkDatabase, recordPlace}
 use Rattle.database.specs.declared.check.Inspected.{Inspected}
 use Rattle.database.specs.declared.check.Inspected.the-variants as Inspected
 use Rattle.database.specs.Records.{Whole, recordAt, ownerWord, startWord, endWord, countWord, edgeWords}
@@ -32,26 +32,26 @@ use Rattle.database.specs.Checks.{Live, inspected}
 
 module _ (bd : Bounds) (ws : List ℕ) where
   pub capacity-short : length ws < 3 → 0 ≡ capacity bd ws
-  unfolding capacity chosen
+  unfolding capacity
   capacity-short h =
       let q : length ws - 3 ≡ 0 = omega arith in
       let z : wholeSlots (recordWords bd) (length ws - 3) ≡ 0 = ap (wholeSlots (recordWords bd)) q ∙ zero-div (recordWords bd) in
       rw z
 
   pub capacity-whole : wholeSlots (recordWords bd) (length ws - 3) < 4096 → wholeSlots (recordWords bd) (length ws - 3) ≡ capacity bd ws
-  unfolding capacity chosen
+  unfolding capacity
   capacity-whole h = rw (lt-ltb (wholeSlots (recordWords bd) (length ws - 3)) 4096 h)
 
   pub capacity-full : 4096 ≤ wholeSlots (recordWords bd) (length ws - 3) → 4096 ≡ capacity bd ws
-  unfolding capacity chosen
+  unfolding capacity
   capacity-full h = rw (le-ltb (wholeSlots (recordWords bd) (length ws - 3)) 4096 h)
 
   pub capacity-most : (capacity bd ws ≤ 4096) × (capacity bd ws ≤ wholeSlots (recordWords bd) (length ws - 3))
-  unfolding capacity chosen
+  unfolding capacity
   capacity-most = on (ltb (wholeSlots (recordWords bd) (length ws - 3)) 4096) refl
     where
       on : (b : Bool) → ltb (wholeSlots (recordWords bd) (length ws - 3)) 4096 ≡ b
-          → (chosen b (wholeSlots (recordWords bd) (length ws - 3)) 4096 ≤ 4096) × (chosen b (wholeSlots (recordWords bd) (length ws - 3)) 4096 ≤ wholeSlots (recordWords bd) (length ws - 3))
+          → (pick b (wholeSlots (recordWords bd) (length ws - 3)) 4096 ≤ 4096) × (pick b (wholeSlots (recordWords bd) (length ws - 3)) 4096 ≤ wholeSlots (recordWords bd) (length ws - 3))
       on true e = (omega (arith, ltb-true (wholeSlots (recordWords bd) (length ws - 3)) 4096 e), omega arith)
       on false e = (omega arith, ltb-false (wholeSlots (recordWords bd) (length ws - 3)) 4096 e)
 
@@ -76,19 +76,19 @@ module _ (bd : Bounds) (known : ℕ → ℕ → Bool) (nodes files : ℕ) where
   record-dead (zero ∷ r) e = refl
   record-dead (suc f ∷ r) e = absurd (omega arith)
 
-  record-live : (f start count : ℕ) (r : List ℕ) → getD r 0 0 ≡ suc f → getD r 1 0 ≡ start → getD r 3 0 ≡ count
+  record-live : (f : ℕ) {start count : ℕ} (r : List ℕ) → getD r 0 0 ≡ suc f → getD r 1 0 ≡ start → getD r 3 0 ≡ count
       → sound bd known nodes files r ≡ and (known files f) (and (ltb start nodes) (and (leb 1 count) (leb count (bd .edges))))
   unfolding sound
-  record-live f start count [] e s n = absurd (omega arith)
-  record-live f start count (zero ∷ r) e s n = absurd (omega arith)
-  record-live f start count (suc w ∷ r) e s n = let q : w ≡ f = omega arith in rw (q, s, n)
+  record-live f [] e s n = absurd (omega arith)
+  record-live f (zero ∷ r) e s n = absurd (omega arith)
+  record-live f (suc w ∷ r) e s n = let q : w ≡ f = omega arith in rw (q, s, n)
 
   pub sound-dead : (i : ℕ) (ws : List ℕ) → ownerWord bd i ws ≡ 0 → sound bd known nodes files (recordAt bd i ws) ≡ true
   sound-dead i ws e = record-dead (recordAt bd i ws) (record-owner bd i ws ∙ e)
 
   sound-live : (i f : ℕ) (ws : List ℕ) → ownerWord bd i ws ≡ suc f
       → sound bd known nodes files (recordAt bd i ws) ≡ and (known files f) (and (ltb (startWord bd i ws) nodes) (and (leb 1 (countWord bd i ws)) (leb (countWord bd i ws) (bd .edges))))
-  sound-live i f ws e = record-live f (startWord bd i ws) (countWord bd i ws) (recordAt bd i ws) (record-owner bd i ws ∙ e) (record-start bd i ws) (record-count bd i ws)
+  sound-live i f ws e = record-live f (recordAt bd i ws) (record-owner bd i ws ∙ e) (record-start bd i ws) (record-count bd i ws)
 
   -- the three ways out for a live record
   pub sound-unknown : (i f : ℕ) (ws : List ℕ) → ownerWord bd i ws ≡ suc f → known files f ≡ false → sound bd known nodes files (recordAt bd i ws) ≡ false
@@ -188,19 +188,19 @@ module _ (bd : Bounds) (known : ℕ → ℕ → Bool) (ws : List ℕ) where
 
 module _ (bd : Bounds) (known : ℕ → ℕ → Bool) (g : Graph) (ws : List ℕ) where
   pub check-malformed : wellFormed bd known ws ≡ false → Inspected.Refused Malformed ≡ inspected (checkDatabase bd known g ws)
-  unfolding inspected checkDatabase passIf
+  unfolding inspected checkDatabase okIf
   check-malformed h = rw h
 
   pub check-nodes : wellFormed bd known ws ≡ true → length (g .nodes) < nodesIn ws → Inspected.Refused Outgrown ≡ inspected (checkDatabase bd known g ws)
-  unfolding inspected checkDatabase passIf
+  unfolding inspected checkDatabase okIf
   check-nodes h n = rw (h, lt-leb (nodesIn ws) (length (g .nodes)) n)
 
   pub check-files : wellFormed bd known ws ≡ true → nodesIn ws ≤ length (g .nodes) → g .files < filesIn ws → Inspected.Refused Outgrown ≡ inspected (checkDatabase bd known g ws)
-  unfolding inspected checkDatabase passIf
+  unfolding inspected checkDatabase okIf
   check-files h n f = rw (h, le-leb (nodesIn ws) (length (g .nodes)) n, lt-leb (filesIn ws) (g .files) f)
 
   pub check-sound : wellFormed bd known ws ≡ true → nodesIn ws ≤ length (g .nodes) → filesIn ws ≤ g .files → Inspected.Sound ≡ inspected (checkDatabase bd known g ws)
-  unfolding inspected checkDatabase passIf
+  unfolding inspected checkDatabase okIf
   check-sound h n f = rw (h, le-leb (nodesIn ws) (length (g .nodes)) n, le-leb (filesIn ws) (g .files) f)
 
 -- ---- what the answer tells a caller
@@ -216,8 +216,8 @@ unfolding inspected
 told-refused r (ok db) e = absurd (never-sound r e)
 told-refused r (refuse x) e = ap refuse (refused-alike r x e)
 
-told-sound : (ws : List ℕ) (db : List Slot) (formed fitting : Bool) → Inspected.Sound ≡ inspected (andThen (passIf formed Malformed ws) (λ x. passIf fitting Outgrown db)) → (formed ≡ true) × (fitting ≡ true)
-unfolding inspected passIf
+told-sound : (ws : List ℕ) (db : List Slot) (formed fitting : Bool) → Inspected.Sound ≡ inspected (andThen (okIf formed Malformed ws) (λ x. okIf fitting Outgrown db)) → (formed ≡ true) × (fitting ≡ true)
+unfolding inspected okIf
 told-sound ws db true true e = (refl, refl)
 told-sound ws db true false e = absurd (never-sound Outgrown (sym e))
 told-sound ws db false fitting e = absurd (never-sound Malformed (sym e))
@@ -229,7 +229,7 @@ module _ (bd : Bounds) (known : ℕ → ℕ → Bool) (g : Graph) (ws : List ℕ
 
   -- that the words do not meet 35, and the slots
   pub inspected-sound : Inspected.Sound ≡ inspected (checkDatabase bd known g ws) → (wellFormed bd known ws ≡ true) × (checkDatabase bd known g ws ≡ ok (slotsIn bd ws))
-  unfolding checkDatabase passIf
+  unfolding checkDatabase okIf
   inspected-sound e =
       let t = told-sound ws (slotsIn bd ws) (wellFormed bd known ws) (and (leb (nodesIn ws) (length (g .nodes))) (leb (filesIn ws) (g .files))) e in
       (t .0, rw (t .0, t .1))

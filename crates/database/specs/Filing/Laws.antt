@@ -1,24 +1,24 @@
 -- Clearing, writing and storing the words in front come to the replacement of the definitions. For every bound on edges.
 -- Serves document 01, "Partial paths": "Replacing a file zeroes its slots, appends the new ones in order found and stores the graph's N and F".
-use Prim.Native.Nat.{ℕ, zero, suc, _+_, _*_, _≤_, _<_}
+use Prim.Native.Nat.{ℕ, zero, suc, _+_, _-_, _*_, _≤_, _<_}
 use native.Mathlib.Nat.{mul-zero, mul-suc, mul-add, not-suc-le-zero, le-of-suc-le-suc, mul-le-mul-left, le-trans}
 use native.Mathlib.Numerals.{add-one}
 use native.Mathlib.Omega.{arith}
 use mathlib.Core.Path.{_≡_, refl, sym, _∙_, ap, subst}
 use mathlib.Core.Bool.{Bool, true, false}
-use mathlib.Core.List.{List, [], _∷_, _++_, map, append-nil, append-assoc, map-append}
-use borrow.Rule.Slice.PartMut.{midOf, putMid}
+use mathlib.Core.List.{List, [], _∷_, _++_, map, append-nil, append-assoc, map-append, flatten}
+use borrow.Rule.Slice.PartMut.{midOf, putMid, post-is, mid-len}
 use borrow.Author.Tests.{eq-eqb, ne-eqb, leb-true}
 use lib.Dec.{eqb, leb}
 use lib.ListN.{length, getD, take, drop, set, length-append, length-drop, length-replicate, length-map, take-append-drop, List·getD-append}
 use lib.Seq.{length-take-le, take-at, drop-at, drop-drop, drop-append-add, getD-take, append-snoc, drop-length}
-use Rattle.semantics.specs.Limits.{Bounds}
+use Rattle.semantics.specs.Limits.{Bounds, recordWords}
 use Rattle.semantics.specs.Graph.{Graph}
 use Rattle.semantics.specs.Enumeration.{State}
 use Rattle.semantics.specs.PartialPaths.{Route, slot}
-use Rattle.semantics.specs.Words.{zeros, encode, slotsOf, recordWords}
+use Rattle.semantics.specs.Words.{zeros, encode, slotsOf}
 use Rattle.semantics.specs.Words.Laws.{length-slots}
-use Rattle.semantics.specs.Database.{usedIn, capacity, encodeSlot, records, zeroIf, clearRecord, flatten, replaceWords, hasRoom, recordPlace}
+use Rattle.semantics.specs.Database.{usedIn, capacity, encodeSlot, records, zeroIf, clearRecord, replaceWords, hasRoom, recordPlace}
 use Rattle.words.specs.Slots.{putSlot}
 use Rattle.database.specs.Records.{InWords, Whole, recordAt, putRecord, ownerWord}
 use Rattle.database.specs.Records.Laws.{length-record, put-same, record-owner}
@@ -41,24 +41,24 @@ length-slot : (L : ℕ) (f start end : ℕ) (es : List ℕ) → length (encodeSl
 unfolding encodeSlot
 length-slot L f start end es = length-take-le L (suc f ∷ start ∷ end ∷ length es ∷ (es ++ zeros L)) (simp (length-append, length-replicate) (omega arith))
 
-flatten-append : (xs ys : List (List ℕ)) → flatten (xs ++ ys) ≡ flatten xs ++ flatten ys
+pub flatten-append : (xs ys : List (List ℕ)) → flatten (xs ++ ys) ≡ flatten xs ++ flatten ys
 unfolding flatten
 flatten-append [] ys = refl
 flatten-append (x ∷ xs) ys = ap (λ (l : List ℕ). x ++ l) (flatten-append xs ys) ∙ sym (append-assoc x (flatten xs) (flatten ys))
 
-flatten-snoc : (xs : List (List ℕ)) (x : List ℕ) → flatten (xs ++ (x ∷ [])) ≡ flatten xs ++ x
+pub flatten-snoc : (xs : List (List ℕ)) (x : List ℕ) → flatten (xs ++ (x ∷ [])) ≡ flatten xs ++ x
 unfolding flatten
 flatten-snoc xs x = flatten-append xs (x ∷ []) ∙ ap (λ (l : List ℕ). flatten xs ++ l) (append-nil x)
 
 -- records of L words each
-abbrev Packed : ℕ → List (List ℕ) → Type 0
+abbrev pub Packed : ℕ → List (List ℕ) → Type 0
 Packed L rs = length (flatten rs) ≡ L * length rs
 
-packed-none : (L : ℕ) → Packed L []
+pub packed-none : (L : ℕ) → Packed L []
 unfolding flatten
 packed-none L = sym (mul-zero L)
 
-packed-append : (L : ℕ) (xs ys : List (List ℕ)) → Packed L xs → Packed L ys → Packed L (xs ++ ys)
+pub packed-append : (L : ℕ) (xs ys : List (List ℕ)) → Packed L xs → Packed L ys → Packed L (xs ++ ys)
 packed-append L xs ys h g = ap length (flatten-append xs ys) ∙ simp length-append (omega (arith, h, g, mul-add L (length xs) (length ys)))
 
 packed-slots : (L f n : ℕ) (a : List ℕ) → L * n ≤ length a → Packed L (map (clearRecord f) (slotsOf L n a))
@@ -93,11 +93,11 @@ module _ (bd : Bounds) (rs : List (List ℕ)) (n : ℕ) (ws : List ℕ) (count :
     unfolding front
     length-front = simp length-append (omega (arith, packed, ap (λ (k : ℕ). recordWords bd * k) count, length-take-le 3 ws (omega (arith, room))))
 
-    length-with : length (withRecords bd rs ws) ≡ length ws
+    pub length-with : length (withRecords bd rs ws) ≡ length ws
     unfolding rest
     length-with = ap length parted ∙ simp (length-append, length-drop) (omega (arith, length-front, room))
 
-    with-front : (k : ℕ) → k < 3 → getD (withRecords bd rs ws) k 0 ≡ getD ws k 0
+    pub with-front : (k : ℕ) → k < 3 → getD (withRecords bd rs ws) k 0 ≡ getD ws k 0
     unfolding withRecords
     with-front k h =
         List·getD-append (take 3 ws) (flatten rs ++ drop (recordWords bd * length rs) (drop 3 ws)) 0 k (omega (arith, length-take-le 3 ws (omega (arith, room)))) ∙ getD-take 3 ws k 0 h
@@ -108,7 +108,51 @@ module _ (bd : Bounds) (rs : List (List ℕ)) (n : ℕ) (ws : List ℕ) (count :
         ap (λ (l : List ℕ). recordAt bd n l) parted
         ∙ ap (take (recordWords bd)) (drop-at front rest (recordPlace bd n) length-front ∙ drop-drop (recordWords bd * n) 3 ws)
 
-    put-next : (r : List ℕ) → putRecord bd n r (withRecords bd rs ws) ≡ withRecords bd (rs ++ (r ∷ [])) ws
+    -- a record further behind is still the old one, too
+    pub later-record : (i : ℕ) → n ≤ i → recordAt bd i (withRecords bd rs ws) ≡ recordAt bd i ws
+    unfolding rest
+    later-record i h =
+        let L : ℕ = recordWords bd in
+        let d : ℕ = L * i - L * n in
+        let m : L * n ≤ L * i = mul-le-mul-left L h in
+        let q : recordPlace bd i ≡ length front + d = omega (arith, length-front, m) in
+        let o : L * n + d ≡ L * i = omega (arith, m) in
+        ap (λ (l : List ℕ). recordAt bd i l) parted
+        ∙ ap (take L)
+        (ap (λ (k : ℕ). drop k (front ++ rest)) q
+        ∙ drop-append-add front rest d
+        ∙ drop-drop d (L * n) (drop 3 ws)
+        ∙ ap (λ (k : ℕ). drop k (drop 3 ws)) o
+        ∙ drop-drop (L * i) 3 ws)
+
+    -- the records from n to before m are zeroed at once, z being the part that comes back
+    pub zeroed-behind : (m : ℕ) (x z : List ℕ) → x ≡ withRecords bd rs ws → n ≤ m → recordPlace bd m ≤ length ws
+        → z ≡ zeros (length (midOf (recordPlace bd n) (recordPlace bd m - recordPlace bd n) x))
+        → putMid (recordPlace bd n) (recordPlace bd m - recordPlace bd n) x z ≡ take 3 ws ++ (flatten rs ++ (zeros (recordWords bd * m - recordWords bd * n) ++ drop (recordWords bd * m) (drop 3 ws)))
+    unfolding front rest
+    zeroed-behind m x z e h g k =
+        let L : ℕ = recordWords bd in
+        let le : L * n ≤ L * m = mul-le-mul-left L h in
+        let lx : length x ≡ length ws = ap length e ∙ length-with in
+        let a : take (recordPlace bd n) x ≡ front = ap (take (recordPlace bd n)) (e ∙ parted) ∙ take-at front rest (recordPlace bd n) length-front in
+        let d : ℕ = L * m - L * n in
+        let q : recordPlace bd m ≡ length front + d = omega (arith, length-front, le) in
+        let o : L * n + d ≡ L * m = omega (arith, le) in
+        let b : drop (recordPlace bd m) x ≡ drop (L * m) (drop 3 ws) =
+        ap (drop (recordPlace bd m)) (e ∙ parted)
+        ∙ ap (λ (j : ℕ). drop j (front ++ rest)) q
+        ∙ drop-append-add front rest d
+        ∙ drop-drop d (L * n) (drop 3 ws)
+        ∙ ap (λ (j : ℕ). drop j (drop 3 ws)) o in
+        let p : drop (recordPlace bd m - recordPlace bd n) (drop (recordPlace bd n) x) ≡ drop (L * m) (drop 3 ws) = post-is (recordPlace bd n) (recordPlace bd m) x (omega (arith, le)) ∙ b in
+        let w : recordPlace bd m - recordPlace bd n ≡ d = omega (arith, le) in
+        let y : z ≡ zeros d = k ∙ ap zeros (mid-len (recordPlace bd n) (recordPlace bd m) x (omega (arith, g, lx)) ∙ w) in
+        ap (λ (l : List ℕ). take (recordPlace bd n) x ++ (z ++ l)) p
+        ∙ ap (λ (l : List ℕ). l ++ (z ++ drop (L * m) (drop 3 ws))) a
+        ∙ ap (λ (l : List ℕ). front ++ (l ++ drop (L * m) (drop 3 ws))) y
+        ∙ append-assoc (take 3 ws) (flatten rs) (zeros d ++ drop (L * m) (drop 3 ws))
+
+    pub put-next : (r : List ℕ) → putRecord bd n r (withRecords bd rs ws) ≡ withRecords bd (rs ++ (r ∷ [])) ws
     unfolding putRecord withRecords front rest
     put-next r =
         let L : ℕ = recordWords bd in
@@ -127,7 +171,7 @@ module _ (bd : Bounds) (rs : List (List ℕ)) (n : ℕ) (ws : List ℕ) (count :
 
 -- ---- clearing: one record after another
 
-slots-more : (L n : ℕ) (a : List ℕ) → slotsOf L (suc n) a ≡ slotsOf L n a ++ (take L (drop (L * n) a) ∷ [])
+pub slots-more : (L n : ℕ) (a : List ℕ) → slotsOf L (suc n) a ≡ slotsOf L n a ++ (take L (drop (L * n) a) ∷ [])
 unfolding slotsOf
 slots-more L zero a = rw mul-zero
 slots-more L (suc n) a =
@@ -336,3 +380,15 @@ laid-out K f start end es (x ∷ y ∷ z ∷ r) p e h =
     ∙ ap (λ (t : List ℕ). (f + 1) ∷ start ∷ end ∷ t) (append-nil p ∙ a)
     ∙ ap (λ (k : ℕ). k ∷ start ∷ end ∷ encode K es) (add-one f)
     ∙ sym (record-slot K f start end es)
+
+-- the same for a record of so many edges
+pub laid-out-for : (most f start end : ℕ) (es r p : List ℕ) → length r ≡ most + 4
+    → p ≡ putSlot (most + 1) 0 (encode (most + 1) es) (midOf 3 (most + 4 - 3) (set (set (set r 0 (f + 1)) 1 start) 2 end))
+    → putMid 3 (most + 4 - 3) (set (set (set r 0 (f + 1)) 1 start) 2 end) p ≡ encodeSlot (most + 4) (slot f start end es)
+laid-out-for most f start end es r p e h =
+    let q : most + 4 - 3 ≡ most + 1 = omega arith in
+    let n : suc (suc (suc (most + 1))) ≡ most + 4 = omega arith in
+    let x : List ℕ = set (set (set r 0 (f + 1)) 1 start) 2 end in
+    ap (λ (k : ℕ). putMid 3 k x p) q
+    ∙ laid-out (most + 1) f start end es r p (e ∙ sym n) (h ∙ ap (λ (k : ℕ). putSlot (most + 1) 0 (encode (most + 1) es) (midOf 3 k x)) q)
+    ∙ ap (λ (k : ℕ). encodeSlot k (slot f start end es)) n

@@ -8,9 +8,8 @@ use mathlib.Core.List.{List, [], _∷_, _++_}
 use borrow.Rule.Slice.PartMut.{putMid, post-is}
 use lib.ListN.{length, getD, take, drop, length-append, length-drop, take-append-drop, length-map, List·getD-map}
 use lib.Seq.{length-take-le, getD-take, getD-drop, drop-drop, take-take}
-use Rattle.semantics.specs.Limits.{Bounds}
+use Rattle.semantics.specs.Limits.{Bounds, recordWords}
 use Rattle.semantics.specs.PartialPaths.{dead, slot}
-use Rattle.semantics.specs.Words.{recordWords}
 use Rattle.semantics.specs.Words.Laws.{length-slots, getD-slots, drop-take}
 use Rattle.semantics.specs.Database.{usedIn, decode, records, slotsIn, recordPlace}
 use Rattle.database.specs.Records.{InWords, Whole, recordAt, putRecord, ownerWord, startWord, endWord, countWord, edgeWords}
@@ -55,11 +54,11 @@ decode-dead [] o = refl
 decode-dead (zero ∷ r) o = refl
 decode-dead (suc f ∷ r) o = absurd (omega arith)
 
-decode-live : (f start end count : ℕ) (es r : List ℕ) → getD r 0 0 ≡ suc f → getD r 1 0 ≡ start → getD r 2 0 ≡ end → getD r 3 0 ≡ count → take count (drop 4 r) ≡ es → decode r ≡ slot f start end es
+decode-live : (f : ℕ) {start end count : ℕ} {es : List ℕ} (r : List ℕ) → getD r 0 0 ≡ suc f → getD r 1 0 ≡ start → getD r 2 0 ≡ end → getD r 3 0 ≡ count → take count (drop 4 r) ≡ es → decode r ≡ slot f start end es
 unfolding decode
-decode-live f start end count es [] o s t n e = absurd (omega arith)
-decode-live f start end count es (zero ∷ r) o s t n e = absurd (omega arith)
-decode-live f start end count es (suc w ∷ r) o s t n e = let q : w ≡ f = omega arith in rw (q, s, t, n, e)
+decode-live f [] o s t n e = absurd (omega arith)
+decode-live f (zero ∷ r) o s t n e = absurd (omega arith)
+decode-live f (suc w ∷ r) o s t n e = let q : w ≡ f = omega arith in rw (q, s, t, n, e)
 
 -- ---- the words of a record
 
@@ -90,8 +89,8 @@ module _ (bd : Bounds) (i : ℕ) (ws : List ℕ) where
   length-edges h l = length-take-le (countWord bd i ws) (drop (recordPlace bd i + 4) ws) (simp length-drop (omega arith))
 
   -- the part of the words that the code takes for its edges, n being the count that it read
-  pub part-edges : (n : ℕ) → n ≡ countWord bd i ws → take (recordPlace bd i + 4 + n - (recordPlace bd i + 4)) (drop (recordPlace bd i + 4) ws) ≡ edgeWords bd i ws
-  part-edges n e = let q : recordPlace bd i + 4 + n - (recordPlace bd i + 4) ≡ n = omega arith in rw (q, e)
+  pub part-edges : {n : ℕ} → n ≡ countWord bd i ws → take (recordPlace bd i + 4 + n - (recordPlace bd i + 4)) (drop (recordPlace bd i + 4) ws) ≡ edgeWords bd i ws
+  part-edges {n} e = let q : recordPlace bd i + 4 + n - (recordPlace bd i + 4) ≡ n = omega arith in rw (q, e)
 
   -- ---- record i is slot i of the definitions
 
@@ -110,7 +109,7 @@ module _ (bd : Bounds) (i : ℕ) (ws : List ℕ) where
   pub slot-live : (f : ℕ) → i < usedIn ws → ownerWord bd i ws ≡ suc f → countWord bd i ws ≤ bd .edges → getD (slotsIn bd ws) i dead ≡ slot f (startWord bd i ws) (endWord bd i ws) (edgeWords bd i ws)
   slot-live f h e l =
       slot-is h
-      ∙ decode-live f (startWord bd i ws) (endWord bd i ws) (countWord bd i ws) (edgeWords bd i ws) (recordAt bd i ws) (record-owner ∙ e) record-start record-end record-count (record-edges l)
+      ∙ decode-live f (recordAt bd i ws) (record-owner ∙ e) record-start record-end record-count (record-edges l)
 
 pub count-slots : (bd : Bounds) (ws : List ℕ) → length (slotsIn bd ws) ≡ usedIn ws
 unfolding slotsIn records

@@ -11,8 +11,8 @@ use Rattle.semantics.specs.declared.graph.Node.{Node}
 use Rattle.semantics.specs.declared.graph.Node.the-variants as N
 use Rattle.semantics.specs.declared.graph.Edge.{Edge}
 use Rattle.semantics.specs.declared.graph.Edge.the-variants as E
-use Rattle.image.specs.Rows.{BLOCK, KIND, FLAG, FILE, SYMBOL, SCOPE, FIRST, SOURCE, TARGET, PRECEDENCE, Blocks, cell, nodeOf, edgeOf, nodeRow, edgeRow, firstRow, Fresh, put, putNode, putEdge}
-use Rattle.image.specs.Rows.Laws.{cell-same, cell-other}
+use Rattle.image.specs.Index.{BLOCK, KIND, FLAG, FILE, SYMBOL, SCOPE, FIRST, SOURCE, TARGET, PRECEDENCE, Blocks, cell, nodeOf, edgeOf, nodeRow, edgeRow, firstRow, Fresh, put, putNode, putEdge}
+use Rattle.image.specs.Index.Laws.{cell-same, cell-other}
 use Rattle.image.specs.Filling.{upto, Filled}
 
 -- one more of a sequence

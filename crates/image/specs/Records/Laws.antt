@@ -23,7 +23,7 @@ use Rattle.semantics.specs.Bytes.{byteAt, short, long}
 use Rattle.semantics.specs.Bytes.Laws.{wide-long}
 use Rattle.semantics.specs.Graph.{viewOf}
 use Rattle.semantics.specs.Image.{symbolBytes, filesOf, nodesOf, edgesOf, header, isCut, mayStand, bodySize, fieldsFit, nextPlace, nodeRecord, edgeRecord, scan, flagAt, nodeIn, edgeIn, nodesFrom, edgesFrom, placeOf, firstRecord, firstEdge, graphOf}
-use Rattle.image.specs.Rows.{BLOCK, Fresh, nodeOf, edgeOf, putNode, putEdge}
+use Rattle.image.specs.Index.{BLOCK, Fresh, nodeOf, edgeOf, putNode, putEdge}
 use Rattle.image.specs.Filling.{upto, Filled, Held}
 use Rattle.image.specs.Filling.Laws.{filled-node, filled-edge, filled-as, cleared}
 use Rattle.image.specs.Records.{Headed, Fielded, nodeHere, edgeHere, nodeAt, edgeAt, NodePut, EdgePut, NodesPut, EdgesPut, Run, symbolIn, scopeIn}
@@ -56,7 +56,7 @@ headed im x e =
     )
 
 -- A NODE RECORD, by the values that were read
-module _ (im : List ℕ) (files n at kind : ℕ) (isKind : byteAt im (at + 1) ≡ kind) where
+module _ (im : List ℕ) (files n at : ℕ) {kind : ℕ} (isKind : byteAt im (at + 1) ≡ kind) where
   pub node-cut : isCut im at ≡ true → refuse Image.Length ≡ nodeRecord symbolBytes im files n at
   unfolding nodeRecord
   node-cut c = simp c
@@ -126,12 +126,12 @@ size-symbol (suc (suc (suc (suc (suc (suc zero)))))) h b d = omega arith
 size-symbol (suc (suc (suc (suc (suc (suc (suc zero))))))) h b d = omega arith
 size-symbol (suc (suc (suc (suc (suc (suc (suc (suc k)))))))) h b d = absurd (omega (arith, b))
 
-pub size-scope : (kind : ℕ) → kind ≡ 6 → bodySize symbolBytes kind ≡ 10
+pub size-scope : {kind : ℕ} → kind ≡ 6 → bodySize symbolBytes kind ≡ 10
 unfolding bodySize
-size-scope kind e = rw e
+size-scope e = rw e
 
 -- THE FIELDS of the kinds 3 to 8
-module _ (im : List ℕ) (files at kind count file next : ℕ) (isFile : file ≡ short im (at + 2)) where
+module _ (im : List ℕ) (files at kind count : ℕ) {file : ℕ} (next : ℕ) (isFile : file ≡ short im (at + 2)) where
   abbrev judged : Answer ImageRefusal ℕ
   judged = pick (fieldsFit im files kind at count) (ok next) (refuse (Image.Record at))
 
@@ -154,14 +154,14 @@ module _ (im : List ℕ) (files at kind count file next : ℕ) (isFile : file �
       flag-fits h = simp (lt-leb files (short im (at + 2)) (omega arith), ne-eqb kind 8 flagged, lt-ltb (byteAt im (at + count)) 2 (omega arith))
 
 -- PUT INTO THE INDEX
-pub node-put : (n kind flag file symbol scope : ℕ) (x : Node) (before after : List ℕ) → BLOCK * n < length before → kind < 9 → nodeOf kind flag file symbol scope ≡ x
+pub node-put : (n kind flag file symbol scope : ℕ) {x : Node} (before : List ℕ) {after : List ℕ} → BLOCK * n < length before → kind < 9 → nodeOf kind flag file symbol scope ≡ x
     → after ≡ putNode n kind flag file symbol scope before → NodePut n x before after
-node-put n kind flag file symbol scope x before after h k e q f D g d =
+node-put n kind flag file symbol scope before h k e q f D g d =
     subst (Filled (upto (n + 1) f N.Removed) D) (sym q) (filled-node before f D n kind flag file symbol scope h k (e ∙ g) d)
 
-pub edge-put : (e source target precedence : ℕ) (x : Edge) (before after : List ℕ) → BLOCK * e < length before → edgeOf source target precedence ≡ x
+pub edge-put : (e source target precedence : ℕ) {x : Edge} (before : List ℕ) {after : List ℕ} → BLOCK * e < length before → edgeOf source target precedence ≡ x
     → after ≡ putEdge e source target precedence before → EdgePut e x before after
-edge-put e source target precedence x before after h k q F f g d =
+edge-put e source target precedence before h k q F f g d =
     subst (Filled F (upto (e + 1) f E.Removed)) (sym q) (filled-edge before F f e source target precedence h (k ∙ g) d)
 
 -- ITS WORDS
@@ -196,20 +196,20 @@ full-words im at (suc (suc (suc (suc (suc (suc (suc zero))))))) h b = rw (wide-l
 full-words im at (suc (suc (suc (suc (suc (suc (suc (suc k)))))))) h b = absurd (omega (arith, b))
 
 -- the words of a record that was read are put into the index
-pub bare-put : (im : List ℕ) (n at kind : ℕ) (before after : List ℕ) → BLOCK * n < length before → byteAt im (at + 1) ≡ kind → kind < 3
+pub bare-put : (im : List ℕ) (n at : ℕ) {kind : ℕ} (before : List ℕ) {after : List ℕ} → BLOCK * n < length before → byteAt im (at + 1) ≡ kind → kind < 3
     → after ≡ putNode n kind 0 0 0 0 before → NodePut n (nodeHere im at) before after
-bare-put im n at kind before after h r b q = node-put n kind 0 0 0 0 (nodeHere im at) before after h (omega arith) (rw r (bare-words im at kind b)) q
+bare-put im n at {kind} before {after} h r b q = node-put n kind 0 0 0 0 {x = nodeHere im at} before h (omega arith) (rw r (bare-words im at kind b)) q
 
-pub drop-put : (im : List ℕ) (n at kind file : ℕ) (before after : List ℕ) → BLOCK * n < length before → Fielded im at kind → kind ≡ 8 → file ≡ short im (at + 2)
+pub drop-put : {im : List ℕ} (n : ℕ) {at kind file : ℕ} (before : List ℕ) {after : List ℕ} → BLOCK * n < length before → Fielded im at kind → kind ≡ 8 → file ≡ short im (at + 2)
     → after ≡ putNode n kind 0 file 0 0 before → NodePut n (nodeHere im at) before after
-drop-put im n at kind file before after h k e f q =
-    node-put n kind 0 file 0 0 (nodeHere im at) before after h (omega arith) (rw (k .reads, e, f) (drop-words im at)) q
+drop-put {im} n {at} {kind} {file} before {after} h k e f q =
+    node-put n kind 0 file 0 0 {x = nodeHere im at} before h (omega arith) (rw (k .reads, e, f) (drop-words im at)) q
 
-pub full-put : (im : List ℕ) (n at kind flag file symbol scope : ℕ) (before after : List ℕ) → BLOCK * n < length before → Fielded im at kind → (kind ≡ 8 → ⊥)
+pub full-put : {im : List ℕ} (n : ℕ) {at kind flag file symbol scope : ℕ} (before : List ℕ) {after : List ℕ} → BLOCK * n < length before → Fielded im at kind → (kind ≡ 8 → ⊥)
     → flag ≡ byteAt im (at + byteAt im at) → file ≡ short im (at + 2) → symbol ≡ symbolIn im at kind → scope ≡ scopeIn im at kind
     → after ≡ putNode n kind flag file symbol scope before → NodePut n (nodeHere im at) before after
-full-put im n at kind flag file symbol scope before after h k d e f g i q =
-    node-put n kind flag file symbol scope (nodeHere im at) before after h (omega (arith, k .high))
+full-put {im} n {at} {kind} {flag} {file} {symbol} {scope} before {after} h k d e f g i q =
+    node-put n kind flag file symbol scope {x = nodeHere im at} before h (omega (arith, k .high))
     (rw (k .reads, e, f, g, i, k .size) (full-words im at kind (k .low) (less kind (k .high) d))) q
   where
     less : (x : ℕ) → x ≤ 8 → (x ≡ 8 → ⊥) → x < 8
@@ -220,7 +220,7 @@ full-put im n at kind flag file symbol scope before after h k d e f g i q =
         go (no y) = omega arith
 
 -- AN EDGE RECORD
-module _ (im : List ℕ) (at kind : ℕ) (isKind : byteAt im (at + 1) ≡ kind) where
+module _ (im : List ℕ) (at : ℕ) {kind : ℕ} (isKind : byteAt im (at + 1) ≡ kind) where
   pub edge-cut : isCut im at ≡ true → refuse Image.Length ≡ edgeRecord im at
   unfolding edgeRecord
   edge-cut c = simp c
@@ -249,17 +249,17 @@ live-words im at =
     let z : short im (at + 2) + 1 - 1 ≡ short im (at + 2) = omega arith in
     rw (ne-eqb (short im (at + 2) + 1) 0 (λ e. omega arith), z)
 
-pub removed-put : (im : List ℕ) (e at kind : ℕ) (before after : List ℕ) → BLOCK * e < length before → byteAt im (at + 1) ≡ kind → kind < 1
+pub removed-put : (im : List ℕ) (e at : ℕ) {kind : ℕ} (before : List ℕ) {after : List ℕ} → BLOCK * e < length before → byteAt im (at + 1) ≡ kind → kind < 1
     → after ≡ putEdge e 0 0 0 before → EdgePut e (edgeHere im at) before after
-removed-put im e at kind before after h r b q =
+removed-put im e at {kind} before {after} h r b q =
     let z : kind ≡ 0 = omega arith in
-    edge-put e 0 0 0 (edgeHere im at) before after h (rw (r, z) (removed-words im at)) q
+    edge-put e 0 0 0 {x = edgeHere im at} before h (rw (r, z) (removed-words im at)) q
 
-pub live-put : (im : List ℕ) (e at kind source target precedence : ℕ) (before after : List ℕ) → BLOCK * e < length before → byteAt im (at + 1) ≡ kind → kind ≡ 1
+pub live-put : (im : List ℕ) (e at : ℕ) {kind source target precedence : ℕ} (before : List ℕ) {after : List ℕ} → BLOCK * e < length before → byteAt im (at + 1) ≡ kind → kind ≡ 1
     → source ≡ short im (at + 2) → target ≡ short im (at + 4) → precedence ≡ long im (at + 6)
     → after ≡ putEdge e (source + 1) target precedence before → EdgePut e (edgeHere im at) before after
-live-put im e at kind source target precedence before after h r k s t p q =
-    edge-put e (source + 1) target precedence (edgeHere im at) before after h (rw (r, k, s, t, p) (live-words im at)) q
+live-put im e at {source} {target} {precedence} before {after} h r k s t p q =
+    edge-put e (source + 1) target precedence {x = edgeHere im at} before h (rw (r, k, s, t, p) (live-words im at)) q
 
 -- THE RUN OVER THE RECORDS
 module _ (test : ℕ → ℕ → Answer ImageRefusal ℕ) (count i at : ℕ) where
@@ -349,9 +349,9 @@ module _ (im : List ℕ) (test : ℕ → ℕ → Answer ImageRefusal ℕ) (from 
   unfolding placeOf
   run-start = record { place = refl; same = ap (scan test 0 from) (let z : count - 0 ≡ count = omega arith in z) }
 
-  module _ (i at : ℕ) (r : Run im test from count i at) where
-    pub run-next : (x : ℕ) → i < count → test i at ≡ ok x → x ≡ nextPlace im at → Run im test from count (i + 1) x
-    run-next x h e q = record {
+  module _ {i at : ℕ} (r : Run im test from count i at) where
+    pub run-next : {x : ℕ} → i < count → test i at ≡ ok x → x ≡ nextPlace im at → Run im test from count (i + 1) x
+    run-next {x} h e q = record {
       place = q ∙ ap (nextPlace im) (r .place) ∙ sym (place-next im from i);
       same = sym (scan-next test count i at x h e) ∙ r .same;
     }
@@ -368,24 +368,24 @@ none-below f d j = rw (le-ltb j 0 (omega arith))
 pub no-nodes-put : (im l : List ℕ) → NodesPut im 0 l l
 no-nodes-put im l D k = filled-as l (none-below (nodeAt im firstRecord) N.Removed) (λ e. refl) k
 
-pub nodes-put-more : (im : List ℕ) (n at : ℕ) (l before after : List ℕ) → at ≡ placeOf im firstRecord n → NodesPut im n l before → NodePut n (nodeHere im at) before after → NodesPut im (n + 1) l after
-nodes-put-more im n at l before after p k s D f = s (nodeAt im firstRecord) D (ap (nodeHere im) p) (k D f)
+pub nodes-put-more : (im : List ℕ) (n : ℕ) {at : ℕ} (l before after : List ℕ) → at ≡ placeOf im firstRecord n → NodesPut im n l before → NodePut n (nodeHere im at) before after → NodesPut im (n + 1) l after
+nodes-put-more im n l before after p k s D f = s (nodeAt im firstRecord) D (ap (nodeHere im) p) (k D f)
 
 pub no-edges-put : (im : List ℕ) (from : ℕ) (l : List ℕ) → EdgesPut im from 0 l l
 no-edges-put im from l F k = filled-as l (λ n. refl) (none-below (edgeAt im from) E.Removed) k
 
-pub edges-put-more : (im : List ℕ) (from e at : ℕ) (l before after : List ℕ) → at ≡ placeOf im from e → EdgesPut im from e l before → EdgePut e (edgeHere im at) before after → EdgesPut im from (e + 1) l after
-edges-put-more im from e at l before after p k s F f = s F (edgeAt im from) (ap (edgeHere im) p) (k F f)
+pub edges-put-more : (im : List ℕ) (from e : ℕ) {at : ℕ} (l before after : List ℕ) → at ≡ placeOf im from e → EdgesPut im from e l before → EdgePut e (edgeHere im at) before after → EdgesPut im from (e + 1) l after
+edges-put-more im from e l before after p k s F f = s F (edgeAt im from) (ap (edgeHere im) p) (k F f)
 
 -- all records of the image are in the index
-pub all-put : (im l : List ℕ) → Filled (upto (nodesOf im) (nodeAt im firstRecord) N.Removed) (upto (edgesOf im) (edgeAt im (firstEdge im)) E.Removed) l → Held (graphOf symbolBytes im) l
+pub all-put : (im : List ℕ) {l : List ℕ} → Filled (upto (nodesOf im) (nodeAt im firstRecord) N.Removed) (upto (edgesOf im) (edgeAt im (firstEdge im)) E.Removed) l → Held (graphOf symbolBytes im) l
 unfolding viewOf graphOf
-all-put im l k = filled-as l (λ n. sym (nodes-at im firstRecord (nodesOf im) n)) (λ e. sym (edges-at im (firstEdge im) (edgesOf im) e)) k
+all-put im {l} k = filled-as l (λ n. sym (nodes-at im firstRecord (nodesOf im) n)) (λ e. sym (edges-at im (firstEdge im) (edgesOf im) e)) k
 
-pub records-put : (im : List ℕ) (count from m : ℕ) (l before after : List ℕ) → count ≡ nodesOf im → from ≡ placeOf im firstRecord count → m ≡ edgesOf im
+pub records-put : (im : List ℕ) {count from m : ℕ} {l : List ℕ} (before after : List ℕ) → count ≡ nodesOf im → from ≡ placeOf im firstRecord count → m ≡ edgesOf im
     → Fresh l → NodesPut im count l before → EdgesPut im from m before after → Held (graphOf symbolBytes im) after
-records-put im count from m l before after c f e h n d =
+records-put im {from} {m} {l} before after c f e h n d =
     let p : from ≡ firstEdge im = f ∙ ap (placeOf im firstRecord) c in
-    all-put im after (subst (λ (k : ℕ). Filled (upto (nodesOf im) (nodeAt im firstRecord) N.Removed) (upto k (edgeAt im (firstEdge im)) E.Removed) after) e
+    all-put im (subst (λ (k : ℕ). Filled (upto (nodesOf im) (nodeAt im firstRecord) N.Removed) (upto k (edgeAt im (firstEdge im)) E.Removed) after) e
     (subst (λ (k : ℕ). Filled (upto (nodesOf im) (nodeAt im firstRecord) N.Removed) (upto m (edgeAt im k) E.Removed) after) p
     (subst (λ (k : ℕ). Filled (upto k (nodeAt im firstRecord) N.Removed) (upto m (edgeAt im from) E.Removed) after) c (d _ (n _ (cleared l h))))))

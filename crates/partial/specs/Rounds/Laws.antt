@@ -3,7 +3,7 @@
 use Prim.Native.Nat.{ℕ, zero, suc, _+_, _-_, _*_, _<_, _≤_}
 use native.Mathlib.Omega.{arith}
 use mathlib.Core.Path.{_≡_, refl, sym, ap, subst, _∙_}
-use mathlib.Core.Logic.{_⊎_, inl, inr, ⊎-elim}
+use mathlib.Core.Logic.{inl, ⊎-elim}
 use mathlib.Core.Bool.{Bool, true, false}
 use mathlib.Core.List.{List, [], _∷_, _++_}
 use lib.Dec.{leb, ltb}
@@ -17,23 +17,23 @@ use Rattle.semantics.specs.declared.refusal.PartialPathRefusal.{PartialPathRefu
 use Rattle.semantics.specs.declared.refusal.PartialPathRefusal.the-variants.{TooManyExpansions}
 use Rattle.semantics.specs.Lists.{consIf, select}
 use Rattle.semantics.specs.Lists.Laws.{and-true}
-use Rattle.semantics.specs.Limits.{base}
+use Rattle.semantics.specs.Limits.{base, maxEdges, slotLength, maxExpansions, lookedBefore}
 use Rattle.semantics.specs.Words.{zeros}
 use Rattle.words.specs.Slots.Wider.{padded-is}
-use Rattle.graph_search.specs.declared.path_frontier.Frontier.{Frontier}
-use Rattle.graph_search.specs.Frontier.{Framed, widened, Wider}
+use Rattle.path_frontier.specs.declared.frontier.Frontier.{Frontier}
+use Rattle.path_frontier.specs.Frontier.{Framed, widened, Wider}
 use Rattle.semantics.specs.Answer.{Answer, ok, refuse}
 use Rattle.semantics.specs.Graph.{View, viewOf}
 use Rattle.semantics.specs.Enumeration.{State, Setting, Try, Tally, over, expand, each, turn, run, final, follow, merge}
 use Rattle.semantics.specs.Enumeration.Statistics.{each-moved}
 use Rattle.semantics.specs.PartialPaths.{Route, belongs, judgeRoute, routeTries, partialStats}
-use Rattle.storage.specs.Rows.{edgeRow}
-use Rattle.storage.specs.Rows.Use.{out-bounded}
+use Rattle.storage.specs.Index.{edgeRow}
+use Rattle.storage.specs.Index.Use.{out-bounded}
 use Rattle.path.specs.Replays.Laws.{edges-are}
 use Rattle.search_state.specs.Items.{Carries}
 use Rattle.partial_state.specs.declared.route.Ends as R
 use Rattle.partial_state.specs.declared.filing.Filing.{Filing}
-use Rattle.partial_state.specs.declared.extraction.Frame.{Frame}
+use Rattle.partial_state.specs.declared.extraction.ExtractionFrame.{ExtractionFrame}
 use Rattle.partial_state.specs.Routes.{held, endsIn, endsOf, Waiting}
 use Rattle.partial_state.specs.Routes.Laws.{held-long, held-count, held-carries, held-padded, held-ends}
 use Rattle.database.specs.Filing.{putRoutes}
@@ -50,11 +50,11 @@ use Rattle.partial_trial.specs.Expansions.Edges.{fits-same}
 
 -- ---- one round
 
-module _ (most : ℕ) (index : List ℕ) (f : Filing) (item : List ℕ) (x : Computation) (ws db : List ℕ) (v : Rounding most index f item x ws db) where
+module _ {most : ℕ} {index : List ℕ} {f : Filing} {item : List ℕ} {x : Computation} {ws db : List ℕ} (v : Rounding most index f item x ws db) where
   count : getD item 0 0 ≡ length (v .route .edges)
   count = ap (λ (l : List ℕ). getD l 0 0) (v .words) ∙ held-count (x .frontier .length) (v .route .start) (v .route .edges) (omega (arith, v .rep .sized .start))
 
-  pub round-short : getD item 0 0 ≤ 127
+  pub round-short : getD item 0 0 ≤ maxEdges
   round-short = let c = count in omega (arith, c, v .good .0 .short)
 
   carried : Carries (x .frontier .length) item (v .route .edges)
@@ -66,10 +66,10 @@ module _ (most : ℕ) (index : List ℕ) (f : Filing) (item : List ℕ) (x : Com
   pub round-inside : getD item 0 0 < length item
   round-inside = let c = count in omega (arith, carried .long, c, v .good .1)
 
-  ends-are : (e : R.Ends) → e ≡ endsIn (edgeRow index) item → e ≡ endsOf (v .route)
-  ends-are e q = q ∙ ap (λ (h : ℕ → Edge). endsIn h item) (edges-are (v .graph) index (v .loaded)) ∙ ap (endsIn (viewOf (v .graph) .edge)) (v .words) ∙ held-ends (viewOf (v .graph)) (f .file) (x .frontier .length) (v .route) (v .good .0) (v .rep .sized .start) (v .good .1)
+  ends-are : {e : R.Ends} → e ≡ endsIn (edgeRow index) item → e ≡ endsOf (v .route)
+  ends-are q = q ∙ ap (λ (h : ℕ → Edge). endsIn h item) (edges-are (v .graph) index (v .loaded)) ∙ ap (endsIn (viewOf (v .graph) .edge)) (v .words) ∙ held-ends (x .frontier .length) (v .good .0) (v .rep .sized .start) (v .good .1)
 
-  module _ (e : R.Ends) (q : e ≡ endsIn (edgeRow index) item) where
+  module _ {e : R.Ends} (q : e ≡ endsIn (edgeRow index) item) where
     pub round-given : Expanding most index f e (getD item 0 0) item x ws db
     round-given = record {
       given = record {
@@ -77,7 +77,7 @@ module _ (most : ℕ) (index : List ℕ) (f : Filing) (item : List ℕ) (x : Com
         loaded = v .loaded;
         origin = v .origin;
         route = v .route;
-        starts = ap (λ (u : R.Ends). u .start) (ends-are e q);
+        starts = ap (λ (u : R.Ends). u .start) (ends-are q);
         count = sym count;
         carries = carried;
         good = v .good;
@@ -87,7 +87,7 @@ module _ (most : ℕ) (index : List ℕ) (f : Filing) (item : List ℕ) (x : Com
         rep = v .rep;
         small = v .small;
       };
-      stands = ap (λ (u : R.Ends). u .end) (ends-are e q);
+      stands = ap (λ (u : R.Ends). u .end) (ends-are q);
     }
 
     pub rounded : (a : Course) (ws′ db′ : List ℕ) → Expanded most index f e (getD item 0 0) item x ws db round-given a ws′ db′ → Rounded most index f item x ws db v a ws′ db′
@@ -107,8 +107,8 @@ pub front-lent : (L : ℕ) (item : List ℕ) → take (L - 0) (drop 0 item) ≡ 
 front-lent L item = ap (λ (n : ℕ). take n item) (let z : L - 0 ≡ L = omega arith in z)
 
 -- a round's route in other words that are the same
-unfoldable pub round-same : (most : ℕ) (index : List ℕ) (f : Filing) (item item′ : List ℕ) (x : Computation) (ws db : List ℕ) → item′ ≡ item → Rounding most index f item x ws db → Rounding most index f item′ x ws db
-round-same most index f item item′ x ws db e v = record {
+unfoldable pub round-same : {most : ℕ} {index : List ℕ} {f : Filing} {item item′ : List ℕ} {x : Computation} {ws db : List ℕ} → item′ ≡ item → Rounding most index f item x ws db → Rounding most index f item′ x ws db
+round-same e v = record {
   graph = v .graph;
   loaded = v .loaded;
   origin = v .origin;
@@ -139,11 +139,11 @@ module _ (x : Computation) (item ws : List ℕ) (y : Computation) (item′ ws′
       (λ (m : Grown x item ws y item′ ws′). ap (λ (z : Computation). z .budget) (wider-is m))
       made
 
-  module _ (g : View) (f : Filing) (origin db : List ℕ) (m : State Route) (rep : Rep g f origin x ws db m) where
+  module _ {g : View} {f : Filing} {origin db : List ℕ} {m : State Route} (rep : Rep g f origin x ws db m) where
     pub room-rep : Rep g f origin y ws′ db m
     room-rep = ⊎-elim
         (λ (k : (y ≡ x) × (item′ ≡ item) × (ws′ ≡ ws) × Roomy (getD item 0 0) (x .frontier .length)). subst (λ (z : Computation). Rep g f origin z ws′ db m) (sym (k .0)) (subst (λ (z : List ℕ). Rep g f origin x z db m) (sym (k .2)) rep))
-        (λ (k : Grown x item ws y item′ ws′). rep-grows g f origin x ws db m rep (k .words) (omega (arith, k .longer)) (k .most) y ws′ (k .grows))
+        (λ (k : Grown x item ws y item′ ws′). rep-grows rep (k .words) (omega (arith, k .longer)) (k .most) (k .grows))
         made
 
     module _ (r : Route) (words : take (x .frontier .length) item ≡ held (x .frontier .length) r) (good : Waiting g (f .file) (x .frontier .length) r) where
@@ -157,8 +157,8 @@ module _ (x : Computation) (item ws : List ℕ) (y : Computation) (item′ ws′
           (λ (k : Grown x item ws y item′ ws′).
           let L : ℕ = x .frontier .length in
           let M : ℕ = k .words in
-          let e : item′ ≡ held 128 r = k .rest ∙ ap (λ (l : List ℕ). l ++ zeros (128 - L)) words ∙ padded-is 128 L (held L r) (held-long L r) ∙ held-padded 128 L r (rep .sized .start) (rep .sized .most) (good .1) in
-          subst (λ (z : Computation). take (z .frontier .length) item′ ≡ held (z .frontier .length) r) (sym (wider-is k)) (ap (take M) (e ∙ sym (held-padded 128 M r (omega (arith, rep .sized .start, k .longer)) (k .most) (omega (arith, good .1, k .longer))) ∙ sym (padded-is 128 M (held M r) (held-long M r))) ∙ take-at (held M r) (zeros (128 - M)) M (held-long M r)))
+          let e : item′ ≡ held slotLength r = k .rest ∙ ap (λ (l : List ℕ). l ++ zeros (slotLength - L)) words ∙ padded-is slotLength L (held L r) (held-long L r) ∙ held-padded slotLength L r (rep .sized .start) (rep .sized .most) (good .1) in
+          subst (λ (z : Computation). take (z .frontier .length) item′ ≡ held (z .frontier .length) r) (sym (wider-is k)) (ap (take M) (e ∙ sym (held-padded slotLength M r (omega (arith, rep .sized .start, k .longer)) (k .most) (omega (arith, good .1, k .longer))) ∙ sym (padded-is slotLength M (held M r) (held-long M r))) ∙ take-at (held M r) (zeros (slotLength - M)) M (held-long M r)))
           made
 
       pub room-good : Waiting g (f .file) (y .frontier .length) r
@@ -201,8 +201,8 @@ module _ {A W : Type 0} (c : Setting A) (f : W → List (Try A W)) (n : ℕ) (m 
 abbrev toldOf : SearchStats → PartialPathStats
 toldOf s = record { expanded = s .expanded; found = s .complete; cycles = s .cycles; lengthLimited = s .lengthLimited; countLimited = s .countLimited }
 
-finished : (n : Computation) (u : State Route) → Counts n u → partialOf n ≡ partialStats u
-finished n u c = ap toldOf (c .stats)
+finished : {n : Computation} {u : State Route} → Counts n u → partialOf n ≡ partialStats u
+finished c = ap toldOf (c .stats)
 
 select-fewer : (b : ℕ → Bool) (l : List ℕ) → length (select b l) ≤ length l
 unfolding select
@@ -224,14 +224,14 @@ filed-first f ls ks ws e = ap (λ (l : List Route). putRoutes base (f .file) (f 
 pub filed-tests : (f : Filing) (found : ℕ) → isFiled f found ≡ true → (0 < f .room) × (f .room ≤ found)
 filed-tests f found e = let h = and-true (ltb 0 (f .room)) (leb (f .room) found) e in (ltb-true 0 (f .room) (h .0), leb-true (f .room) found (h .1))
 
-module _ (index : List ℕ) (f : Filing) (item₀ : List ℕ) (x : Computation) (ws₀ db₀ : List ℕ) (v : Driving index f item₀ x ws₀ db₀) where
+module _ {index : List ℕ} {f : Filing} {item₀ : List ℕ} {x : Computation} {ws₀ db₀ : List ℕ} (v : Driving index f item₀ x ws₀ db₀) where
   abbrev g : View
   g = viewOf (v .graph)
 
   abbrev whole : Answer PartialPathRefusal (State Route)
-  whole = runFrom (frameOf x) (v .graph) (f .file) (16777216 - x .budget .expanded) (v .model)
+  whole = runFrom (frameOf x) (v .graph) (f .file) (maxExpansions - x .budget .expanded) (v .model)
 
-  abbrev trying : Frame → Route → List (Try PartialPathRefusal Route)
+  abbrev trying : ExtractionFrame → Route → List (Try PartialPathRefusal Route)
   trying fr r = triesOf fr (v .graph) (f .file) r
 
   -- at the head of the loop
@@ -239,49 +239,49 @@ module _ (index : List ℕ) (f : Filing) (item₀ : List ℕ) (x : Computation) 
     pub state : State Route
     pub stood : Rep g f (v .origin) on ws db state
     pub looked : state .tally .looked ≤ 4096 * on .budget .expanded
-    pub expanded : on .budget .expanded ≤ 16777216
-    pub same : runFrom (frameOf on) (v .graph) (f .file) (16777216 - on .budget .expanded) state ≡ whole
+    pub expanded : on .budget .expanded ≤ maxExpansions
+    pub same : runFrom (frameOf on) (v .graph) (f .file) (maxExpansions - on .budget .expanded) state ≡ whole
 
   -- as many are found as there is room for: no other is filed behind them
-  pub turn-filed : (on : Computation) (ws db : List ℕ) → Turning on ws db → 0 < f .room → f .room ≤ on .found → (s : PartialPathStats) → DrivenTo index f item₀ x ws₀ db₀ v (Done s) db
-  turn-filed on ws db t h k s = told whole (t .same)
+  pub turn-filed : {on : Computation} {ws db : List ℕ} → Turning on ws db → 0 < f .room → f .room ≤ on .found → (s : PartialPathStats) → DrivenTo index f item₀ x ws₀ db₀ v (Done s) db
+  turn-filed {on} {db} t h k s = told whole (t .same)
     where
       more : (l : List Route) (r : Route) → (f .room ≤ length l) × (take (f .room) l ≡ take (f .room) (t .state .kept)) → (f .room ≤ length (l ++ (r ∷ []))) × (take (f .room) (l ++ (r ∷ [])) ≡ take (f .room) (t .state .kept))
       more l r p = (omega (arith, p .0, length-append l (r ∷ [])), take-append-le (f .room) l (r ∷ []) (p .0) ∙ p .1)
 
-      told : (y : Answer PartialPathRefusal (State Route)) → runFrom (frameOf on) (v .graph) (f .file) (16777216 - on .budget .expanded) (t .state) ≡ y → Ends f (v .origin) (Done s) db y
+      told : (y : Answer PartialPathRefusal (State Route)) → runFrom (frameOf on) (v .graph) (f .file) (maxExpansions - on .budget .expanded) (t .state) ≡ y → Ends f (v .origin) (Done s) db y
       told (refuse r) e = h
       told (ok u) e =
           let c : f .room ≤ length (t .state .kept) = omega (arith, k, t .stood .counts .found) in
-          let w = merged-kept (settingOf (frameOf on)) (λ l. (f .room ≤ length l) × (take (f .room) l ≡ take (f .room) (t .state .kept))) more (trying (frameOf on)) u (16777216 - on .budget .expanded) (t .state) (c, refl) e in
+          let w = merged-kept (settingOf (frameOf on)) (λ l. (f .room ≤ length l) × (take (f .room) l ≡ take (f .room) (t .state .kept))) more (trying (frameOf on)) u (maxExpansions - on .budget .expanded) (t .state) (c, refl) e in
           (λ z. absurd (omega (arith, h, z)), t .stood .filed ∙ sym (filed-first f (u .kept) (t .state .kept) (v .origin) (w .1)))
 
   pub turn-start : Turning x ws₀ db₀
   turn-start = record { state = v .model; stood = v .rep; looked = v .looked; expanded = v .expanded; same = refl }
 
-  module _ (on : Computation) (ws db : List ℕ) (t : Turning on ws db) (a : Opening) (item′ ws′ : List ℕ) (k : Taking on ws a item′ ws′) where
-    pub turn-over : (n : Computation) → a ≡ closing n → (s : PartialPathStats) → s ≡ partialOf n → DrivenTo index f item₀ x ws₀ db₀ v (Done s) db
-    turn-over n e s q =
+  module _ {on : Computation} {ws db : List ℕ} (t : Turning on ws db) {a : Opening} {item′ ws′ : List ℕ} (k : Taking on ws a item′ ws′) where
+    pub turn-over : (n : Computation) → a ≡ closing n → {s : PartialPathStats} → s ≡ partialOf n → DrivenTo index f item₀ x ws₀ db₀ v (Done s) db
+    turn-over n e {s} q =
         let d = round-over g f (v .origin) on ws db (t .state) (t .stood) a item′ ws′ n k e in
-        let w = run-over (settingOf (frameOf on)) (trying (frameOf on)) (16777216 - on .budget .expanded) (merge (on .frontier .order) (t .state)) (d .model) (d .round) in
+        let w = run-over (settingOf (frameOf on)) (trying (frameOf on)) (maxExpansions - on .budget .expanded) (merge (on .frontier .order) (t .state)) (d .model) (d .round) in
         subst (λ (y : Answer PartialPathRefusal (State Route)). Ends f (v .origin) (Done s) db y) (sym (sym (t .same) ∙ w))
-        (λ z. (q ∙ finished n (d .model) (d .counts), ap (λ (y : PartialPathStats). y .found) q ∙ d .counts .found), t .stood .filed ∙ ap (λ (l : List Route). filedIn f l (v .origin)) (sym (d .kept)))
+        (λ z. (q ∙ finished (d .counts), ap (λ (y : PartialPathStats). y .found) q ∙ d .counts .found), t .stood .filed ∙ ap (λ (l : List Route). filedIn f l (v .origin)) (sym (d .kept)))
 
     pub turn-many : a ≡ exceeding → DrivenTo index f item₀ x ws₀ db₀ v (Refused TooManyExpansions) db
     turn-many e =
         let d = round-many g f (v .origin) on ws db (t .state) (t .stood) a item′ ws′ k e in
-        let w = run-many (settingOf (frameOf on)) (trying (frameOf on)) (16777216 - on .budget .expanded) (merge (on .frontier .order) (t .state)) (d .route) (d .model) (d .round) (omega (arith, d .before)) in
-        subst (λ (y : Answer PartialPathRefusal (State Route)). Ends f (v .origin) (Refused TooManyExpansions) db y) (sym (sym (t .same) ∙ w)) (refl, untouched g f (v .origin) on ws db (t .state) (t .stood))
+        let w = run-many (settingOf (frameOf on)) (trying (frameOf on)) (maxExpansions - on .budget .expanded) (merge (on .frontier .order) (t .state)) (d .route) (d .model) (d .round) (omega (arith, d .before)) in
+        subst (λ (y : Answer PartialPathRefusal (State Route)). Ends f (v .origin) (Refused TooManyExpansions) db y) (sym (sym (t .same) ∙ w)) (refl, untouched (t .stood))
 
     module _ (next : Computation) (e : a ≡ opening next) (long : length db ≡ length db₀) where
       opened : Opened g f (v .origin) on ws db (t .state) (t .stood) item′ ws′ next
       opened = round-expand g f (v .origin) on ws db (t .state) (t .stood) a item′ ws′ next k e
 
       -- what making room is given
-      pub turn-framed : Framed (next .frontier) ws′ × Wider (next .frontier) ws′ 128
-      turn-framed = let o = opened in (o .rep .stands .framed, rep-wider g f (v .origin) next ws′ db (o .model) (o .rep))
+      pub turn-framed : Framed (next .frontier) ws′ × Wider (next .frontier) ws′ slotLength
+      turn-framed = let o = opened in (o .rep .stands .framed, rep-wider (o .rep))
 
-      pub turn-short : (w : List ℕ) → item′ ≡ take (next .frontier .length) w → getD w 0 0 < 128
+      pub turn-short : (w : List ℕ) → item′ ≡ take (next .frontier .length) w → getD w 0 0 < slotLength
       turn-short w front =
           let o = opened in
           let h : 0 < next .frontier .length = omega (arith, o .rep .sized .start) in
@@ -296,7 +296,7 @@ module _ (index : List ℕ) (f : Filing) (item₀ : List ℕ) (x : Computation) 
       words-are = sym front ∙ opening-is .words
 
       -- what the round is given
-      pub turn-given : Rounding 549755813888 index f (take (y .frontier .length) item″) y ws₁ db
+      pub turn-given : Rounding lookedBefore index f (take (y .frontier .length) item″) y ws₁ db
       turn-given =
           let o = opening-is in
           let l : o .model .tally .looked ≡ t .state .tally .looked = ap (λ (y : Tally). y .looked) (o .tally) in
@@ -305,12 +305,12 @@ module _ (index : List ℕ) (f : Filing) (item₀ : List ℕ) (x : Computation) 
             loaded = v .loaded;
             origin = v .origin;
             route = o .route;
-            words = room-words next whole-item ws′ y item″ ws₁ made g f (v .origin) db (o .model) (o .rep) (o .route) words-are (o .good);
-            good = room-good next whole-item ws′ y item″ ws₁ made g f (v .origin) db (o .model) (o .rep) (o .route) words-are (o .good);
-            room = room-roomy next whole-item ws′ y item″ ws₁ made g f (v .origin) db (o .model) (o .rep) (o .route) words-are (o .good);
-            fits = fits-same f db₀ db long (v .fits);
+            words = room-words next whole-item ws′ y item″ ws₁ made (o .rep) (o .route) words-are (o .good);
+            good = room-good next whole-item ws′ y item″ ws₁ made (o .rep) (o .route) words-are (o .good);
+            room = room-roomy next whole-item ws′ y item″ ws₁ made (o .rep) (o .route) words-are (o .good);
+            fits = fits-same db long (v .fits);
             model = o .model;
-            rep = room-rep next whole-item ws′ y item″ ws₁ made g f (v .origin) db (o .model) (o .rep);
+            rep = room-rep next whole-item ws′ y item″ ws₁ made (o .rep);
             small = omega (arith, l, t .looked, t .expanded);
           }
 
@@ -318,19 +318,19 @@ module _ (index : List ℕ) (f : Filing) (item₀ : List ℕ) (x : Computation) 
       framed : frameOf y ≡ slottedBy (y .frontier .length) (frameOf on)
       framed = room-frame next whole-item ws′ y item″ ws₁ made ∙ ap (slottedBy (y .frontier .length)) (opening-is .frame)
 
-      module _ (b : Course) (ws″ db′ : List ℕ) (r : Rounded 549755813888 index f (take (y .frontier .length) item″) y ws₁ db turn-given b ws″ db′) where
+      module _ (b : Course) (ws″ db′ : List ℕ) (r : Rounded lookedBefore index f (take (y .frontier .length) item″) y ws₁ db turn-given b ws″ db′) where
         told : Tells g f (v .origin) (frameOf y) b ws″ db′ (each (settingOf (frameOf y)) (opening-is .model) (trying (frameOf y) (opening-is .route)))
         unfolding turn-given
         told = r
 
         onto : Tells g f (v .origin) (frameOf y) b ws″ db′ (each (settingOf (frameOf on)) (opening-is .model) (trying (frameOf on) (opening-is .route)))
-        onto = subst (λ (z : Frame). Tells g f (v .origin) (frameOf y) b ws″ db′ (each (settingOf z) (opening-is .model) (trying z (opening-is .route)))) framed told
+        onto = subst (λ (z : ExtractionFrame). Tells g f (v .origin) (frameOf y) b ws″ db′ (each (settingOf z) (opening-is .model) (trying z (opening-is .route)))) framed told
 
         pub turn-refused : (z : PartialPathRefusal) → b ≡ stops z → DrivenTo index f item₀ x ws₀ db₀ v (Refused z) db′
         turn-refused z d =
             let o = opening-is in
             let u = tells-refused g f (v .origin) (frameOf y) b ws″ db′ (each (settingOf (frameOf on)) (o .model) (trying (frameOf on) (o .route))) z onto d in
-            let w = run-refused (settingOf (frameOf on)) (trying (frameOf on)) (16777216 - on .budget .expanded) (merge (on .frontier .order) (t .state)) (o .route) (o .model) z (o .round) (omega (arith, o .before)) (u .0) in
+            let w = run-refused (settingOf (frameOf on)) (trying (frameOf on)) (maxExpansions - on .budget .expanded) (merge (on .frontier .order) (t .state)) (o .route) (o .model) z (o .round) (omega (arith, o .before)) (u .0) in
             subst (λ (q : Answer PartialPathRefusal (State Route)). Ends f (v .origin) (Refused z) db′ q) (sym (sym (t .same) ∙ w)) (refl, u .1)
 
         module _ (n : Computation) (d : b ≡ goes n) where
@@ -338,7 +338,7 @@ module _ (index : List ℕ) (f : Filing) (item₀ : List ℕ) (x : Computation) 
           going = tells-on g f (v .origin) (frameOf y) b ws″ db′ (each (settingOf (frameOf on)) (opening-is .model) (trying (frameOf on) (opening-is .route))) n onto d
 
           -- one more expansion is counted
-          pub turn-counts : (n .budget .expanded ≡ on .budget .expanded + 1) × (on .budget .expanded < 16777216)
+          pub turn-counts : (n .budget .expanded ≡ on .budget .expanded + 1) × (on .budget .expanded < maxExpansions)
           turn-counts =
               let o = opening-is in
               let u = going in
@@ -351,7 +351,7 @@ module _ (index : List ℕ) (f : Filing) (item₀ : List ℕ) (x : Computation) 
           unfolding routeTries
           few-tries =
               let l = g .out (opening-is .route .current) in
-              let h = out-bounded (v .graph) index (v .loaded) (opening-is .route .current) in
+              let h = out-bounded (v .loaded) (opening-is .route .current) in
               let j = select-fewer (belongs g (f .file)) l in
               let i : length (trying (frameOf on) (opening-is .route)) ≡ length (select (belongs g (f .file)) l) = length-map (select (belongs g (f .file)) l) (judgeRoute base (frameOf on .length) g (opening-is .route)) in
               omega (arith, h, j, i)
@@ -364,15 +364,15 @@ module _ (index : List ℕ) (f : Filing) (item₀ : List ℕ) (x : Computation) 
               let m = each-moved (settingOf (frameOf on)) (o .model) (u .0) (trying (frameOf on) (o .route)) (u .1) in
               let h = few-tries in
               let l : o .model .tally .looked ≡ t .state .tally .looked = ap (λ (y : Tally). y .looked) (o .tally) in
-              let w = run-round (settingOf (frameOf on)) (trying (frameOf on)) (16777216 - on .budget .expanded) (merge (on .frontier .order) (t .state)) (o .route) (o .model) (u .0) (o .round) (omega (arith, o .before)) (u .1) in
-              let z : 16777216 - on .budget .expanded - 1 ≡ 16777216 - n .budget .expanded = omega (arith, c .0, c .1) in
+              let w = run-round (settingOf (frameOf on)) (trying (frameOf on)) (maxExpansions - on .budget .expanded) (merge (on .frontier .order) (t .state)) (o .route) (o .model) (u .0) (o .round) (omega (arith, o .before)) (u .1) in
+              let z : maxExpansions - on .budget .expanded - 1 ≡ maxExpansions - n .budget .expanded = omega (arith, c .0, c .1) in
               record {
                 state = u .0;
                 stood = u .3;
                 looked = omega (arith, m .looks, h, l, t .looked, c .0);
                 expanded = omega (arith, c .0, c .1);
                 same =
-                    ap (λ (y : Frame). runFrom y (v .graph) (f .file) (16777216 - n .budget .expanded) (u .0)) (u .2 ∙ framed)
+                    ap (λ (y : ExtractionFrame). runFrom y (v .graph) (f .file) (maxExpansions - n .budget .expanded) (u .0)) (u .2 ∙ framed)
                     ∙ ap (λ (y : ℕ). runFrom (frameOf on) (v .graph) (f .file) y (u .0)) (sym z)
                     ∙ sym w
                     ∙ t .same;

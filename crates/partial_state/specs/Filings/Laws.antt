@@ -10,8 +10,7 @@ use borrow.Author.Tests.{lt-ltb, le-ltb}
 use lib.Dec.{T, ltb, ltb→lt, nltb→le}
 use lib.ListN.{length, take}
 use Rattle.semantics.specs.Lists.{pick}
-use Rattle.semantics.specs.Limits.{Bounds, base}
-use Rattle.semantics.specs.Words.{recordWords}
+use Rattle.semantics.specs.Limits.{Bounds, base, recordWords}
 use Rattle.semantics.specs.PartialPaths.{Route, slot}
 use Rattle.semantics.specs.Database.{encodeSlot}
 use Rattle.database.specs.Records.{InWords, putRecord}

@@ -1,6 +1,6 @@
 -- A computation in code goes on as the enumeration does: what is looked at, counted, filed and pushed.
 -- Serves document 01, "Partial paths" and "Budget and frontier"; 31 of "Turned back".
-use Prim.Native.Nat.{ℕ, _+_, _-_, _*_, _<_, _≤_}
+use Prim.Native.Nat.{ℕ, _+_, _-_, _<_, _≤_}
 use native.Mathlib.Omega.{arith}
 use mathlib.Core.Path.{_≡_, refl, sym, ap, ap₂, subst, _∙_}
 use mathlib.Core.Logic.{_⊎_, inl, inr, ⊎-elim}
@@ -9,23 +9,23 @@ use mathlib.Core.List.{List, [], _∷_, _++_, map, List·Memᴰ, List·Memᴰ·h
 use lib.ListN.{length, take, drop, getD, length-append}
 use Rattle.semantics.specs.declared.refusal.PartialPathRefusal.{PartialPathRefusal}
 use Rattle.semantics.specs.declared.refusal.PartialPathRefusal.the-variants.{NoWaitingSlot}
-use Rattle.semantics.specs.Limits.{within}
+use Rattle.semantics.specs.Limits.{within, slotLength}
 use Rattle.semantics.specs.Answer.{Answer, ok, refuse}
 use Rattle.semantics.specs.Graph.{View}
 use Rattle.semantics.specs.Enumeration.{State, keep, keepIf, place, pushItem, withKept, withStats, withTally, withPending, addComplete, addCycle, addLooked, addOverlong, flagLength}
 use Rattle.semantics.specs.PartialPaths.{Route}
 use Rattle.words.specs.Slots.{IsSlot, padded}
-use Rattle.graph_search.specs.declared.path_frontier.Frontier.{Frontier}
-use Rattle.graph_search.specs.declared.path_frontier.Pushed.{Pushed}
-use Rattle.graph_search.specs.declared.path_frontier.Pushed.the-variants as Pushed
-use Rattle.budget.specs.Budget.{lengthening}
-use Rattle.budget.specs.Budget.Laws.{lengthening-refused}
-use Rattle.graph_search.specs.Frontier.{Framed, pushed, Waits, Wider}
-use Rattle.graph_search.specs.Frontier.Laws.{push-frame}
-use Rattle.graph_search.specs.Frontier.Stands.{Stands, stands-done, stands-full}
+use Rattle.path_frontier.specs.declared.frontier.Frontier.{Frontier}
+use Rattle.path_frontier.specs.declared.frontier.Pushed.{Pushed}
+use Rattle.path_frontier.specs.declared.frontier.Pushed.the-variants as Pushed
+use Rattle.path_budget.specs.Budget.{lengthening}
+use Rattle.path_budget.specs.Budget.Laws.{lengthening-refused}
+use Rattle.path_frontier.specs.Frontier.{Framed, pushed, Waits, Wider}
+use Rattle.path_frontier.specs.Frontier.Laws.{push-frame}
+use Rattle.path_frontier.specs.Frontier.Stands.{Stands, stands-done, stands-full}
 use Rattle.partial_state.specs.declared.route.Ends.{Ends}
 use Rattle.partial_state.specs.declared.filing.Filing.{Filing}
-use Rattle.partial_state.specs.declared.extraction.Frame.{Frame}
+use Rattle.partial_state.specs.declared.extraction.ExtractionFrame.{ExtractionFrame}
 use Rattle.partial_state.specs.Routes.{held, endsOf, Waiting}
 use Rattle.partial_state.specs.Routes.Laws.{held-count, held-carries, held-padded}
 use Rattle.partial_state.specs.Filings.{filedNext}
@@ -33,7 +33,7 @@ use Rattle.partial_state.specs.Filings.Laws.{filed-next, filed-nowhere}
 use Rattle.partial_state.specs.Extractions.{Computation, Course, goes, stops, withBudget, withFrontier, cutOne, foundOne, counting, courseOf, Extends, Grows}
 use Rattle.partial_state.specs.Reps.{Few, frameOf, settingOf, Rep, Untouched, Tells, Extendable, ExtendsTo}
 
-module _ (g : View) (f : Filing) (origin : List ℕ) (x : Computation) (ws db : List ℕ) (m : State Route) (rep : Rep g f origin x ws db m) where
+module _ {g : View} {f : Filing} {origin : List ℕ} {x : Computation} {ws db : List ℕ} {m : State Route} (rep : Rep g f origin x ws db m) where
   pub untouched : Untouched f origin db
   untouched e = rep .filed ∙ filed-nowhere f (m .kept) origin e
 
@@ -78,12 +78,12 @@ module _ (g : View) (f : Filing) (origin : List ℕ) (x : Computation) (ws db : 
     abbrev pub keptWith : State Route
     keptWith = withKept q (withStats m (addComplete (m .stats)))
 
-    pub keep-is : (fr : Frame) → keep true (settingOf fr) m q ≡ ok keptWith
+    pub keep-is : (fr : ExtractionFrame) → keep true (settingOf fr) m q ≡ ok keptWith
     unfolding keep keepIf place
     keep-is fr = refl
 
-    pub rep-found : (n : ℕ) (db′ : List ℕ) → Few n (m .stats) → n + 1 ≡ m .tally .looked → db′ ≡ filedNext f (x .found) (endsOf q) (q .edges) db → Rep g f origin (foundOne x) ws db′ keptWith
-    rep-found n db′ few at e = record {
+    pub rep-found : {n : ℕ} {db′ : List ℕ} → Few n (m .stats) → n + 1 ≡ m .tally .looked → db′ ≡ filedNext f (x .found) (endsOf q) (q .edges) db → Rep g f origin (foundOne x) ws db′ keptWith
+    rep-found few at e = record {
       sized = rep .sized;
       stands = rep .stands;
       counts = record { stats = ap addComplete (rep .counts .stats); found = ap (λ (k : ℕ). k + 1) (rep .counts .found) ∙ sym (length-append (m .kept) (q ∷ [])) };
@@ -97,8 +97,8 @@ module _ (g : View) (f : Filing) (origin : List ℕ) (x : Computation) (ws db : 
     in-snoc r (inl a) = rep .traced r (inl a)
     in-snoc r (inr a) = ⊎-elim (λ (b : List·Memᴰ r (m .pending)). rep .traced r (inr b)) (λ (b : List·Memᴰ r (q ∷ [])). subst (Waiting g (f .file) (x .frontier .length)) (sym (List·Memᴰ·eq-of-singleton b)) good) (List·Memᴰ·append-cases (m .pending) a)
 
-    pub push-tells : (a : Course) (ws′ : List ℕ) → Extends x ws (held (x .frontier .length) q) a ws′ → Tells g f origin (frameOf x) a ws′ db (pushItem (settingOf (frameOf x)) q m)
-    push-tells a ws′ h = subst (λ (y : Course). Tells g f origin (frameOf x) y ws′ db (pushItem (settingOf (frameOf x)) q m)) (sym (h .is)) (on (h .pushed) refl)
+    pub push-tells : {a : Course} {ws′ : List ℕ} → Extends x ws (held (x .frontier .length) q) a ws′ → Tells g f origin (frameOf x) a ws′ db (pushItem (settingOf (frameOf x)) q m)
+    push-tells {ws′} h = subst (λ (y : Course). Tells g f origin (frameOf x) y ws′ db (pushItem (settingOf (frameOf x)) q m)) (sym (h .is)) (on (h .pushed) refl)
       where
         on : (p : Pushed) → h .pushed ≡ p → Tells g f origin (frameOf x) (courseOf x p) ws′ db (pushItem (settingOf (frameOf x)) q m)
         on (Pushed.Done n) e =
@@ -121,17 +121,17 @@ module _ (g : View) (f : Filing) (origin : List ℕ) (x : Computation) (ws db : 
 
 -- ---- the waiting slots get more words
 
-module _ (g : View) (f : Filing) (origin : List ℕ) (x : Computation) (ws db : List ℕ) (m : State Route) (rep : Rep g f origin x ws db m) where
+module _ {g : View} {f : Filing} {origin : List ℕ} {x : Computation} {ws db : List ℕ} {m : State Route} (rep : Rep g f origin x ws db m) where
   -- the words of waiting routes in longer slots
   all-padded : (L : ℕ) → x .frontier .length ≤ L → (l : List Route) → ((r : Route) → List·Memᴰ r l → length (r .edges) < x .frontier .length) → map (padded L) (map (held (x .frontier .length)) l) ≡ map (held L) l
   all-padded L h [] k = refl
   all-padded L h (r ∷ l) k = ap₂ (λ (s : List ℕ) (t : List (List ℕ)). s ∷ t) (held-padded L (x .frontier .length) r (rep .sized .start) h (k r (List·Memᴰ·head refl))) (all-padded L h l (λ q i. k q (List·Memᴰ·tail i)))
 
-  pub rep-wider : Wider (x .frontier) ws 128
+  pub rep-wider : Wider (x .frontier) ws slotLength
   rep-wider = record { longer = rep .sized .most; room = rep .sized .room }
 
-  pub rep-grows : (L : ℕ) → x .frontier .length ≤ L → L ≤ 128 → (y : Computation) (ws′ : List ℕ) → Grows x ws L y ws′ → Rep g f origin y ws′ db m
-  rep-grows L longer most y ws′ h = subst (λ (z : Computation). Rep g f origin z ws′ db m) (sym (h .is ∙ ap (λ (n : Frontier). withFrontier n x) (h .widens .is))) (record {
+  pub rep-grows : (L : ℕ) → x .frontier .length ≤ L → L ≤ slotLength → {y : Computation} {ws′ : List ℕ} → Grows x ws L y ws′ → Rep g f origin y ws′ db m
+  rep-grows L longer most {ws′} h = subst (λ (z : Computation). Rep g f origin z ws′ db m) (sym (h .is ∙ ap (λ (n : Frontier). withFrontier n x) (h .widens .is))) (record {
     sized = record { start = omega (arith, rep .sized .start, longer); most = most; room = omega (arith, rep .sized .room, h .widens .same-length) };
     stands =
         let v = h .widens .waits (map (held (x .frontier .length)) (m .rest)) (map (held (x .frontier .length)) (m .pending)) (rep .stands) in
@@ -148,37 +148,37 @@ module _ (g : View) (f : Filing) (origin : List ℕ) (x : Computation) (ws db : 
 -- ---- a route that was extended
 
 -- it is no endpoint: it waits
-pub extend-only : (x : Computation) (e : Ends) (f : Filing) (item ws db : List ℕ) (a : Course) (ws′ : List ℕ) → Extends x ws item a ws′ → ExtendsTo x false e f item ws db a ws′ db
+pub extend-only : {x : Computation} (e : Ends) (f : Filing) {item ws : List ℕ} (db : List ℕ) {a : Course} {ws′ : List ℕ} → Extends x ws item a ws′ → ExtendsTo x false e f item ws db a ws′ db
 unfolding keep
-extend-only x e f item ws db a ws′ h g origin m q n rep few at good ends is = push-tells g f origin x ws db m rep q good a ws′ (subst (λ (i : List ℕ). Extends x ws i a ws′) is h)
+extend-only {x} e f {ws} db {a} {ws′} h g origin m q n rep few at good ends is = push-tells rep q good (subst (λ (i : List ℕ). Extends x ws i a ws′) is h)
 
 -- the edges in its words
-pub held-part : (g : View) (file L : ℕ) (q : Route) (item : List ℕ) → Waiting g file L q → 2 ≤ L → item ≡ held L q → take (getD item 0 0 + 1 - 1) (drop 1 item) ≡ q .edges
-held-part g file L q item good two is =
+pub held-part : (g : View) (file L : ℕ) (q : Route) {item : List ℕ} → Waiting g file L q → 2 ≤ L → item ≡ held L q → take (getD item 0 0 + 1 - 1) (drop 1 item) ≡ q .edges
+held-part g file L q {item} good two is =
     let c : getD item 0 0 ≡ length (q .edges) = ap (λ (l : List ℕ). getD l 0 0) is ∙ held-count L (q .start) (q .edges) (omega (arith, two)) in
     let n : getD item 0 0 + 1 - 1 ≡ length (q .edges) = omega (arith, c) in
     ap (λ (k : ℕ). take k (drop 1 item)) n ∙ ap (λ (l : List ℕ). take (length (q .edges)) (drop 1 l)) is ∙ held-carries L (q .start) (q .edges) two (good .1) .edges
 
 -- an endpoint: it is counted and filed, then it waits
-pub extend-found : (x : Computation) (e : Ends) (f : Filing) (item ws db db′ : List ℕ) → db′ ≡ filedNext f (x .found) e (take (getD item 0 0 + 1 - 1) (drop 1 item)) db → (y : Computation) → y ≡ foundOne x → (a : Course) (ws′ : List ℕ) → Extends y ws item a ws′
+pub extend-found : (x : Computation) (e : Ends) (f : Filing) {item ws : List ℕ} (db : List ℕ) {db′ : List ℕ} → db′ ≡ filedNext f (x .found) e (take (getD item 0 0 + 1 - 1) (drop 1 item)) db → {y : Computation} → y ≡ foundOne x → {a : Course} {ws′ : List ℕ} → Extends y ws item a ws′
     → ExtendsTo x true e f item ws db a ws′ db′
-extend-found x e f item ws db db′ w y made a ws′ h g origin m q n rep few at good ends is =
+extend-found x e f {item} {ws} db {db′} w {y} made {a} {ws′} h g origin m q n rep few at good ends is =
     let z : db′ ≡ filedNext f (x .found) (endsOf q) (q .edges) db =
-    w ∙ ap (λ (l : List ℕ). filedNext f (x .found) e l db) (held-part g (f .file) (x .frontier .length) q item good (rep .sized .start) is) ∙ ap (λ (k : Ends). filedNext f (x .found) k (q .edges) db) ends in
+    w ∙ ap (λ (l : List ℕ). filedNext f (x .found) e l db) (held-part g (f .file) (x .frontier .length) q good (rep .sized .start) is) ∙ ap (λ (k : Ends). filedNext f (x .found) k (q .edges) db) ends in
     let u : Extends (foundOne x) ws (held (x .frontier .length) q) a ws′ = subst (λ (k : Computation). Extends k ws (held (x .frontier .length) q) a ws′) made (subst (λ (i : List ℕ). Extends y ws i a ws′) is h) in
-    let r = rep-found g f origin x ws db m rep q good n db′ few at z in
-    rw (keep-is g f origin x ws db m rep q good (frameOf x)) (push-tells g f origin (foundOne x) ws db′ (keptWith g f origin x ws db m rep q good) r q good a ws′ u)
+    let r = rep-found rep q good few at z in
+    rw (keep-is rep q good (frameOf x)) (push-tells r q good u)
 
 -- what the push behind it is given
-pub extend-push : (x y : Computation) (f : Filing) (item ws db : List ℕ) → Extendable x f item ws db → y ≡ foundOne x → Framed (y .frontier) ws × IsSlot (y .frontier .length) item
-extend-push x y f item ws db h e = subst (λ (z : Computation). Framed (z .frontier) ws × IsSlot (z .frontier .length) item) (sym e) (h .framed, h .slot)
+pub extend-push : {x y : Computation} {f : Filing} {item ws db : List ℕ} → Extendable x f item ws db → y ≡ foundOne x → Framed (y .frontier) ws × IsSlot (y .frontier .length) item
+extend-push {item} {ws} h e = subst (λ (z : Computation). Framed (z .frontier) ws × IsSlot (z .frontier .length) item) (sym e) (h .framed, h .slot)
 
 -- ---- what a caller draws from an answer
 
 going-refused : (x : Computation) (r : PartialPathRefusal) → goes x ≡ stops r → ⊥
 going-refused x r e = let z : _≡_ {A = ℕ} 0 1 = cc in omega arith
 
-module _ (g : View) (f : Filing) (origin : List ℕ) (fr : Frame) where
+module _ (g : View) (f : Filing) (origin : List ℕ) (fr : ExtractionFrame) where
   pub tells-on : (a : Course) (ws db : List ℕ) (t : Answer PartialPathRefusal (State Route)) (x : Computation) → Tells g f origin fr a ws db t → a ≡ goes x → (m : State Route) × (t ≡ ok m) × (frameOf x ≡ fr) × Rep g f origin x ws db m
   tells-on (goes y) ws db (ok m) x h e =
       let z : y ≡ x = cc in

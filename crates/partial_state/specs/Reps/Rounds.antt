@@ -12,18 +12,18 @@ use Rattle.semantics.specs.declared.search.SearchOrder.{SearchOrder}
 use Rattle.semantics.specs.declared.search.SearchOrder.the-variants.{BreadthFirst, DepthFirst}
 use Rattle.semantics.specs.declared.search.SearchStats.{SearchStats}
 use Rattle.semantics.specs.Lists.{pick}
-use Rattle.semantics.specs.Limits.{below}
+use Rattle.semantics.specs.Limits.{below, maxExpansions, slotLength}
 use Rattle.semantics.specs.Graph.{View}
 use Rattle.semantics.specs.PartialPaths.{Route}
 use Rattle.semantics.specs.Enumeration.{State, Turn, over, expand, turn, popped, admit, merge, addExpanded, flagCount}
-use Rattle.graph_search.specs.declared.path_frontier.Frontier.{Frontier}
-use Rattle.graph_search.specs.declared.path_frontier.Popped.{Popped}
-use Rattle.graph_search.specs.declared.path_frontier.Popped.the-variants as Popped
-use Rattle.budget.specs.Budget.{expansion}
-use Rattle.budget.specs.Budget.Laws.{expansion-allowed, expansion-limits, expansion-granted, expansion-refused}
-use Rattle.graph_search.specs.Frontier.{merged, Waits}
-use Rattle.graph_search.specs.Frontier.Laws.{merge-is, pop-frame}
-use Rattle.graph_search.specs.Frontier.Stands.{stands-item, stands-empty}
+use Rattle.path_frontier.specs.declared.frontier.Frontier.{Frontier}
+use Rattle.path_frontier.specs.declared.frontier.Popped.{Popped}
+use Rattle.path_frontier.specs.declared.frontier.Popped.the-variants as Popped
+use Rattle.path_budget.specs.Budget.{expansion}
+use Rattle.path_budget.specs.Budget.Laws.{expansion-allowed, expansion-limits, expansion-granted, expansion-refused}
+use Rattle.path_frontier.specs.Frontier.{merged, Waits}
+use Rattle.path_frontier.specs.Frontier.Laws.{merge-is, pop-frame}
+use Rattle.path_frontier.specs.Frontier.Stands.{stands-item, stands-empty}
 use Rattle.partial_state.specs.declared.filing.Filing.{Filing}
 use Rattle.partial_state.specs.Routes.{held, Waiting}
 use Rattle.partial_state.specs.Extractions.{Computation, Opening, closing, opening, exceeding, withBudget, withFrontier, counting, openingOf, Taking}
@@ -48,7 +48,7 @@ module _ (g : View) (f : Filing) (origin : List ℕ) (x : Computation) (ws db : 
     pub rep : Rep g f origin n ws′ db model
     pub tally : model .tally ≡ m .tally
     pub expanded : n .budget .expanded ≡ x .budget .expanded + 1
-    pub before : x .budget .expanded < 16777216
+    pub before : x .budget .expanded < maxExpansions
 
   -- it ends the computation
   pub record Ended (n : Computation) : Type 0 where
@@ -62,7 +62,7 @@ module _ (g : View) (f : Filing) (origin : List ℕ) (x : Computation) (ws db : 
     pub route : Route
     pub model : State Route
     pub round : roundOf ≡ expand route model
-    pub before : 16777216 ≤ x .budget .expanded
+    pub before : maxExpansions ≤ x .budget .expanded
 
   abbrev Rounds : Opening → List ℕ → List ℕ → Type 0
   Rounds (closing n) item ws′ = Ended n
@@ -96,7 +96,7 @@ module _ (g : View) (f : Filing) (origin : List ℕ) (x : Computation) (ws db : 
     good-others r h = was .traced r (mem-merged (x .frontier .order) (m .rest) (m .pending) r (subst (λ (l : List Route). List·Memᴰ r l) (sym first) (List·Memᴰ·tail h)))
 
     onward : (n : Frontier) (item ws′ : List ℕ) → n .order ≡ x .frontier .order → n .capacity ≡ x .frontier .capacity → n .length ≡ x .frontier .length → length ws′ ≡ length ws → held (x .frontier .length) w ≡ item → Waits n ws′ (map (held (x .frontier .length)) us) []
-        → expansion (x .budget) .allowed ≡ true → x .budget .expanded < 16777216
+        → expansion (x .budget) .allowed ≡ true → x .budget .expanded < maxExpansions
         → Opened item ws′ (withFrontier n (withBudget (expansion (x .budget) .budget) x))
     unfolding admit expansion
     onward n item ws′ o c l s e v a h = record {
@@ -105,9 +105,9 @@ module _ (g : View) (f : Filing) (origin : List ℕ) (x : Computation) (ws db : 
       round = asked-is true a;
       words = sym e ∙ ap (λ (y : ℕ). held y w) (sym l);
       good = subst (λ (y : ℕ). Waiting g (f .file) y w) (sym l) good-first;
-      frame = λ i. record { order = o i; length = expansion-limits (x .budget) i .length; paths = expansion-limits (x .budget) i .paths; waiting = c i; slot = l i };
+      frame = λ i. record { order = o i; length = expansion-limits (x .budget) i .length; expansions = expansion-limits (x .budget) i .expansions; waiting = c i; slot = l i };
       rep = record {
-        sized = record { start = omega (arith, l, was .sized .start); most = omega (arith, l, was .sized .most); room = subst (λ (y : ℕ). 128 * y ≤ length ws′) (sym c) (omega (arith, s, was .sized .room)) };
+        sized = record { start = omega (arith, l, was .sized .start); most = omega (arith, l, was .sized .most); room = subst (λ (y : ℕ). slotLength * y ≤ length ws′) (sym c) (omega (arith, s, was .sized .room)) };
         stands = subst (λ (y : ℕ). Waits n ws′ (map (held y) us) []) (sym l) v;
         counts = record {
           stats = ap (counting (x .found)) (expansion-granted (x .budget) 0 (x .cycles) (is-below true a)) ∙ ap addExpanded (was .counts .stats);
@@ -137,7 +137,7 @@ module _ (g : View) (f : Filing) (origin : List ℕ) (x : Computation) (ws db : 
       kept = refl;
     }
 
-    exceeded : expansion (x .budget) .allowed ≡ true → 16777216 ≤ x .budget .expanded → Exceeded
+    exceeded : expansion (x .budget) .allowed ≡ true → maxExpansions ≤ x .budget .expanded → Exceeded
     unfolding admit
     exceeded a h = record { route = w; model = record { rest = us; pending = []; kept = m .kept; stats = addExpanded (m .stats); tally = m .tally }; round = asked-is true a; before = h }
 
@@ -154,21 +154,21 @@ module _ (g : View) (f : Filing) (origin : List ℕ) (x : Computation) (ws db : 
         counts = record { stats = was .counts .stats; found = was .counts .found };
         kept = refl;
       }
-      on (Popped.Item n) e = told (expansion (x .budget) .allowed) (leb 16777216 (x .budget .expanded)) refl refl
+      on (Popped.Item n) e = told (expansion (x .budget) .allowed) (leb maxExpansions (x .budget .expanded)) refl refl
         where
-          told : (b d : Bool) → expansion (x .budget) .allowed ≡ b → leb 16777216 (x .budget .expanded) ≡ d
+          told : (b d : Bool) → expansion (x .budget) .allowed ≡ b → leb maxExpansions (x .budget .expanded) ≡ d
               → Rounds (pick b (pick d exceeding (opening (withFrontier n (withBudget (expansion (x .budget) .budget) x)))) (closing (withBudget (expansion (x .budget) .budget) x))) item ws′
           told b d a h =
               let v = stands-item (held (x .frontier .length)) (x .frontier) ws m (t .popped) item ws′ (t .pops) (was .stands) n e in
               let k = pop-frame (x .frontier) ws (t .popped) item ws′ (t .pops) n e .0 .kept in
               by b d a h (v .0) (v .1) (v .2) (v .3) (v .4) (k .order) (k .capacity) (k .length)
             where
-              by : (b d : Bool) → expansion (x .budget) .allowed ≡ b → leb 16777216 (x .budget .expanded) ≡ d
+              by : (b d : Bool) → expansion (x .budget) .allowed ≡ b → leb maxExpansions (x .budget .expanded) ≡ d
                   → (w : Route) (us : List Route) → merge (x .frontier .order) m .rest ≡ w ∷ us → held (x .frontier .length) w ≡ item → Waits n ws′ (map (held (x .frontier .length)) us) [] → n .order ≡ x .frontier .order → n .capacity ≡ x .frontier .capacity → n .length ≡ x .frontier .length
                   → Rounds (pick b (pick d exceeding (opening (withFrontier n (withBudget (expansion (x .budget) .budget) x)))) (closing (withBudget (expansion (x .budget) .budget) x))) item ws′
               by false d a h w us u i v o c l = ended w us u a
-              by true true a h w us u i v o c l = exceeded w us u a (leb→le 16777216 (x .budget .expanded) (subst T (sym h) tt))
-              by true false a h w us u i v o c l = onward w us u n item ws′ o c l (t .pops .same-length) i v a (nleb→lt 16777216 (x .budget .expanded) (subst T (sym (ap not h)) tt))
+              by true true a h w us u i v o c l = exceeded w us u a (leb→le maxExpansions (x .budget .expanded) (subst T (sym h) tt))
+              by true false a h w us u i v o c l = onward w us u n item ws′ o c l (t .pops .same-length) i v a (nleb→lt maxExpansions (x .budget .expanded) (subst T (sym (ap not h)) tt))
 
   -- ---- what a caller draws from the answer
 

@@ -4,11 +4,12 @@ use Prim.Native.Nat.{ℕ, zero, suc, _+_, _-_, _<_, _≤_}
 use native.Mathlib.Omega.{arith}
 use mathlib.Core.Path.{_≡_, refl, sym, ap, subst, _∙_}
 use mathlib.Core.Bool.{Bool, true, false}
-use mathlib.Core.List.{List, [], _∷_, _++_, append-assoc}
+use mathlib.Core.List.{List, [], _∷_, _++_}
 use borrow.Author.Tests.{lt-ltb, le-ltb}
 use lib.IntN.{ℤ}
 use lib.ListN.{length, take, getD, set, length-replicate}
 use lib.Seq.{length-take-le, set-append-left}
+use Rattle.semantics.specs.Limits.{maxEdges}
 use Rattle.semantics.specs.declared.graph.NodeId.{NodeId}
 use Rattle.semantics.specs.declared.graph.Edge.{Edge}
 use Rattle.semantics.specs.declared.graph.Edge.the-variants as E
@@ -20,7 +21,6 @@ use Rattle.semantics.specs.Words.Laws.{length-encode}
 use Rattle.semantics.specs.PartialPaths.{Route, belongs, targetOf, longer}
 use Rattle.semantics.specs.PartialPaths.Laws.{walk-snoc, walk-nil, walk-cons}
 use Rattle.semantics.specs.Demand.{Walk}
-use Rattle.words.specs.Area.{encode-room}
 use Rattle.words.specs.Slots.{padded}
 use Rattle.words.specs.Slots.Wider.{padded-is}
 use Rattle.search_state.specs.Items.{Carries}
@@ -95,10 +95,10 @@ held-padded L S r h k room = sym (padded-is L S (held S r) (held-long S r)) ∙ 
 
 -- ---- ends
 
-walk-last : (g : View) (mine : ℕ → Bool) (e : ℕ) (es : List ℕ) (n m : ℕ) → Walk g mine n (e ∷ es) m → targetOf (g .edge (getD (e ∷ es) (length es) 0)) ≡ m
+walk-last : {g : View} {mine : ℕ → Bool} (e : ℕ) (es : List ℕ) {n m : ℕ} → Walk g mine n (e ∷ es) m → targetOf (g .edge (getD (e ∷ es) (length es) 0)) ≡ m
 unfolding targetOf
-walk-last g mine e [] n m w = let k = walk-cons g mine w in ap targetOf (k .2) ∙ walk-nil g mine (k .4)
-walk-last g mine e (x ∷ es) n m w = let k = walk-cons g mine w in walk-last g mine x es (k .0 .0) m (k .4)
+walk-last {g} {mine} e [] w = let k = walk-cons g mine w in ap targetOf (k .2) ∙ walk-nil g mine (k .4)
+walk-last {g} {mine} e (x ∷ es) {m} w = let k = walk-cons g mine w in walk-last x es (k .4)
 
 getD-taken : (es rest : List ℕ) (m i : ℕ) → i < length es → length es ≤ m → getD (take m (es ++ rest)) i 0 ≡ getD es i 0
 getD-taken [] rest m i h k = absurd (omega (arith, h))
@@ -106,26 +106,26 @@ getD-taken (x ∷ es) rest zero i h k = absurd (omega (arith, k))
 getD-taken (x ∷ es) rest (suc m) zero h k = refl
 getD-taken (x ∷ es) rest (suc m) (suc i) h k = getD-taken es rest m i (omega (arith, h)) (omega (arith, k))
 
-pub held-ends : (g : View) (file L : ℕ) (r : Route) → Traced g file r → 2 ≤ L → length (r .edges) < L → endsIn (g .edge) (held L r) ≡ endsOf r
+pub held-ends : {g : View} {file : ℕ} (L : ℕ) {r : Route} → Traced g file r → 2 ≤ L → length (r .edges) < L → endsIn (g .edge) (held L r) ≡ endsOf r
 unfolding endsIn heldBy encode sourceOf
-held-ends g file zero r t b h = absurd (omega (arith, b))
-held-ends g file (suc zero) r t b h = absurd (omega (arith, b))
-held-ends g file (suc (suc m)) r t b h = on (r .edges) (t .walk) (omega (arith, h))
+held-ends zero t b h = absurd (omega (arith, b))
+held-ends (suc zero) t b h = absurd (omega (arith, b))
+held-ends {g} {file} (suc (suc m)) {r} t b h = on (r .edges) (t .walk) (omega (arith, h))
   where
     on : (es : List ℕ) → Walk g (belongs g file) (r .start) es (r .current) → length es ≤ suc m → endsIn (g .edge) (heldBy (suc (suc m)) (r .start) es) ≡ endsOf r
     on [] w h = ap (λ (n : ℕ). record { start = r .start; end = n }) (walk-nil g (belongs g file) w)
     on (e ∷ es) w h =
         let k = walk-cons g (belongs g file) w in
-        let l = walk-last g (belongs g file) e es (r .start) (r .current) w in
+        let l = walk-last e es w in
         let s : sourceOf (g .edge e) ≡ r .start = ap sourceOf (k .2) in
         let d : targetOf (g .edge (getD (take (suc m) (e ∷ es ++ zeros (suc (suc m)))) (length es) 0)) ≡ r .current = ap (λ (n : ℕ). targetOf (g .edge n)) (getD-taken (e ∷ es) (zeros (suc (suc m))) (suc m) (length es) (omega arith) h) ∙ l in
         rw (lt-ltb 0 (suc (length es)) (omega arith)) (λ i. record { start = s i; end = d i })
 
 -- ---- one more edge
 
-pub traced-snoc : (g : View) (file : ℕ) (r : Route) (e : ℕ) (t : NodeId) (p : ℤ) → Traced g file r → length (r .edges) < 127 → g .edge e ≡ E.Live (nodeId (r .current)) t p → belongs g file e ≡ true → Traced g file (longer r e (targetOf (g .edge e)))
+pub traced-snoc : {g : View} {file : ℕ} {r : Route} (e : ℕ) (t : NodeId) (p : ℤ) → Traced g file r → length (r .edges) < maxEdges → g .edge e ≡ E.Live (nodeId (r .current)) t p → belongs g file e ≡ true → Traced g file (longer r e (targetOf (g .edge e)))
 unfolding targetOf
-traced-snoc g file r e t p x h l b = record {
+traced-snoc {g} {file} {r} e t p x h l b = record {
   walk = subst (λ (n : ℕ). Walk g (belongs g file) (r .start) (r .edges ++ (e ∷ [])) n) (sym (ap targetOf l)) (walk-snoc g (belongs g file) e t p (x .walk) l b);
   short = omega (arith, length-snoc (r .edges) e, h);
 }
@@ -133,9 +133,9 @@ traced-snoc g file r e t p x h l b = record {
 -- ---- outcomes in code
 
 module _ (edge : ℕ → Edge) (item : List ℕ) where
-  pub ends-some : (s t : ℕ) → 0 < getD item 0 0 → s ≡ sourceOf (edge (getD item 1 0)) → t ≡ targetOf (edge (getD item (getD item 0 0) 0)) → _≡_ {A = Ends} (record { start = s; end = t }) (endsIn edge item)
+  pub ends-some : {s t : ℕ} → 0 < getD item 0 0 → s ≡ sourceOf (edge (getD item 1 0)) → t ≡ targetOf (edge (getD item (getD item 0 0) 0)) → _≡_ {A = Ends} (record { start = s; end = t }) (endsIn edge item)
   unfolding endsIn
-  ends-some s t h p q = rw (lt-ltb 0 (getD item 0 0) h) (λ i. record { start = p i; end = q i })
+  ends-some h p q = rw (lt-ltb 0 (getD item 0 0) h) (λ i. record { start = p i; end = q i })
 
   pub ends-none : getD item 0 0 ≤ 0 → _≡_ {A = Ends} (record { start = getD item 1 0; end = getD item 1 0 }) (endsIn edge item)
   unfolding endsIn

@@ -15,12 +15,12 @@ use Rattle.semantics.specs.Graph.{View, viewOf, fileOf, isFile}
 use Rattle.semantics.specs.Enumeration.{State, Setting, Try, one, each}
 use Rattle.semantics.specs.Enumeration.Statistics.{one-moved}
 use Rattle.semantics.specs.PartialPaths.{Route, belongs, routeTries}
-use Rattle.storage.specs.Rows.{nodeRow, firstRow, nextRow, Runs}
-use Rattle.storage.specs.Rows.Use.{runs-end, runs-next, left, left-less, out-bounded}
+use Rattle.storage.specs.Index.{nodeRow, firstRow, nextRow, Runs}
+use Rattle.storage.specs.Index.Use.{runs-end, runs-next, left, left-less, out-bounded}
 use Rattle.search_state.specs.Items.{Carries}
 use Rattle.partial_state.specs.declared.route.Ends.{Ends}
 use Rattle.partial_state.specs.declared.filing.Filing.{Filing}
-use Rattle.partial_state.specs.declared.extraction.Frame.{Frame}
+use Rattle.partial_state.specs.declared.extraction.ExtractionFrame.{ExtractionFrame}
 use Rattle.partial_state.specs.Filings.{Fits}
 use Rattle.partial_state.specs.Routes.{Waiting}
 use Rattle.partial_state.specs.Reps.{frameOf, settingOf, Rep, Tells}
@@ -54,10 +54,10 @@ module _ {R W : Type 0} (c : Setting R) (mine : ℕ → Bool) (judge : ℕ → T
       on true h = let m = one-moved c s u (judge e) h .looks in omega (arith, m)
       on false h = let m : s .tally .looked ≡ u .tally .looked = ap (λ (x : State W). x .tally .looked) (ok-inj s u h) in omega (arith, m)
 
-pub fits-same : (f : Filing) (db db′ : List ℕ) → length db′ ≡ length db → Fits f db → Fits f db′
-fits-same f db db′ e h = record { inside = omega (arith, e, h .inside); named = h .named }
+pub fits-same : {f : Filing} {db : List ℕ} (db′ : List ℕ) → length db′ ≡ length db → Fits f db → Fits f db′
+fits-same db′ e h = record { inside = omega (arith, e, h .inside); named = h .named }
 
-module _ (most : ℕ) (index : List ℕ) (f : Filing) (ends : Ends) (k : ℕ) (item₀ : List ℕ) (x : Computation) (ws₀ db₀ : List ℕ) (w : Expanding most index f ends k item₀ x ws₀ db₀) where
+module _ {most : ℕ} {index : List ℕ} {f : Filing} {ends : Ends} {k : ℕ} {item₀ : List ℕ} {x : Computation} {ws₀ db₀ : List ℕ} (w : Expanding most index f ends k item₀ x ws₀ db₀) where
   abbrev v : Given most index f (ends .start) k item₀ x ws₀ db₀
   v = w .given
 
@@ -86,10 +86,10 @@ module _ (most : ℕ) (index : List ℕ) (f : Filing) (ends : Ends) (k : ℕ) (i
     pub looked : state .tally .looked + length rest ≤ most + 4096
     pub same : each (settingOf (frameOf x)) state (map judging (select mine rest)) ≡ whole
 
-  pub mid-start : (link : ℕ) → link ≡ firstRow index (ends .end) → Mid x item₀ ws₀ db₀ link
+  pub mid-start : {link : ℕ} → link ≡ firstRow index (ends .end) → Mid x item₀ ws₀ db₀ link
   unfolding routeTries
-  mid-start link q =
-      let h = out-bounded (v .graph) index (v .loaded) (v .route .current) in
+  mid-start q =
+      let h = out-bounded (v .loaded) (v .route .current) in
       record {
         state = v .model;
         frame = refl;
@@ -103,10 +103,10 @@ module _ (most : ℕ) (index : List ℕ) (f : Filing) (ends : Ends) (k : ℕ) (i
         same = refl;
       }
 
-  module _ (on : Computation) (item ws db : List ℕ) (link : ℕ) (mid : Mid on item ws db link) where
+  module _ {on : Computation} {item ws db : List ℕ} {link : ℕ} (mid : Mid on item ws db link) where
     -- no edge changes the length of the slots
     same-slot : on .frontier .length ≡ x .frontier .length
-    same-slot = ap (λ (y : Frame). y .slot) (mid .frame)
+    same-slot = ap (λ (y : ExtractionFrame). y .slot) (mid .frame)
 
     pub mid-less : 0 < link → left index (nextRow index (link - 1)) < left index link
     mid-less h = left-less index link (mid .rest) h (mid .runs) (mid .fewer)
@@ -127,7 +127,7 @@ module _ (most : ℕ) (index : List ℕ) (f : Filing) (ends : Ends) (k : ℕ) (i
               carries = subst (λ (y : ℕ). Carries y item (v .route .edges)) (sym same-slot) (mid .carried);
               good = subst (λ (y : ℕ). Waiting g (f .file) y (v .route)) (sym same-slot) (v .good);
               room = subst (Roomy k) (sym same-slot) (v .room);
-              fits = fits-same f db₀ db long (v .fits);
+              fits = fits-same db long (v .fits);
               model = mid .state;
               rep = mid .stood;
               small = omega (arith, mid .looked, b);
@@ -136,12 +136,12 @@ module _ (most : ℕ) (index : List ℕ) (f : Filing) (ends : Ends) (k : ℕ) (i
           }
 
       -- whether the route's end is of the file is asked once
-      pub mid-known : (own : Bool) → own ≡ isFile (f .file) (fileOf (nodeRow index (ends .end))) → own ≡ isFile (f .file) (fileOf (viewOf (mid-given .given .graph) .node (mid-given .given .route .current)))
+      pub mid-known : {own : Bool} → own ≡ isFile (f .file) (fileOf (nodeRow index (ends .end))) → own ≡ isFile (f .file) (fileOf (viewOf (mid-given .given .graph) .node (mid-given .given .route .current)))
       unfolding mid-given
-      mid-known own q = q ∙ ap (λ (m : ℕ). isFile (f .file) (fileOf (nodeRow index m))) (w .stands) ∙ ap (λ (y : Node). isFile (f .file) (fileOf y)) (v .loaded .node (v .route .current))
+      mid-known q = q ∙ ap (λ (m : ℕ). isFile (f .file) (fileOf (nodeRow index m))) (w .stands) ∙ ap (λ (y : Node). isFile (f .file) (fileOf y)) (v .loaded .node (v .route .current))
 
-      abbrev pub mid-owning : (own : Bool) → own ≡ isFile (f .file) (fileOf (nodeRow index (ends .end))) → Owning n index f (ends .start) k (link - 1) item on ws db own
-      mid-owning own q = record { looking = mid-given; known = mid-known own q }
+      abbrev pub mid-owning : {own : Bool} → own ≡ isFile (f .file) (fileOf (nodeRow index (ends .end))) → Owning n index f (ends .start) k (link - 1) item on ws db own
+      mid-owning {own} q = record { looking = mid-given; known = mid-known q }
 
       module _ (a : Course) (item′ ws′ db′ : List ℕ) (t : Looked n index f (ends .start) k (link - 1) item on ws db mid-given a item′ ws′ db′) where
         abbrev looking : Answer PartialPathRefusal (State Route)
@@ -149,11 +149,11 @@ module _ (most : ℕ) (index : List ℕ) (f : Filing) (ends : Ends) (k : ℕ) (i
 
         told : Tells g f (v .origin) (frameOf x) a ws′ db′ looking
         unfolding mid-given
-        told = subst (λ (y : Frame). Tells g f (v .origin) y a ws′ db′ (pick (mine (link - 1)) (one (settingOf y) (mid .state) (judgeOf y (v .graph) (v .route) (link - 1))) (ok (mid .state)))) (mid .frame) (t .tells)
+        told = subst (λ (y : ExtractionFrame). Tells g f (v .origin) y a ws′ db′ (pick (mine (link - 1)) (one (settingOf y) (mid .state) (judgeOf y (v .graph) (v .route) (link - 1))) (ok (mid .state)))) (mid .frame) (t .tells)
 
-        pub mid-again : (next : Computation) → a ≡ goes next → (link′ : ℕ) → link′ ≡ nextRow index (link - 1) → Mid next item′ ws′ db′ link′
+        pub mid-again : (next : Computation) → a ≡ goes next → {link′ : ℕ} → link′ ≡ nextRow index (link - 1) → Mid next item′ ws′ db′ link′
         unfolding mid-given
-        mid-again next e link′ q =
+        mid-again next e q =
             let u = tells-on g f (v .origin) (frameOf x) a ws′ db′ looking next told e in
             let r = runs-next index link (mid .rest) h (mid .runs) in
             let l : length (mid .rest) ≡ suc (length (r .0)) = ap length (r .1) in

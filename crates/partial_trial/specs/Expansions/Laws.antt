@@ -11,24 +11,23 @@ use lib.IntN.{ℤ}
 use lib.ListN.{length, take, drop, getD}
 use Rattle.semantics.specs.declared.graph.NodeId.{NodeId}
 use Rattle.semantics.specs.declared.graph.Node.{Node}
-use Rattle.semantics.specs.declared.graph.Edge.{Edge}
 use Rattle.semantics.specs.declared.graph.Edge.the-variants as E
 use Rattle.semantics.specs.declared.search.Limit.{Limit}
 use Rattle.semantics.specs.declared.search.SearchStats.{SearchStats}
 use Rattle.semantics.specs.declared.refusal.PartialPathRefusal.the-variants.{TooLong}
 use Rattle.semantics.specs.Lists.{or, has}
 use Rattle.semantics.specs.Lists.Laws.{length-snoc}
-use Rattle.semantics.specs.Limits.{base, within}
-use Rattle.semantics.specs.Graph.{nodeId, Graph, View, viewOf, fileOf, isFile, isEndpoint}
+use Rattle.semantics.specs.Limits.{base, within, maxEdges, slotLength}
+use Rattle.semantics.specs.Graph.{nodeId, View, viewOf, fileOf, isFile, isEndpoint}
 use Rattle.semantics.specs.Graph.Laws.{viewOf-lawful}
-use Rattle.semantics.specs.Enumeration.{cut, overlong, stop, one, judged}
-use Rattle.semantics.specs.PartialPaths.{Route, isOfFile, belongs, targetOf, longer, ifRoom, ifShort, unlessCycle, judgeRoute}
-use Rattle.storage.specs.Rows.{BLOCK, nodeRow, edgeRow, targetRow, Loaded}
-use Rattle.storage.specs.Rows.Laws.{edge-inside, target-row}
-use Rattle.budget.specs.declared.path_budget.Budget.{Budget}
-use Rattle.budget.specs.declared.path_budget.Admitted.{Admitted}
-use Rattle.budget.specs.Budget.{lengthening}
-use Rattle.budget.specs.Budget.Laws.{lengthening-allowed, lengthening-limits}
+use Rattle.semantics.specs.Enumeration.{cut, overlong, stop, one, judged, tested}
+use Rattle.semantics.specs.PartialPaths.{Route, isOfFile, belongs, targetOf, longer, reached, judgeRoute}
+use Rattle.storage.specs.Index.{BLOCK, nodeRow, targetRow}
+use Rattle.storage.specs.Index.Laws.{edge-inside, target-row}
+use Rattle.path_budget.specs.declared.budget.Budget.{Budget}
+use Rattle.path_budget.specs.declared.budget.Admitted.{Admitted}
+use Rattle.path_budget.specs.Budget.{lengthening}
+use Rattle.path_budget.specs.Budget.Laws.{lengthening-allowed, lengthening-limits}
 use Rattle.search_state.specs.Items.{withEdge, Carries}
 use Rattle.search_state.specs.Items.Laws.{carries-edge}
 use Rattle.partial_state.specs.declared.route.Ends.{Ends}
@@ -44,35 +43,35 @@ use Rattle.partial_trial.specs.Expansions.{Given, Looking, Owning, Tryin
 
 module _ (lim : Limit) (g : View) (r : Route) (e : ℕ) where
   judge-cut : has e (r .edges) ≡ true → judgeRoute base lim g r e ≡ cut
-  unfolding judgeRoute unlessCycle
+  unfolding judgeRoute tested
   judge-cut h = rw h
 
   judge-overlong : has e (r .edges) ≡ false → within (suc (length (r .edges))) lim ≡ false → judgeRoute base lim g r e ≡ overlong
-  unfolding judgeRoute unlessCycle ifShort
+  unfolding judgeRoute tested
   judge-overlong h k = rw (h, k)
 
-  judge-bound : has e (r .edges) ≡ false → within (suc (length (r .edges))) lim ≡ true → 127 ≤ length (r .edges) → judgeRoute base lim g r e ≡ stop TooLong
-  unfolding judgeRoute unlessCycle ifShort ifRoom
-  judge-bound h k l = rw (h, k, le-ltb (length (r .edges)) 127 l)
+  judge-bound : has e (r .edges) ≡ false → within (suc (length (r .edges))) lim ≡ true → maxEdges ≤ length (r .edges) → judgeRoute base lim g r e ≡ stop TooLong
+  unfolding judgeRoute tested
+  judge-bound h k l = rw (h, k, le-ltb (length (r .edges)) maxEdges l)
 
-  judge-room : has e (r .edges) ≡ false → within (suc (length (r .edges))) lim ≡ true → length (r .edges) < 127 → judgeRoute base lim g r e ≡ ifRoom true g r e
-  unfolding judgeRoute unlessCycle ifShort
-  judge-room h k l = rw (h, k, lt-ltb (length (r .edges)) 127 l)
+  judge-room : has e (r .edges) ≡ false → within (suc (length (r .edges))) lim ≡ true → length (r .edges) < maxEdges → judgeRoute base lim g r e ≡ reached g r e
+  unfolding judgeRoute tested
+  judge-room h k l = rw (h, k, lt-ltb (length (r .edges)) maxEdges l)
 
 -- the budget's answer to a length
-asked-within : (a : Admitted) (n : ℕ) (b : Budget) (t : Bool) → a ≡ lengthening n b → a .allowed ≡ t → within n (b .maxLength) ≡ t
-asked-within a n b t is e = sym (lengthening-allowed n b) ∙ ap (λ (x : Admitted). x .allowed) (sym is) ∙ e
+asked-within : {a : Admitted} (n : ℕ) (b : Budget) {t : Bool} → a ≡ lengthening n b → a .allowed ≡ t → within n (b .maxLength) ≡ t
+asked-within n b is e = sym (lengthening-allowed n b) ∙ ap (λ (x : Admitted). x .allowed) (sym is) ∙ e
 
 -- ---- what the code may count and store
 
-module _ (most : ℕ) (index : List ℕ) (f : Filing) (start k : ℕ) (item : List ℕ) (x : Computation) (ws db : List ℕ) (v : Given most index f start k item x ws db) where
+module _ {most : ℕ} {index : List ℕ} {f : Filing} {start k : ℕ} {item : List ℕ} {x : Computation} {ws db : List ℕ} (v : Given most index f start k item x ws db) where
   pub given-cycles : x .cycles ≤ most
   given-cycles = let e : x .cycles ≡ v .model .stats .cycles = ap (λ (t : SearchStats). t .cycles) (v .rep .counts .stats) in omega (arith, e, v .rep .few .cycles, v .small)
 
   given-found : x .found ≤ most
   given-found = let e : x .found ≡ v .model .stats .complete = ap (λ (t : SearchStats). t .complete) (v .rep .counts .stats) in omega (arith, e, v .rep .few .complete, v .small)
 
-  pub given-short : k ≤ 127
+  pub given-short : k ≤ maxEdges
   given-short = omega (arith, v .good .0 .short, v .count)
 
   pub given-slice : k + 1 ≤ length item
@@ -84,7 +83,7 @@ module _ (most : ℕ) (index : List ℕ) (f : Filing) (start k : ℕ) (item : Li
 
 -- ---- an edge of the file
 
-module _ (most : ℕ) (index : List ℕ) (f : Filing) (start k e : ℕ) (item : List ℕ) (x : Computation) (ws db : List ℕ) (t : Trying most index f start k e item x ws db) where
+module _ {most : ℕ} {index : List ℕ} {f : Filing} {start k e : ℕ} {item : List ℕ} {x : Computation} {ws db : List ℕ} (t : Trying most index f start k e item x ws db) where
   abbrev v : Given most index f start k item x ws db
   v = t .looking .given
 
@@ -92,43 +91,43 @@ module _ (most : ℕ) (index : List ℕ) (f : Filing) (start k e : ℕ) (item : 
   g = viewOf (v .graph)
 
   -- is it among the route's edges
-  has-is : (b : Bool) → b ≡ has e (take (k + 1 - 1) (drop 1 item)) → has e (v .route .edges) ≡ b
-  has-is b h = sym (h ∙ ap (has e) (given-edges most index f start k item x ws db v))
+  has-is : {b : Bool} → b ≡ has e (take (k + 1 - 1) (drop 1 item)) → has e (v .route .edges) ≡ b
+  has-is h = sym (h ∙ ap (has e) (given-edges v))
 
-  within-is : (b : Bool) → within (k + 1) (x .budget .maxLength) ≡ b → within (suc (length (v .route .edges))) (x .budget .maxLength) ≡ b
-  within-is b h = ap (λ (n : ℕ). within n (x .budget .maxLength)) (let z : suc (length (v .route .edges)) ≡ k + 1 = omega (arith, v .count) in z) ∙ h
+  within-is : {b : Bool} → within (k + 1) (x .budget .maxLength) ≡ b → within (suc (length (v .route .edges))) (x .budget .maxLength) ≡ b
+  within-is h = ap (λ (n : ℕ). within n (x .budget .maxLength)) (let z : suc (length (v .route .edges)) ≡ k + 1 = omega (arith, v .count) in z) ∙ h
 
-  pub tried-cut : (b : Bool) → b ≡ has e (take (k + 1 - 1) (drop 1 item)) → b ≡ true → (w : Computation) → w ≡ cutOne x → Tried most index f start k e item x ws db t (goes w) item ws db
+  pub tried-cut : {b : Bool} → b ≡ has e (take (k + 1 - 1) (drop 1 item)) → b ≡ true → {w : Computation} → w ≡ cutOne x → Tried most index f start k e item x ws db t (goes w) item ws db
   unfolding one judged
-  tried-cut b h y w q = record {
+  tried-cut {b} h y q = record {
     tells = subst (λ (z : Computation). Tells g f (v .origin) (frameOf x) (goes z) ws db (one (settingOf (frameOf x)) (v .model) (judgeOf (frameOf x) (v .graph) (v .route) e))) (sym q)
-        (rw (judge-cut (x .budget .maxLength) g (v .route) e (has-is b h ∙ y)) (refl, rep-cut g f (v .origin) x ws db (v .model) (v .rep)));
+        (rw (judge-cut (x .budget .maxLength) g (v .route) e (has-is h ∙ y)) (refl, rep-cut (v .rep)));
     carries = v .carries;
   }
 
-  module _ (b : Bool) (h : b ≡ has e (take (k + 1 - 1) (drop 1 item))) (y : b ≡ false) (a : Admitted) (is : a ≡ lengthening (k + 1) (x .budget)) where
-    pub tried-overlong : a .allowed ≡ false → (w : Computation) → w ≡ withBudget (a .budget) x → Tried most index f start k e item x ws db t (goes w) item ws db
+  module _ {b : Bool} (h : b ≡ has e (take (k + 1 - 1) (drop 1 item))) (y : b ≡ false) {a : Admitted} (is : a ≡ lengthening (k + 1) (x .budget)) where
+    pub tried-overlong : a .allowed ≡ false → {w : Computation} → w ≡ withBudget (a .budget) x → Tried most index f start k e item x ws db t (goes w) item ws db
     unfolding one judged
-    tried-overlong n w q =
-        let l : within (k + 1) (x .budget .maxLength) ≡ false = asked-within a (k + 1) (x .budget) false is n in
+    tried-overlong n {w} q =
+        let l : within (k + 1) (x .budget .maxLength) ≡ false = asked-within (k + 1) (x .budget) is n in
         let z : w ≡ withBudget (lengthening (k + 1) (x .budget) .budget) x = q ∙ ap (λ (u : Admitted). withBudget (u .budget) x) is in
         record {
           tells = subst (λ (u : Computation). Tells g f (v .origin) (frameOf x) (goes u) ws db (one (settingOf (frameOf x)) (v .model) (judgeOf (frameOf x) (v .graph) (v .route) e))) (sym z)
-              (rw (judge-overlong (x .budget .maxLength) g (v .route) e (has-is b h ∙ y) (within-is false l))
-              (λ i. record { order = x .frontier .order; length = lengthening-limits (k + 1) (x .budget) i .length; paths = lengthening-limits (k + 1) (x .budget) i .paths; waiting = x .frontier .capacity; slot = x .frontier .length }, rep-overlong g f (v .origin) x ws db (v .model) (v .rep) (k + 1) l));
+              (rw (judge-overlong (x .budget .maxLength) g (v .route) e (has-is h ∙ y) (within-is l))
+              (λ i. record { order = x .frontier .order; length = lengthening-limits (k + 1) (x .budget) i .length; expansions = lengthening-limits (k + 1) (x .budget) i .expansions; waiting = x .frontier .capacity; slot = x .frontier .length }, rep-overlong (v .rep) (k + 1) l));
           carries = v .carries;
         }
 
-    pub tried-bound : a .allowed ≡ true → 127 ≤ k → Tried most index f start k e item x ws db t (stops TooLong) item ws db
+    pub tried-bound : a .allowed ≡ true → maxEdges ≤ k → Tried most index f start k e item x ws db t (stops TooLong) item ws db
     unfolding one judged
     tried-bound n m = record {
-      tells = rw (judge-bound (x .budget .maxLength) g (v .route) e (has-is b h ∙ y) (within-is true (asked-within a (k + 1) (x .budget) true is n)) (omega (arith, m, v .count))) (refl, untouched g f (v .origin) x ws db (v .model) (v .rep));
+      tells = rw (judge-bound (x .budget .maxLength) g (v .route) e (has-is h ∙ y) (within-is (asked-within (k + 1) (x .budget) is n)) (omega (arith, m, v .count))) (refl, untouched (v .rep));
       carries = v .carries;
     }
 
-    pub tried-longer : a .allowed ≡ true → k < 127 → (r : Course) (item′ ws′ db′ : List ℕ) → Lengthened most index f start k e item x ws db t r item′ ws′ db′ → Tried most index f start k e item x ws db t r item′ ws′ db′
+    pub tried-longer : a .allowed ≡ true → k < maxEdges → (r : Course) (item′ ws′ db′ : List ℕ) → Lengthened most index f start k e item x ws db t r item′ ws′ db′ → Tried most index f start k e item x ws db t r item′ ws′ db′
     tried-longer n m r item′ ws′ db′ d = record {
-      tells = rw (judge-room (x .budget .maxLength) g (v .route) e (has-is b h ∙ y) (within-is true (asked-within a (k + 1) (x .budget) true is n)) (omega (arith, m, v .count))) (d .tells);
+      tells = rw (judge-room (x .budget .maxLength) g (v .route) e (has-is h ∙ y) (within-is (asked-within (k + 1) (x .budget) is n)) (omega (arith, m, v .count))) (d .tells);
       carries = d .carries;
     }
 
@@ -137,8 +136,8 @@ module _ (most : ℕ) (index : List ℕ) (f : Filing) (start k e : ℕ) (item : 
   longerBy = longer (v .route) e (targetOf (g .edge e))
 
   -- the slot has room for it
-  pub longer-room : k < 127 → k + 1 < x .frontier .length
-  longer-room h = ⊎-elim (λ (r : k + 1 < x .frontier .length). r) (λ (r : x .frontier .length ≡ 128). omega (arith, r, h)) (v .room)
+  pub longer-room : k < maxEdges → k + 1 < x .frontier .length
+  longer-room h = ⊎-elim (λ (r : k + 1 < x .frontier .length). r) (λ (r : x .frontier .length ≡ slotLength). omega (arith, r, h)) (v .room)
 
   -- its edge is live, so it has a block
   pub longer-inside : BLOCK * e < length index
@@ -146,7 +145,7 @@ module _ (most : ℕ) (index : List ℕ) (f : Filing) (start k e : ℕ) (item : 
       let l = viewOf-lawful (v .graph) .live (v .route .current) e (t .looking .leaves) in
       edge-inside index e (nodeId (v .route .current)) (l .0) (l .1) (v .loaded .edge e ∙ l .2)
 
-  module _ (short : k < 127) (item′ : List ℕ) (made : item′ ≡ withEdge item k e) where
+  module _ (short : k < maxEdges) {item′ : List ℕ} (made : item′ ≡ withEdge item k e) where
     grown : item′ ≡ held (x .frontier .length) longerBy
     grown =
         let r = longer-room short in
@@ -157,7 +156,7 @@ module _ (most : ℕ) (index : List ℕ) (f : Filing) (start k e : ℕ) (item : 
     good-grown =
         let l = viewOf-lawful (v .graph) .live (v .route .current) e (t .looking .leaves) in
         let r = longer-room short in
-        (traced-snoc g (f .file) (v .route) e (l .0) (l .1) (v .good .0) (omega (arith, short, v .count)) (l .2) (t .owned), omega (arith, length-snoc (v .route .edges) e, r, v .count))
+        (traced-snoc e (l .0) (l .1) (v .good .0) (omega (arith, short, v .count)) (l .2) (t .owned), omega (arith, length-snoc (v .route .edges) e, r, v .count))
 
     pub longer-given : most + 1 < 2 ^ 64 → length item′ ≡ length item → Extendable x f item′ ws db
     longer-given h l = record {
@@ -169,11 +168,11 @@ module _ (most : ℕ) (index : List ℕ) (f : Filing) (start k e : ℕ) (item : 
           let n = length-snoc (v .route .edges) e in
           let r = longer-room short in
           omega (arith, c, n, r, v .count);
-      few = let c = given-found most index f start k item x ws db v in omega (arith, c, h);
+      few = let c = given-found v in omega (arith, c, h);
       fits = v .fits;
     }
 
-    module _ (end : ℕ) (reads : end ≡ targetRow index e) (b : Bool) (is : b ≡ isEndpoint (nodeRow index end)) where
+    module _ {end : ℕ} (reads : end ≡ targetRow index e) {b : Bool} (is : b ≡ isEndpoint (nodeRow index end)) where
       end-is : end ≡ targetOf (g .edge e)
       unfolding targetOf
       end-is =
@@ -184,18 +183,18 @@ module _ (most : ℕ) (index : List ℕ) (f : Filing) (start k e : ℕ) (item : 
       endpoint-is = is ∙ ap isEndpoint (v .loaded .node end) ∙ ap (λ (n : ℕ). isEndpoint (g .node n)) end-is
 
       pub lengthened : (a : Course) (ws′ db′ : List ℕ) → ExtendsTo x b (record { start = start; end = end }) f item′ ws db a ws′ db′ → Lengthened most index f start k e item x ws db t a item′ ws′ db′
-      unfolding one judged ifRoom
+      unfolding one judged reached
       lengthened a ws′ db′ w =
           let ends : _≡_ {A = Ends} (record { start = start; end = end }) (endsOf longerBy) = λ i. record { start = v .starts i; end = end-is i } in
-          let u = w g (v .origin) (lookedAt g f (v .origin) x ws db (v .model) (v .rep)) longerBy (v .model .tally .looked) (rep-looked g f (v .origin) x ws db (v .model) (v .rep)) (v .rep .few) refl good-grown ends grown in
+          let u = w g (v .origin) (lookedAt (v .rep)) longerBy (v .model .tally .looked) (rep-looked (v .rep)) (v .rep .few) refl good-grown ends grown in
           record {
             tells = rw (sym endpoint-is) u;
-            carries = subst (λ (l : List ℕ). Carries (x .frontier .length) l (v .route .edges)) (sym (made ∙ ap (λ (n : ℕ). withEdge item n e) (sym (v .count)))) (carries-edge (x .frontier .length) item (v .route .edges) e (v .carries));
+            carries = subst (λ (l : List ℕ). Carries (x .frontier .length) l (v .route .edges)) (sym (made ∙ ap (λ (n : ℕ). withEdge item n e) (sym (v .count)))) (carries-edge (x .frontier .length) item e (v .carries));
           }
 
 -- ---- an edge that leaves the route's end
 
-module _ (most : ℕ) (index : List ℕ) (f : Filing) (start k e : ℕ) (item : List ℕ) (x : Computation) (ws db : List ℕ) (own : Bool) (o : Owning most index f start k e item x ws db own) where
+module _ {most : ℕ} {index : List ℕ} {f : Filing} {start k e : ℕ} {item : List ℕ} {x : Computation} {ws db : List ℕ} {own : Bool} (o : Owning most index f start k e item x ws db own) where
   abbrev l : Looking most index f start k e item x ws db
   l = o .looking
 
@@ -205,7 +204,7 @@ module _ (most : ℕ) (index : List ℕ) (f : Filing) (start k e : ℕ) (item : 
   pub looking-inside : BLOCK * e < length index
   looking-inside = edge-inside index e (nodeId (l .given .route .current)) (live .0) (live .1) (l .given .loaded .edge e ∙ live .2)
 
-  module _ (b : Bool) (is : b ≡ or own (isFile (f .file) (fileOf (nodeRow index (targetRow index e))))) where
+  module _ {b : Bool} (is : b ≡ or own (isFile (f .file) (fileOf (nodeRow index (targetRow index e))))) where
     owned-is : b ≡ belongs (viewOf (l .given .graph)) (f .file) e
     unfolding belongs isOfFile
     owned-is =

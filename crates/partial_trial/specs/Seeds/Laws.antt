@@ -19,14 +19,14 @@ use Rattle.semantics.specs.Enumeration.{State, Setting, pushItem}
 use Rattle.semantics.specs.Enumeration as Enumeration
 use Rattle.semantics.specs.PartialPaths.{Route, routeAt, startsFrom, startRoutes}
 use Rattle.semantics.specs.Demand.{stay}
-use Rattle.storage.specs.Rows.{nodeRow, Loaded}
+use Rattle.storage.specs.Index.{nodeRow, Loaded}
 use Rattle.words.specs.Slots.{IsSlot}
-use Rattle.graph_search.specs.Frontier.{Framed}
+use Rattle.path_frontier.specs.Frontier.{Framed}
 use Rattle.partial_state.specs.Routes.{held, Traced}
 use Rattle.partial_state.specs.Extractions.{Computation, Course, goes, stops, Extends}
 use Rattle.partial_state.specs.Reps.{frameOf, settingOf, Rep, Tells}
 use Rattle.partial_state.specs.Reps.Laws.{push-tells, tells-on, tells-refused}
-use Rattle.partial_state.specs.declared.extraction.Frame.{Frame}
+use Rattle.partial_state.specs.declared.extraction.ExtractionFrame.{ExtractionFrame}
 use Rattle.partial_trial.specs.Seeds.{Seeding, Started, NodeSeeded, FileSeeded, Seeded}
 
 -- ---- one start
@@ -34,25 +34,25 @@ use Rattle.partial_trial.specs.Seeds.{Seeding, Started, NodeSeeded, File
 traced-start : (g : View) (file n : ℕ) → Traced g file (routeAt n)
 traced-start g file n = record { walk = stay; short = omega arith }
 
-module _ (item : List ℕ) (x : Computation) (ws : List ℕ) (v : Seeding item x ws) where
+module _ {item : List ℕ} {x : Computation} {ws : List ℕ} (v : Seeding item x ws) where
   pub start-pushes : (item′ : List ℕ) → length item′ ≡ length item → Framed (x .frontier) ws × IsSlot (x .frontier .length) item′
   start-pushes item′ e = (v .rep .stands .framed, e ∙ v .slot)
 
   pub start-begins : 2 ≤ length item
   start-begins = omega (arith, v .slot, v .rep .sized .start)
 
-  pub started : (n : ℕ) (item′ : List ℕ) → item′ ≡ held (length item) (routeAt n) → (a : Course) (ws′ : List ℕ) → Extends x ws item′ a ws′ → Started item x ws v n a ws′
-  started n item′ e a ws′ h = push-tells (v .view) (v .filing) (v .origin) x ws (v .database) (v .model) (v .rep) (routeAt n) (traced-start (v .view) (v .filing .file) n, omega (arith, v .rep .sized .start)) a ws′ (subst (λ (i : List ℕ). Extends x ws i a ws′) (e ∙ ap (λ (y : ℕ). held y (routeAt n)) (v .slot)) h)
+  pub started : (n : ℕ) {item′ : List ℕ} → item′ ≡ held (length item) (routeAt n) → {a : Course} {ws′ : List ℕ} → Extends x ws item′ a ws′ → Started item x ws v n a ws′
+  started n e {a} {ws′} h = push-tells (v .rep) (routeAt n) (traced-start (v .view) (v .filing .file) n, omega (arith, v .rep .sized .start)) (subst (λ (i : List ℕ). Extends x ws i a ws′) (e ∙ ap (λ (y : ℕ). held y (routeAt n)) (v .slot)) h)
 
   -- ---- one node
-  module _ (g : Graph) (index : List ℕ) (loaded : Loaded g index) (file n : ℕ) (b : Bool) (mine : b ≡ isFile file (fileOf (nodeRow index n))) where
+  module _ {g : Graph} {index : List ℕ} (loaded : Loaded g index) (file n : ℕ) {b : Bool} (mine : b ≡ isFile file (fileOf (nodeRow index n))) where
     own : isFile file (fileOf (viewOf g .node n)) ≡ b
     own = sym (mine ∙ ap (λ (y : Node). isFile file (fileOf y)) (loaded .node n))
 
     pub node-foreign : b ≡ false → NodeSeeded item x ws v g file n (goes x) ws
     node-foreign p = rw (own ∙ p) (refl, v .rep)
 
-    module _ (d : Bool) (begins : d ≡ isStart (nodeRow index n)) where
+    module _ {d : Bool} (begins : d ≡ isStart (nodeRow index n)) where
       start : isStart (viewOf g .node n) ≡ d
       start = sym (begins ∙ ap isStart (loaded .node n))
 
@@ -83,7 +83,7 @@ module _ {R : Type 0} (c : Setting R) (file i : ℕ) (n : Node) (ns : List Node)
       on true q h = rw (q, h)
       on false q h = absurd (refuse-ok r s (sym h))
 
-module _ (item₀ : List ℕ) (x : Computation) (ws₀ : List ℕ) (v : Seeding item₀ x ws₀) (g : Graph) (file : ℕ) where
+module _ {item₀ : List ℕ} {x : Computation} {ws₀ : List ℕ} (v : Seeding item₀ x ws₀) (g : Graph) (file : ℕ) where
   abbrev whole : Answer PartialPathRefusal (State Route)
   whole = Enumeration.seed (settingOf (frameOf x)) (v .model) (map routeAt (startsFrom file 0 (g .nodes)))
 
@@ -97,9 +97,9 @@ module _ (item₀ : List ℕ) (x : Computation) (ws₀ : List ℕ) (v : Seeding 
   pub begun-start : Begun x ws₀ 0
   begun-start = record { state = v .model; frame = refl; stood = v .rep; same = refl }
 
-  module _ (on : Computation) (item ws : List ℕ) (n : ℕ) (m : Begun on ws n) (long : length item ≡ length item₀) where
+  module _ {on : Computation} (item : List ℕ) {ws : List ℕ} {n : ℕ} (m : Begun on ws n) (long : length item ≡ length item₀) where
     pub begun-given : Seeding item on ws
-    begun-given = record { view = v .view; filing = v .filing; origin = v .origin; database = v .database; slot = long ∙ v .slot ∙ sym (ap (λ (y : Frame). y .slot) (m .frame)); model = m .state; rep = m .stood }
+    begun-given = record { view = v .view; filing = v .filing; origin = v .origin; database = v .database; slot = long ∙ v .slot ∙ sym (ap (λ (y : ExtractionFrame). y .slot) (m .frame)); model = m .state; rep = m .stood }
 
     module _ (h : n < length (g .nodes)) (a : Course) (ws′ : List ℕ) (t : NodeSeeded item on ws begun-given g file n a ws′) where
       here : drop n (g .nodes) ≡ viewOf g .node n ∷ drop (suc n) (g .nodes)
@@ -111,7 +111,7 @@ module _ (item₀ : List ℕ) (x : Computation) (ws₀ : List ℕ) (v : Seeding 
 
       told : Tells (v .view) (v .filing) (v .origin) (frameOf x) a ws′ (v .database) looking
       unfolding begun-given
-      told = subst (λ (y : Frame). Tells (v .view) (v .filing) (v .origin) y a ws′ (v .database) (pick (and (isFile file (fileOf (viewOf g .node n))) (isStart (viewOf g .node n))) (pushItem (settingOf y) (routeAt n) (m .state)) (ok (m .state)))) (m .frame) t
+      told = subst (λ (y : ExtractionFrame). Tells (v .view) (v .filing) (v .origin) y a ws′ (v .database) (pick (and (isFile file (fileOf (viewOf g .node n))) (isStart (viewOf g .node n))) (pushItem (settingOf y) (routeAt n) (m .state)) (ok (m .state)))) (m .frame) t
 
       pub begun-again : (next : Computation) → a ≡ goes next → Begun next ws′ (n + 1)
       begun-again next e =
@@ -142,7 +142,7 @@ module _ (item₀ : List ℕ) (x : Computation) (ws₀ : List ℕ) (v : Seeding 
 
 -- ---- root first
 
-module _ (item : List ℕ) (x : Computation) (ws : List ℕ) (v : Seeding item x ws) (a : Course) (ws′ : List ℕ) (t : Started item x ws v 0 a ws′) where
+module _ {item : List ℕ} {x : Computation} {ws : List ℕ} (v : Seeding item x ws) (a : Course) (ws′ : List ℕ) (t : Started item x ws v 0 a ws′) where
   abbrev pushedRoot : Answer PartialPathRefusal (State Route)
   pushedRoot = pushItem (settingOf (frameOf x)) (routeAt 0) (v .model)
 
@@ -151,7 +151,7 @@ module _ (item : List ℕ) (x : Computation) (ws : List ℕ) (v : Seeding item x
 
   -- what the file's own starts are given
   pub root-given : (next : Computation) → a ≡ goes next → (item′ : List ℕ) → length item′ ≡ length item → Seeding item′ next ws′
-  root-given next e item′ l = let u = rooted next e in record { view = v .view; filing = v .filing; origin = v .origin; database = v .database; slot = l ∙ v .slot ∙ sym (ap (λ (y : Frame). y .slot) (u .2)); model = u .0; rep = u .3 }
+  root-given next e item′ l = let u = rooted next e in record { view = v .view; filing = v .filing; origin = v .origin; database = v .database; slot = l ∙ v .slot ∙ sym (ap (λ (y : ExtractionFrame). y .slot) (u .2)); model = u .0; rep = u .3 }
 
   pub root-refused : (g : Graph) (file : ℕ) (y : PartialPathRefusal) → a ≡ stops y → Seeded item x ws v g file a ws′
   unfolding Enumeration.seed
@@ -163,4 +163,4 @@ module _ (item : List ℕ) (x : Computation) (ws : List ℕ) (v : Seeding item x
   unfolding Enumeration.seed root-given
   root-on g file next e item′ l b ws″ h =
       let u = rooted next e in
-      rw (u .1) (subst (λ (y : Frame). Tells (v .view) (v .filing) (v .origin) y b ws″ (v .database) (Enumeration.seed (settingOf y) (u .0) (map routeAt (startsFrom file 0 (g .nodes))))) (u .2) h)
+      rw (u .1) (subst (λ (y : ExtractionFrame). Tells (v .view) (v .filing) (v .origin) y b ws″ (v .database) (Enumeration.seed (settingOf y) (u .0) (map routeAt (startsFrom file 0 (g .nodes))))) (u .2) h)

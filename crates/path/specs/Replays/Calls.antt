@@ -6,6 +6,7 @@ use mathlib.Core.Path.{_≡_, refl, sym, ap, _∙_}
 use mathlib.Core.Bool.{true, false}
 use mathlib.Core.List.{List, [], _∷_}
 use lib.ListN.{length, length-append, length-replicate}
+use Rattle.semantics.specs.ReplayedPaths.{stepAt, readPath}
 use Rattle.semantics.specs.declared.graph.Edge.{Edge}
 use Rattle.semantics.specs.declared.graph.Node.{Node}
 use Rattle.semantics.specs.declared.refusal.ImageRefusal.{ImageRefusal}
@@ -13,7 +14,7 @@ use Rattle.semantics.specs.declared.refusal.ReplayRefusal.{ReplayRefusal}
 use Rattle.semantics.specs.declared.answer.Replayed.the-variants as Replayed
 use Rattle.semantics.specs.declared.answer.Judgement.{Judgement}
 use Rattle.semantics.specs.declared.answer.Judgement.the-variants as Judgement
-use Rattle.semantics.specs.Limits.{base}
+use Rattle.semantics.specs.Limits.{base, maxEdges, stepLength, stepsLength}
 use Rattle.semantics.specs.Answer.{Answer, ok, refuse}
 use Rattle.semantics.specs.Answer.Laws.{ok-inj, andThen-ok}
 use Rattle.semantics.specs.Graph.{Graph, View, viewOf, isReference}
@@ -24,16 +25,15 @@ use Rattle.semantics.specs.Path as Model
 use Rattle.semantics.specs.Path.{appendUnder, appendAll, replay}
 use Rattle.semantics.specs.Path.Laws.{append-ok, appendUnder-ok, appendAll-edges, appendAll-bound, begun, replay-ok}
 use Rattle.semantics.specs.Told.{toldReplayed}
-use Rattle.semantics.specs.Calls.{replayedAs, completed, shadowedBy, leftFirst, replayCall, completeCall, shadowsCall}
-use Rattle.storage.specs.Rows.{nodeRow, edgeRow, Loaded}
-use Rattle.path.specs.declared.path.Path.{Path}
+use Rattle.semantics.specs.Calls.{replayAnswer, completeAnswer, shadowsAnswer, leftFirst, replayCall, completeCall, shadowsCall}
+use Rattle.storage.specs.Index.{nodeRow, edgeRow, Loaded}
+use Rattle.semantics.specs.declared.replayed.Path.{Path}
 use Rattle.path.specs.declared.replay.ReplayOutcome as R
-use Rattle.stepping.specs.StepWords.{stepAt}
 use Rattle.stepping.specs.Judged.{completeStep}
 use Rattle.stepping.specs.Judged.Laws.{complete-is}
 use Rattle.path.specs.Shadows.{shadowsEdges}
 use Rattle.path.specs.Shadows.Laws.{JumpAt, shadows-edges}
-use Rattle.path.specs.Values.{emptyPath, readPath}
+use Rattle.path.specs.Values.{emptyPath}
 use Rattle.path.specs.Values.Laws.{reads, reads-empty}
 use Rattle.path.specs.Replays.{valueOf, replayValue, Answers, judgedAs}
 use Rattle.path.specs.Replays.Laws.{nodes-are, edges-are, value-loaded}
@@ -46,17 +46,17 @@ accepted-jump w im g h = let a = image-accepted w im g h in record { there = jum
 abbrev Given : Answer ImageRefusal Graph → ℕ → List ℕ → R.ReplayOutcome → Type 0
 Given x n es y = (toldReplayed (y .answer) ≡ toldReplayed (replayCall base x n es .answer)) × (readPath (y .path) ≡ replayCall base x n es .path) × (y ≡ replayValue x n es)
 
-pub replay-image : (x : Answer ImageRefusal Graph) (r : ImageRefusal) → x ≡ refuse r → (n : ℕ) (es : List ℕ) (p : Path) → p ≡ emptyPath → Given x n es (record { answer = Replayed.Image r; path = p })
+pub replay-image : {x : Answer ImageRefusal Graph} (r : ImageRefusal) → x ≡ refuse r → (n : ℕ) (es : List ℕ) {p : Path} → p ≡ emptyPath → Given x n es (record { answer = Replayed.Image r; path = p })
 unfolding replayCall replayValue
-replay-image x r h n es p k = rw h (refl, ap readPath k ∙ reads-empty, (λ i. record { answer = Replayed.Image r; path = k i }))
+replay-image r h n es k = rw h (refl, ap readPath k ∙ reads-empty, (λ i. record { answer = Replayed.Image r; path = k i }))
 
-pub replay-answers : (index : List ℕ) (x : Answer ImageRefusal Graph) (g : Graph) → x ≡ ok g → Loaded g index → (n : ℕ) (es : List ℕ) (y : R.ReplayOutcome) → y ≡ valueOf (nodeRow index) (edgeRow index) n es
+pub replay-answers : {index : List ℕ} {x : Answer ImageRefusal Graph} {g : Graph} → x ≡ ok g → Loaded g index → (n : ℕ) (es : List ℕ) {y : R.ReplayOutcome} → y ≡ valueOf (nodeRow index) (edgeRow index) n es
     → Answers y (replay base (viewOf g) n es) → Given x n es y
-unfolding replayCall replayedAs replayValue
-replay-answers index x g h l n es y v a = rw h (let k = on (replay base (viewOf g) n es) a in (k .0, k .1, v ∙ value-loaded g index l n es))
+unfolding replayCall replayAnswer replayValue
+replay-answers {index} {g} h l n es {y} v a = rw h (let k = on (replay base (viewOf g) n es) a in (k .0, k .1, v ∙ value-loaded g index l n es))
   where
-    on : (z : Answer ReplayRefusal Model.Path) → Answers y z → (toldReplayed (y .answer) ≡ toldReplayed (replayedAs z .answer)) × (readPath (y .path) ≡ replayedAs z .path)
-    on (ok p) a = (ap toldReplayed (a .0), reads (y .path) p (a .1))
+    on : (z : Answer ReplayRefusal Model.Path) → Answers y z → (toldReplayed (y .answer) ≡ toldReplayed (replayAnswer z .answer)) × (readPath (y .path) ≡ replayAnswer z .path)
+    on (ok p) a = (ap toldReplayed (a .0), reads (a .1))
     on (refuse r) a = (ap toldReplayed (a .0), ap readPath (a .1) ∙ reads-empty)
 
 -- COMPLETENESS
@@ -75,7 +75,7 @@ module _ (g : View) (n : ℕ) (es : List ℕ) (q : Model.Path) (h : replay base 
       let b = begun g n (a .0) (a .1) in
       ap (λ m. isReference (g .node m)) (all-start g es (a .0) q (a .2) ∙ b .start) ∙ b .reference
 
-  pub few-edges : length (q .edges) ≤ 127
+  pub few-edges : length (q .edges) ≤ maxEdges
   few-edges =
       let a = replay-ok base g n es q h in
       let b = begun g n (a .0) (a .1) in
@@ -85,22 +85,22 @@ module _ (g : View) (n : ℕ) (es : List ℕ) (q : Model.Path) (h : replay base 
       omega (arith, m, l)
 
 -- the last step can be read
-pub room : (g : View) (n : ℕ) (es : List ℕ) (y : R.ReplayOutcome) → Answers y (replay base g n es) → 8 * (y .path .count) + 8 ≤ length (y .path .steps)
+pub room : (g : View) (n : ℕ) (es : List ℕ) (y : R.ReplayOutcome) → Answers y (replay base g n es) → stepLength * (y .path .count) + stepLength ≤ length (y .path .steps)
 room g n es y a = on (replay base g n es) refl a
   where
-    on : (z : Answer ReplayRefusal Model.Path) → replay base g n es ≡ z → Answers y z → 8 * (y .path .count) + 8 ≤ length (y .path .steps)
+    on : (z : Answer ReplayRefusal Model.Path) → replay base g n es ≡ z → Answers y z → stepLength * (y .path .count) + stepLength ≤ length (y .path .steps)
     on (ok p) e a = omega (arith, few-edges g n es p e, a .1 .stepped .count, a .1 .sized .steps)
     on (refuse r) e a =
         let z : y .path .count ≡ 0 = ap (λ (p : Path). p .count) (a .1) in
-        let l : length (y .path .steps) ≡ 1024 = ap (λ (p : Path). length (p .steps)) (a .1) ∙ length-replicate {A = ℕ} 1024 0 in
+        let l : length (y .path .steps) ≡ stepsLength = ap (λ (p : Path). length (p .steps)) (a .1) ∙ length-replicate {A = ℕ} stepsLength 0 in
         omega (arith, z, l)
 
-pub complete-answers : (index : List ℕ) (x : Answer ImageRefusal Graph) (g : Graph) → x ≡ ok g → Loaded g index → (n : ℕ) (es : List ℕ) (y : R.ReplayOutcome) → Answers y (replay base (viewOf g) n es)
+pub complete-answers : {index : List ℕ} {x : Answer ImageRefusal Graph} {g : Graph} → x ≡ ok g → Loaded g index → (n : ℕ) (es : List ℕ) (y : R.ReplayOutcome) → Answers y (replay base (viewOf g) n es)
     → judgedAs (y .answer) (completeStep (nodeRow index) (stepAt (y .path .steps) (y .path .count))) ≡ completeCall base x n es
-unfolding completeCall completed
-complete-answers index x g h l n es y a = rw h (on (replay base (viewOf g) n es) refl a)
+unfolding completeCall completeAnswer
+complete-answers {index} {g} h l n es y a = rw h (on (replay base (viewOf g) n es) refl a)
   where
-    on : (z : Answer ReplayRefusal Model.Path) → replay base (viewOf g) n es ≡ z → Answers y z → judgedAs (y .answer) (completeStep (nodeRow index) (stepAt (y .path .steps) (y .path .count))) ≡ completed (viewOf g) z
+    on : (z : Answer ReplayRefusal Model.Path) → replay base (viewOf g) n es ≡ z → Answers y z → judgedAs (y .answer) (completeStep (nodeRow index) (stepAt (y .path .steps) (y .path .count))) ≡ completeAnswer (viewOf g) z
     on (ok p) e a =
         let c = complete-is (viewOf g) (y .path .steps) (y .path .count) p (a .1 .stepped) (from-a-reference (viewOf g) n es p e) in
         ap (λ r. judgedAs r (completeStep (nodeRow index) (stepAt (y .path .steps) (y .path .count)))) (a .0)
@@ -113,28 +113,28 @@ unfolding leftFirst
 left-stops y (ok p) b h k = absurd (k (h .0))
 left-stops y (refuse r) b h k = ap (λ z. judgedAs z false) (h .0)
 
-pub right-judged : (index : List ℕ) (g : Graph) → Loaded g index → JumpAt (viewOf g) → (n m : ℕ) (ls rs : List ℕ) (x y : R.ReplayOutcome)
+pub right-judged : {index : List ℕ} {g : Graph} → Loaded g index → JumpAt (viewOf g) → (n m : ℕ) (ls rs : List ℕ) (x y : R.ReplayOutcome)
     → Answers x (replay base (viewOf g) n ls) → x .answer ≡ Replayed.Done → Answers y (replay base (viewOf g) m rs)
     → judgedAs (y .answer) (shadowsEdges (edgeRow index) ls rs) ≡ leftFirst (replay base (viewOf g) n ls) (replay base (viewOf g) m rs)
-unfolding leftFirst shadowedBy
-right-judged index g l j n m ls rs x y a d b = on (replay base (viewOf g) n ls) (replay base (viewOf g) m rs) refl refl a b
+unfolding leftFirst shadowsAnswer
+right-judged {index} {g} l j n m ls rs x y a d b = on (replay base (viewOf g) n ls) (replay base (viewOf g) m rs) refl refl a b
   where
     on : (v w : Answer ReplayRefusal Model.Path) → replay base (viewOf g) n ls ≡ v → replay base (viewOf g) m rs ≡ w → Answers x v → Answers y w → judgedAs (y .answer) (shadowsEdges (edgeRow index) ls rs) ≡ leftFirst v w
     on (ok p) (ok q) e f a b =
         ap (λ r. judgedAs r (shadowsEdges (edgeRow index) ls rs)) (b .0)
-        ∙ ap Judgement.Done (ap (λ (m : ℕ → Edge). shadowsEdges m ls rs) (edges-are g index l) ∙ sym (shadows-edges (viewOf g) j base n m ls rs p q e f))
+        ∙ ap Judgement.Done (ap (λ (m : ℕ → Edge). shadowsEdges m ls rs) (edges-are g index l) ∙ sym (shadows-edges j base n m ls rs p q e f))
     on (ok p) (refuse r) e f a b = ap (λ r. judgedAs r (shadowsEdges (edgeRow index) ls rs)) (b .0)
     on (refuse r) w e f a b = absurd (let z : _≡_ {A = ℕ} 0 1 = cc in omega arith)
 
 -- AN IMAGE that is turned back, or accepted
-pub complete-image : (x : Answer ImageRefusal Graph) (r : ImageRefusal) → x ≡ refuse r → (n : ℕ) (es : List ℕ) → Judgement.Image r ≡ completeCall base x n es
+pub complete-image : {x : Answer ImageRefusal Graph} (r : ImageRefusal) → x ≡ refuse r → (n : ℕ) (es : List ℕ) → Judgement.Image r ≡ completeCall base x n es
 unfolding completeCall
-complete-image x r h n es = rw h refl
+complete-image r h n es = rw h refl
 
-pub shadows-image : (x : Answer ImageRefusal Graph) (r : ImageRefusal) → x ≡ refuse r → (n : ℕ) (ls : List ℕ) (m : ℕ) (rs : List ℕ) → Judgement.Image r ≡ shadowsCall base x n ls m rs
+pub shadows-image : {x : Answer ImageRefusal Graph} (r : ImageRefusal) → x ≡ refuse r → (n : ℕ) (ls : List ℕ) (m : ℕ) (rs : List ℕ) → Judgement.Image r ≡ shadowsCall base x n ls m rs
 unfolding shadowsCall
-shadows-image x r h n ls m rs = rw h refl
+shadows-image r h n ls m rs = rw h refl
 
-pub shadows-answers : (x : Answer ImageRefusal Graph) (g : Graph) → x ≡ ok g → (n : ℕ) (ls : List ℕ) (m : ℕ) (rs : List ℕ) → leftFirst (replay base (viewOf g) n ls) (replay base (viewOf g) m rs) ≡ shadowsCall base x n ls m rs
+pub shadows-answers : {x : Answer ImageRefusal Graph} (g : Graph) → x ≡ ok g → (n : ℕ) (ls : List ℕ) (m : ℕ) (rs : List ℕ) → leftFirst (replay base (viewOf g) n ls) (replay base (viewOf g) m rs) ≡ shadowsCall base x n ls m rs
 unfolding shadowsCall
-shadows-answers x g h n ls m rs = rw h refl
+shadows-answers g h n ls m rs = rw h refl

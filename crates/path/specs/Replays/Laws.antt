@@ -3,13 +3,14 @@
 use Prim.Native.Nat.{ℕ, _+_, _≤_, _<_}
 use native.Mathlib.Omega.{arith}
 use native.Mathlib.Numerals.{add-one}
-use mathlib.Core.Path.{_≡_, refl, sym, ap, ap₂, _∙_, subst, fun-ext}
+use mathlib.Core.Path.{_≡_, refl, sym, ap, _∙_, subst, fun-ext}
 use mathlib.Core.Bool.{Bool, true, false}
 use mathlib.Core.List.{List, [], _∷_}
 use lib.Dec.{ltb}
 use lib.ListN.{length, getD, drop, replicate, drop-of-length-le}
 use lib.Seq.{drop-cons}
 use borrow.Author.Tests.{lt-ltb, le-ltb, ltb-true, ltb-false}
+use Rattle.semantics.specs.ReplayedPaths.{stepAt}
 use Rattle.semantics.specs.declared.graph.Node.{Node}
 use Rattle.semantics.specs.declared.graph.Edge.{Edge}
 use Rattle.semantics.specs.declared.refusal.ReplayRefusal.{ReplayRefusal}
@@ -17,26 +18,24 @@ use Rattle.semantics.specs.declared.refusal.ReplayRefusal.the-variants as Repla
 use Rattle.semantics.specs.declared.answer.Replayed as A
 use Rattle.semantics.specs.declared.answer.Replayed.the-variants as Replayed
 use Rattle.semantics.specs.Lists.{pick}
-use Rattle.semantics.specs.Limits.{base}
+use Rattle.semantics.specs.Limits.{base, stepsLength}
 use Rattle.semantics.specs.Answer.{Answer, ok, refuse, andThen, wrap}
 use Rattle.semantics.specs.Graph.{Graph, View, viewOf}
 use Rattle.semantics.specs.Path as Model
 use Rattle.semantics.specs.Path.{appendIf, appendUnder, appendAll, fromReference, replay}
 use Rattle.semantics.specs.Path.Laws.{appendUnder-is}
-use Rattle.storage.specs.Rows.{nodeRow, edgeRow, Loaded}
-use Rattle.stepping.specs.declared.step.Step.{Step}
+use Rattle.storage.specs.Index.{nodeRow, edgeRow, Loaded}
 use Rattle.stepping.specs.declared.step.Effect.{Effect}
 use Rattle.stepping.specs.declared.step.Effect.the-variants.{Done, Refused}
-use Rattle.path.specs.declared.path.Path.{Path}
+use Rattle.semantics.specs.declared.replayed.Path.{Path}
 use Rattle.path.specs.declared.replay.ReplayOutcome as R
 use Rattle.stepping.specs.Steps.{Low}
-use Rattle.stepping.specs.StepWords.{stepAt}
 use Rattle.stepping.specs.Judged.{begunOf, judgedOf}
 use Rattle.stepping.specs.Judged.Laws.{begun-low, judged-low, begun-done, begun-refused, judged-done, judged-refused, written-low}
 use Rattle.path.specs.Shadows.Laws.{JumpAt}
 use Rattle.path.specs.Values.{isJumpEdge, startedBy, longerPath, appendedBy, Sized, Growing, Shows}
 use Rattle.path.specs.Values.Laws.{empty-room, start-sized, more-sized, shows-start, more-room, shows-more}
-use Rattle.path.specs.Replays.{leftBy, outcomeOf, tooLong, onward, oneMore, valueAlong, valueFrom, valueOf, Answers}
+use Rattle.path.specs.Replays.{outcomeOf, tooLong, onward, oneMore, valueAlong, valueFrom, valueOf, Answers}
 
 -- the rows of a loaded graph are its view
 pub nodes-are : (g : Graph) (index : List ℕ) → Loaded g index → nodeRow index ≡ (viewOf g) .node
@@ -72,7 +71,7 @@ module _ (nodes : ℕ → Node) (r : ℕ) where
   start-sound h = on (begunOf nodes r) refl h
     where
       on : (E : Effect) → begunOf nodes r ≡ E → (outcomeOf (startedBy r E)) .answer ≡ Replayed.Done → Sound ((outcomeOf (startedBy r E)) .path)
-      on (Done s) f h = record { low = written-low (replicate 1024 0) 0 s empty-room (λ j i. absurd (omega (arith, i))) (begun-low nodes r s f .0); sized = start-sized r s }
+      on (Done s) f h = record { low = written-low (replicate stepsLength 0) 0 s empty-room (λ j i. absurd (omega (arith, i))) (begun-low nodes r s f .0); sized = start-sized r s }
       on (Refused z) f h = absurd (let z : _≡_ {A = ℕ} 0 1 = cc in omega arith)
 
 module _ (nodes : ℕ → Node) (edges : ℕ → Edge) (x : Path) (e : ℕ) where
@@ -93,7 +92,7 @@ module _ (nodes : ℕ → Node) (edges : ℕ → Edge) (x : Path) (e : ℕ) wher
   appended-sound : Sound x → x .count < base .edges → (E : Effect) → judged ≡ E → (appended E) .answer ≡ Replayed.Done → Sound ((appended E) .path)
   appended-sound v few (Done s) f h = record {
     low = written-low (x .steps) (x .count + 1) s (omega (arith, few, v .sized .steps)) (v .low) (judged-low nodes (x .steps) (x .count) e (edges e) s (v .low) f);
-    sized = more-sized x e (isJumpEdge (edges e)) s (v .sized);
+    sized = more-sized e (isJumpEdge (edges e)) s (v .sized);
   }
   appended-sound v few (Refused z) f h = absurd (let z : _≡_ {A = ℕ} 0 1 = cc in omega arith)
 
@@ -167,8 +166,8 @@ module _ (g : View) (j : JumpAt g) where
 
     appended-says : x .count < base .edges → (E : Effect) → judgedOf (g .node) (x .steps) (x .count) e (g .edge e) ≡ E → Answers (followed (outcomeOf (appendedBy x e (isJumpEdge (g .edge e)) E))) modelled
     appended-says few (Done s) f =
-        let y = judged-done g (x .steps) (x .count) p (sh .stepped) (more-room x e (isJumpEdge (g .edge e)) s few (sh .sized)) e s f in
-        let q = shows-more x e (isJumpEdge (g .edge e)) s few (sh .sized) g j p sh refl y in
+        let y = judged-done g (x .steps) (x .count) p (sh .stepped) (more-room e (isJumpEdge (g .edge e)) s few (sh .sized)) e s f in
+        let q = shows-more e (isJumpEdge (g .edge e)) s few (sh .sized) j sh refl y in
         let u : appendUnder base g p e ≡ ok (q .0) = appendUnder-is base g p e (lt-ltb (length (p .edges)) (base .edges) (omega (arith, few, sh .stepped .count))) ∙ ap (wrap Replay.Path) (q .1) in
         rw u (rest-says (longerPath x e (isJumpEdge (g .edge e)) s) (q .0) (q .2))
     appended-says few (Refused z) f =
@@ -197,10 +196,10 @@ module _ (g : View) (j : JumpAt g) where
     where
       on : (E : Effect) → begunOf (g .node) r ≡ E → Answers (onward ((outcomeOf (startedBy r E)) .answer) (outcomeOf (startedBy r E)) (λ p. valueAlong (g .node) (g .edge) p es)) (andThen (wrap Replay.Path (fromReference g r)) (λ p. appendAll base g p es))
       on (Done s) f =
-          let d = begun-done g (replicate 1024 0) empty-room r s f in
-          rw (d .started) (along-says es ((startedBy r (Done s)) .path) (d .path) (shows-start g r s f d))
+          let d = begun-done g (replicate stepsLength 0) empty-room r s f in
+          rw (d .started) (along-says es ((startedBy r (Done s)) .path) (d .path) (shows-start f d))
       on (Refused z) f =
-          let k = begun-refused g (replicate 1024 0) empty-room r z f in
+          let k = begun-refused g (replicate stepsLength 0) empty-room r z f in
           rw k (refl, refl)
 
 -- on the rows of a loaded graph

@@ -42,22 +42,22 @@ pub data Trail (g : View) : ℕ → List ℕ → List Step → Type 0 where
   onto : {n e : ℕ} {t : NodeId} {es : List ℕ} {ss : List Step} (p : ℤ) → g .edge e ≡ E.Live (nodeId n) t p → eqb (t .0) 1 ≡ false → Trail g (t .0) es ss → Trail g n (e ∷ es) (along e n p ∷ ss)
   through : {n e s : ℕ} {t : NodeId} {es : List ℕ} {ss : List Step} (p : ℤ) → g .edge e ≡ E.Live (nodeId n) t p → eqb (t .0) 1 ≡ true → Trail g s es ss → Trail g n (e ∷ es) (along e n p ∷ jumped s ∷ ss)
 
-module _ (g : View) (j : JumpAt g) where
+module _ {g : View} (j : JumpAt g) where
   -- behind an edge that does not jump, the next step does not leave node 1
-  apart : (n s : ℕ) (es : List ℕ) (ss right : List Step) → eqb n 1 ≡ false → Trail g n es ss → shadowing ss (jumped s ∷ right) ≡ false
+  apart : {n : ℕ} (s : ℕ) {es : List ℕ} {ss : List Step} (right : List Step) → eqb n 1 ≡ false → Trail g n es ss → shadowing ss (jumped s ∷ right) ≡ false
   unfolding shadowing sourceOf ifSameSource
-  apart n s es ss right h nil = refl
-  apart n s es ss right h (onto p e k t) = rw h
-  apart n s es ss right h (through p e k t) = rw h
+  apart s right h nil = refl
+  apart s right h (onto p e k t) = rw h
+  apart s right h (through p e k t) = rw h
 
   eqb-flip : (a b : ℕ) → eqb a b ≡ false → eqb b a ≡ false
   eqb-flip a b h = ne-eqb b a (λ e. true≢false (sym (eq-eqb a b (sym e)) ∙ h))
 
-  apart-left : (n s : ℕ) (es : List ℕ) (left ss : List Step) → eqb n 1 ≡ false → Trail g n es ss → shadowing (jumped s ∷ left) ss ≡ false
+  apart-left : {n : ℕ} (s : ℕ) {es : List ℕ} (left : List Step) {ss : List Step} → eqb n 1 ≡ false → Trail g n es ss → shadowing (jumped s ∷ left) ss ≡ false
   unfolding shadowing sourceOf ifSameSource
-  apart-left n s es left ss h nil = refl
-  apart-left n s es left ss h (onto p e k t) = rw (eqb-flip n 1 h)
-  apart-left n s es left ss h (through p e k t) = rw (eqb-flip n 1 h)
+  apart-left s left h nil = refl
+  apart-left {n} s left h (onto p e k t) = rw (eqb-flip n 1 h)
+  apart-left {n} s left h (through p e k t) = rw (eqb-flip n 1 h)
 
   -- one pair of steps, and what comes behind it
   first-pair : (x y : ℕ) (n m : ℕ) (p q : ℤ) (left right : List Step) → shadowing (along x n p ∷ left) (along y m q ∷ right) ≡ pick (eqb n m) (pick (ltZ q p) true (shadowing left right)) false
@@ -74,10 +74,10 @@ module _ (g : View) (j : JumpAt g) where
   jump-pair s t left right = refl
 
   -- the pair of edges, by how both go on
-  paired : (n m : ℕ) (t b : NodeId) (p q : ℤ) (x y : ℕ) (c d : Bool) (rest : Bool) (steps : Bool) → g .edge x ≡ E.Live (nodeId n) t p → g .edge y ≡ E.Live (nodeId m) b q → eqb (t .0) 1 ≡ c → eqb (b .0) 1 ≡ d
+  paired : (n m : ℕ) (t b : NodeId) (p q : ℤ) (x y : ℕ) {c d : Bool} (rest : Bool) {steps : Bool} → g .edge x ≡ E.Live (nodeId n) t p → g .edge y ≡ E.Live (nodeId m) b q → eqb (t .0) 1 ≡ c → eqb (b .0) 1 ≡ d
       → steps ≡ after (alike c d) rest → pick (eqb n m) (pick (ltZ q p) true steps) false ≡ after (meet (g .edge x) (g .edge y)) rest
   unfolding meet
-  paired n m t b p q x y c d rest steps h k i l e =
+  paired n m t b p q x y rest {steps} h k i l e =
       on (eqb n m) (ltZ q p) ∙ ap₂ (λ (u v : Edge). after (meet u v) rest) (sym h) (sym k)
     where
       on : (a z : Bool) → pick a (pick z true steps) false ≡ after (pick a (pick z (Decided true) (alike (eqb (t .0) 1) (eqb (b .0) 1))) (Decided false)) rest
@@ -86,19 +86,19 @@ module _ (g : View) (j : JumpAt g) where
       on false z = refl
 
   -- THE WALK
-  pub walk-is : (l m : List ℕ) (ss tt : List Step) (a b : ℕ) → Trail g a l ss → Trail g b m tt → shadowing ss tt ≡ shadowsEdges (g .edge) l m
+  pub walk-is : {l m : List ℕ} {ss : List Step} (tt : List Step) {a b : ℕ} → Trail g a l ss → Trail g b m tt → shadowing ss tt ≡ shadowsEdges (g .edge) l m
   unfolding shadowsEdges shadowing
-  walk-is l m ss tt a b nil v = refl
-  walk-is l m ss tt a b (onto p h i u) nil = refl
-  walk-is l m ss tt a b (through p h i u) nil = refl
-  walk-is l m ss tt a b (onto {e = x} {t = t} {es = es} {ss = left} p h i u) (onto {e = y} {t = c} {es = fs} {ss = right} q k o v) =
-      first-pair x y a b p q left right ∙ paired a b t c p q x y false false (shadowsEdges (g .edge) es fs) (shadowing left right) h k i o (walk-is es fs left right (t .0) (c .0) u v)
-  walk-is l m ss tt a b (onto {e = x} {t = t} {es = es} {ss = left} p h i u) (through {e = y} {s = s} {t = c} {es = fs} {ss = right} q k o v) =
-      first-pair x y a b p q left (jumped s ∷ right) ∙ paired a b t c p q x y false true (shadowsEdges (g .edge) es fs) (shadowing left (jumped s ∷ right)) h k i o (apart (t .0) s es left right i u)
-  walk-is l m ss tt a b (through {e = x} {s = s} {t = t} {es = es} {ss = left} p h i u) (onto {e = y} {t = c} {es = fs} {ss = right} q k o v) =
-      first-pair x y a b p q (jumped s ∷ left) right ∙ paired a b t c p q x y true false (shadowsEdges (g .edge) es fs) (shadowing (jumped s ∷ left) right) h k i o (apart-left (c .0) s fs left right o v)
-  walk-is l m ss tt a b (through {e = x} {s = s} {t = t} {es = es} {ss = left} p h i u) (through {e = y} {s = z} {t = c} {es = fs} {ss = right} q k o v) =
-      first-pair x y a b p q (jumped s ∷ left) (jumped z ∷ right) ∙ paired a b t c p q x y true true (shadowsEdges (g .edge) es fs) (shadowing (jumped s ∷ left) (jumped z ∷ right)) h k i o (jump-pair s z left right ∙ walk-is es fs left right s z u v)
+  walk-is tt nil v = refl
+  walk-is tt (onto p h i u) nil = refl
+  walk-is tt (through p h i u) nil = refl
+  walk-is tt {a} {b} (onto {e = x} {t = t} {es = es} {ss = left} p h i u) (onto {e = y} {t = c} {es = fs} {ss = right} q k o v) =
+      first-pair x y a b p q left right ∙ paired a b t c p q x y (shadowsEdges (g .edge) es fs) h k i o (walk-is right u v)
+  walk-is tt {a} {b} (onto {e = x} {t = t} {es = es} {ss = left} p h i u) (through {e = y} {s = s} {t = c} {es = fs} {ss = right} q k o v) =
+      first-pair x y a b p q left (jumped s ∷ right) ∙ paired a b t c p q x y (shadowsEdges (g .edge) es fs) h k i o (apart s right i u)
+  walk-is tt {a} {b} (through {e = x} {s = s} {t = t} {es = es} {ss = left} p h i u) (onto {e = y} {t = c} {es = fs} {ss = right} q k o v) =
+      first-pair x y a b p q (jumped s ∷ left) right ∙ paired a b t c p q x y (shadowsEdges (g .edge) es fs) h k i o (apart-left s left o v)
+  walk-is tt {a} {b} (through {e = x} {s = s} {t = t} {es = es} {ss = left} p h i u) (through {e = y} {s = z} {t = c} {es = fs} {ss = right} q k o v) =
+      first-pair x y a b p q (jumped s ∷ left) (jumped z ∷ right) ∙ paired a b t c p q x y (shadowsEdges (g .edge) es fs) h k i o (jump-pair s z left right ∙ walk-is right u v)
 
 -- THE STEPS THAT AN APPEND ADDS
 pub data Went (g : View) (p q : Path) (e t : ℕ) (pr : ℤ) : Type 0 where
@@ -114,11 +114,11 @@ jump-went g n (s ∷ rest) p x q h = on (isExported (g .node s)) h
     on true k = subst (λ (y : Path). y .steps ≡ x .steps ++ (jumped (y .end) ∷ [])) (ok-inj _ q k) refl
     on false k = absurd (refuse-ok (UnknownAttachedScope (nodeId s)) q k)
 
-kind-differs : (n m : Node) → n ≡ m → (traits n) .shared ≡ false → m ≡ N.JumpToScope → ⊥
-kind-differs n m e f h = true≢false (sym (ap (λ (x : Node). (traits x) .shared) (e ∙ h)) ∙ f)
+kind-differs : {n m : Node} → n ≡ m → (traits n) .shared ≡ false → m ≡ N.JumpToScope → ⊥
+kind-differs e f h = true≢false (sym (ap (λ (x : Node). (traits x) .shared) (e ∙ h)) ∙ f)
 
-root-differs : (n : Node) → n ≡ N.Root → n ≡ N.JumpToScope → ⊥
-root-differs n e h = let z : _≡_ {A = Bool} true false = cc in true≢false z
+root-differs : {n : Node} → n ≡ N.Root → n ≡ N.JumpToScope → ⊥
+root-differs e h = let z : _≡_ {A = Bool} true false = cc in true≢false z
 
 pub went : (g : View) (p q : Path) (e t : ℕ) (pr : ℤ) → extend g p e t pr ≡ ok q → Went g p q e t pr
 unfolding extend land apply
@@ -137,16 +137,16 @@ went g p q e t pr h = on (g .node t) refl (k .0) (k .1) (k .2)
 
     on : (n : Node) → g .node t ≡ n → (st : Stacks) → apply g t n (p .stacks) ≡ ok st → land g t n (behind st) ≡ ok q → Went g p q e t pr
     on N.Removed f st a l = absurd (refuse-ok (UnknownNode (nodeId t)) st a)
-    on N.Root f st a l = stayed N.Root f (root-differs N.Root refl) st l
+    on N.Root f st a l = stayed N.Root f (root-differs {n = N.Root} refl) st l
     on N.JumpToScope f st a l = jumping f (jump-went g t (st .scopes) p (behind st) q l ∙ append-assoc (p .steps) (along e (p .end) pr ∷ []) (jumped (q .end) ∷ []))
-    on (N.Scope i y) f st a l = stayed (N.Scope i y) f (λ z. kind-differs (N.Scope i y) (N.Scope i y) refl refl z) st l
-    on (N.Push i s r) f st a l = stayed (N.Push i s r) f (λ z. kind-differs (N.Push i s r) (N.Push i s r) refl refl z) st l
-    on (N.Pop i s d) f st a l = stayed (N.Pop i s d) f (λ z. kind-differs (N.Pop i s d) (N.Pop i s d) refl refl z) st l
-    on (N.PushScoped i s c r) f st a l = stayed (N.PushScoped i s c r) f (λ z. kind-differs (N.PushScoped i s c r) (N.PushScoped i s c r) refl refl z) st l
-    on (N.PopScoped i s d) f st a l = stayed (N.PopScoped i s d) f (λ z. kind-differs (N.PopScoped i s d) (N.PopScoped i s d) refl refl z) st l
-    on (N.DropScopes i) f st a l = stayed (N.DropScopes i) f (λ z. kind-differs (N.DropScopes i) (N.DropScopes i) refl refl z) st l
+    on (N.Scope i y) f st a l = stayed (N.Scope i y) f (λ z. kind-differs {n = N.Scope i y} refl refl z) st l
+    on (N.Push i s r) f st a l = stayed (N.Push i s r) f (λ z. kind-differs {n = N.Push i s r} refl refl z) st l
+    on (N.Pop i s d) f st a l = stayed (N.Pop i s d) f (λ z. kind-differs {n = N.Pop i s d} refl refl z) st l
+    on (N.PushScoped i s c r) f st a l = stayed (N.PushScoped i s c r) f (λ z. kind-differs {n = N.PushScoped i s c r} refl refl z) st l
+    on (N.PopScoped i s d) f st a l = stayed (N.PopScoped i s d) f (λ z. kind-differs {n = N.PopScoped i s d} refl refl z) st l
+    on (N.DropScopes i) f st a l = stayed (N.DropScopes i) f (λ z. kind-differs {n = N.DropScopes i} refl refl z) st l
 
-module _ (g : View) (j : JumpAt g) (bd : Bounds) where
+module _ {g : View} (j : JumpAt g) (bd : Bounds) where
   -- the steps that a list adds are a trail
   pub all-trail : (es : List ℕ) (p q : Path) → appendAll bd g p es ≡ ok q → (ss : List Step) × (q .steps ≡ p .steps ++ ss) × Trail g (p .end) es ss
   unfolding appendAll
@@ -182,7 +182,7 @@ module _ (g : View) (j : JumpAt g) (bd : Bounds) where
   -- `shadows` of two replayed paths, on their edges
   pub shadows-edges : (r s : ℕ) (l m : List ℕ) (p q : Path) → replay bd g r l ≡ ok p → replay bd g s m ≡ ok q → shadows p q ≡ shadowsEdges (g .edge) l m
   unfolding shadows
-  shadows-edges r s l m p q h k = walk-is g j l m (p .steps) (q .steps) r s (replay-trail r l p h) (replay-trail s m q k)
+  shadows-edges r s l m p q h k = walk-is j (q .steps) (replay-trail r l p h) (replay-trail s m q k)
 
 -- THE LOOP: what is left to walk behind i edges
 module _ (edges : ℕ → Edge) (l r : List ℕ) where
@@ -202,7 +202,7 @@ module _ (edges : ℕ → Edge) (l r : List ℕ) where
       on [] = refl
       on (y ∷ x) = refl
 
-  module _ (m : Met) (i : ℕ) (h : i < length l) (k : i < length r) (is : m ≡ meet (edges (getD l i 0)) (edges (getD r i 0))) where
+  module _ {m : Met} (i : ℕ) (h : i < length l) (k : i < length r) (is : m ≡ meet (edges (getD l i 0)) (edges (getD r i 0))) where
     pub walk-decided : (b : Bool) → m ≡ Decided b → yes m ≡ shadowsEdges edges (drop i l) (drop i r)
     walk-decided b e = ap yes e ∙ sym (walk-one i h k ∙ ap (λ (x : Met). after x (shadowsEdges edges (drop (i + 1) l) (drop (i + 1) r))) (sym is ∙ e))
 

@@ -9,11 +9,13 @@ use mathlib.Core.List.{List, [], _∷_, _++_}
 use lib.ListN.{length, getD, set, take, replicate, length-set, length-replicate}
 use lib.Seq.{getD-set-same, getD-set-other, take-suc-set}
 use borrow.Author.Tests.{eq-eqb, ne-eqb}
+use Rattle.semantics.specs.Limits.{stepsLength, stepLength, maxEdges}
+use Rattle.semantics.specs.ReplayedPaths.{stepAt, scopesFrom, symbolsFrom, passagesTo, readPath}
 use Rattle.semantics.specs.declared.refusal.PathRefusal.{PathRefusal}
-use Rattle.stepping.specs.declared.step.Step.{Step}
+use Rattle.semantics.specs.declared.replayed.Step.{Step}
 use Rattle.stepping.specs.declared.step.Effect.{Effect}
 use Rattle.stepping.specs.declared.step.Effect.the-variants.{Done, Refused}
-use Rattle.path.specs.declared.path.Path.{Path}
+use Rattle.semantics.specs.declared.replayed.Path.{Path}
 use Rattle.path.specs.declared.path.Grown as G
 use Rattle.semantics.specs.Lists.{consIf}
 use Rattle.semantics.specs.Answer.{ok}
@@ -22,33 +24,32 @@ use Rattle.semantics.specs.Path as Model
 use Rattle.semantics.specs.Path.{along, jumped, append}
 use Rattle.semantics.specs.Path.Laws.{Appended, append-ok}
 use Rattle.semantics.specs.Calls.{Passage, edge, jump, passages, noPath}
-use Rattle.stepping.specs.Steps.{scopesFrom, symbolsFrom}
-use Rattle.stepping.specs.StepWords.{stepAt, withStep}
+use Rattle.stepping.specs.StepWords.{withStep}
 use Rattle.stepping.specs.StepWords.Laws.{step-same, step-other}
 use Rattle.stepping.specs.Judged.{begunOf}
 use Rattle.stepping.specs.Judged.Laws.{Begun, Grown}
 use Rattle.path.specs.Shadows.Laws.{JumpAt, Went, plainly, jumping, went}
-use Rattle.path.specs.Values.{emptyPath, isJumpEdge, startedBy, longerPath, appendedBy, Sized, passagesTo, readPath, Shows}
+use Rattle.path.specs.Values.{emptyPath, isJumpEdge, startedBy, longerPath, appendedBy, Sized, Shows}
 
 -- THE VALUES THAT ARE BUILT
-pub started-refused : (r : ℕ) (E : Effect) (x : PathRefusal) (p : Path) → E ≡ Refused x → p ≡ emptyPath → _≡_ {A = G.Grown} (record { effect = E; path = p }) (startedBy r E)
-started-refused r E x p h k = (λ i. record { effect = h i; path = k i }) ∙ ap (startedBy r) (sym h)
+pub started-refused : (r : ℕ) (E : Effect) (x : PathRefusal) {p : Path} → E ≡ Refused x → p ≡ emptyPath → _≡_ {A = G.Grown} (record { effect = E; path = p }) (startedBy r E)
+started-refused r E x h k = (λ i. record { effect = h i; path = k i }) ∙ ap (startedBy r) (sym h)
 
-pub started-done : (r : ℕ) (s : Step) (x : Path) (w : List ℕ) → x ≡ emptyPath → w ≡ withStep (x .steps) 0 s
+pub started-done : (r : ℕ) (s : Step) {x : Path} {w : List ℕ} → x ≡ emptyPath → w ≡ withStep (x .steps) 0 s
     → _≡_ {A = G.Grown} (record { effect = Done s; path = record { start = r; end = r; count = x .count; edges = x .edges; jumps = x .jumps; steps = w } }) (startedBy r (Done s))
-started-done r s x w h k =
-    let z : w ≡ withStep (replicate 1024 0) 0 s = k ∙ ap (λ (y : Path). withStep (y .steps) 0 s) h in
+started-done r s {w} h k =
+    let z : w ≡ withStep (replicate stepsLength 0) 0 s = k ∙ ap (λ (y : Path). withStep (y .steps) 0 s) h in
     λ i. record { effect = Done s; path = record { start = r; end = r; count = h i .count; edges = h i .edges; jumps = h i .jumps; steps = z i } }
 
 pub appended-refused : (p : Path) (e : ℕ) (j : Bool) (E : Effect) (x : PathRefusal) → E ≡ Refused x → _≡_ {A = G.Grown} (record { effect = E; path = p }) (appendedBy p e j E)
 appended-refused p e j E x h = (λ i. record { effect = h i; path = p }) ∙ ap (appendedBy p e j) (sym h)
 
-pub appended-done : (p : Path) (e : ℕ) (j : Bool) (s : Step) (w : List ℕ) → w ≡ withStep (p .steps) (p .count + 1) s
+pub appended-done : (p : Path) (e : ℕ) (j : Bool) (s : Step) {w : List ℕ} → w ≡ withStep (p .steps) (p .count + 1) s
     → _≡_ {A = G.Grown} (record { effect = Done s; path = record { start = p .start; end = s .end; count = p .count + 1; edges = set (p .edges) (p .count) e; jumps = set (p .jumps) (p .count) j; steps = w } }) (appendedBy p e j (Done s))
-appended-done p e j s w k = λ i. record { effect = Done s; path = record { start = p .start; end = s .end; count = p .count + 1; edges = set (p .edges) (p .count) e; jumps = set (p .jumps) (p .count) j; steps = k i } }
+appended-done p e j s k = λ i. record { effect = Done s; path = record { start = p .start; end = s .end; count = p .count + 1; edges = set (p .edges) (p .count) e; jumps = set (p .jumps) (p .count) j; steps = k i } }
 
-pub empty-long : (p : Path) → p ≡ emptyPath → 8 ≤ length (p .steps)
-empty-long p h = subst (λ (x : Path). 8 ≤ length (x .steps)) (sym h) (omega (arith, length-replicate {A = ℕ} 1024 0))
+pub empty-long : {p : Path} → p ≡ emptyPath → stepLength ≤ length (p .steps)
+empty-long h = subst (λ (x : Path). stepLength ≤ length (x .steps)) (sym h) (omega (arith, length-replicate {A = ℕ} stepsLength 0))
 
 -- WHAT THE VALUES STAND FOR
 length-step : (l : List ℕ) (k : ℕ) (s : Step) → length (withStep l k s) ≡ length l
@@ -60,8 +61,8 @@ passages-append [] m = refl
 passages-append (along e n p ∷ l) m = ap (λ (x : List Passage). edge e ∷ x) (passages-append l m)
 passages-append (jumped n ∷ l) m = ap (λ (x : List Passage). jump n ∷ x) (passages-append l m)
 
-pub append-passages : (g : View) (j : JumpAt g) (p q : Model.Path) (e : ℕ) → append g p e ≡ ok q → passages (q .steps) ≡ passages (p .steps) ++ (edge e ∷ consIf (isJumpEdge (g .edge e)) (jump (q .end)) [])
-append-passages g j p q e h =
+pub append-passages : {g : View} (j : JumpAt g) (p q : Model.Path) (e : ℕ) → append g p e ≡ ok q → passages (q .steps) ≡ passages (p .steps) ++ (edge e ∷ consIf (isJumpEdge (g .edge e)) (jump (q .end)) [])
+append-passages {g} j p q e h =
     let k = append-ok g p q e h in
     on k (went g p q e (k .target .0) (k .precedence) (k .extended))
   where
@@ -73,19 +74,19 @@ append-passages g j p q e h =
         let z : isJumpEdge (g .edge e) ≡ true = ap isJumpEdge (k .found) ∙ eq-eqb (k .target .0) 1 (j .only (k .target .0) i) in
         ap passages st ∙ passages-append (p .steps) _ ∙ ap (λ (b : Bool). passages (p .steps) ++ (edge e ∷ consIf b (jump (q .end)) [])) (sym z)
 
-pub empty-room : 8 ≤ length (replicate {A = ℕ} 1024 0)
-empty-room = omega (arith, length-replicate {A = ℕ} 1024 0)
+pub empty-room : stepLength ≤ length (replicate {A = ℕ} stepsLength 0)
+empty-room = omega (arith, length-replicate {A = ℕ} stepsLength 0)
 
 pub start-sized : (r : ℕ) (s : Step) → Sized ((startedBy r (Done s)) .path)
-start-sized r s = record { edges = length-replicate {A = ℕ} 127 0; jumps = length-replicate {A = Bool} 127 false; steps = length-step (replicate 1024 0) 0 s ∙ length-replicate {A = ℕ} 1024 0 }
+start-sized r s = record { edges = length-replicate {A = ℕ} maxEdges 0; jumps = length-replicate {A = Bool} maxEdges false; steps = length-step (replicate stepsLength 0) 0 s ∙ length-replicate {A = ℕ} stepsLength 0 }
 
-pub more-sized : (x : Path) (e : ℕ) (j : Bool) (s : Step) → Sized x → Sized (longerPath x e j s)
-more-sized x e j s z = record { edges = length-set (x .edges) (x .count) e ∙ z .edges; jumps = length-set (x .jumps) (x .count) j ∙ z .jumps; steps = length-step (x .steps) (x .count + 1) s ∙ z .steps }
+pub more-sized : {x : Path} (e : ℕ) (j : Bool) (s : Step) → Sized x → Sized (longerPath x e j s)
+more-sized {x} e j s z = record { edges = length-set (x .edges) (x .count) e ∙ z .edges; jumps = length-set (x .jumps) (x .count) j ∙ z .jumps; steps = length-step (x .steps) (x .count + 1) s ∙ z .steps }
 
 -- at the start
-pub shows-start : (g : View) (r : ℕ) (s : Step) → begunOf (g .node) r ≡ Done s → (b : Begun g (replicate 1024 0) empty-room r s) → Shows ((startedBy r (Done s)) .path) (b .path)
+pub shows-start : {g : View} {r : ℕ} {s : Step} → begunOf (g .node) r ≡ Done s → (b : Begun g (replicate stepsLength 0) empty-room r s) → Shows ((startedBy r (Done s)) .path) (b .path)
 unfolding passagesTo
-shows-start g r s h b = record {
+shows-start {r} {s} h b = record {
   sized = start-sized r s;
   stepped = b .stepped;
   start = sym (b .start);
@@ -95,11 +96,11 @@ shows-start g r s h b = record {
 }
 
 -- behind an edge
-module _ (x : Path) (e : ℕ) (j : Bool) (s : Step) (few : x .count < 127) (z : Sized x) where
+module _ {x : Path} (e : ℕ) (j : Bool) (s : Step) (few : x .count < maxEdges) (z : Sized x) where
   abbrev next : Path
   next = longerPath x e j s
 
-  pub more-room : 8 * (x .count + 1) + 8 ≤ length (x .steps)
+  pub more-room : stepLength * (x .count + 1) + stepLength ≤ length (x .steps)
   more-room = omega (arith, z .steps, few)
 
   older : (k : ℕ) → k ≤ x .count → passagesTo next k ≡ passagesTo x k
@@ -122,24 +123,24 @@ module _ (x : Path) (e : ℕ) (j : Bool) (s : Step) (few : x .count < 127) (z : 
       let d = older (x .count) (omega arith) in
       ap (passagesTo next) (sym q) ∙ (λ i. d i ++ (edge (a i) ∷ consIf (b i) (jump (c i .end)) []))
 
-  pub shows-more : (g : View) (at : JumpAt g) (p : Model.Path) (sh : Shows x p) → j ≡ isJumpEdge (g .edge e) → Grown g (x .steps) (x .count) p (sh .stepped) more-room e s → (q : Model.Path) × (append g p e ≡ ok q) × Shows next q
-  shows-more g at p sh is y =
+  pub shows-more : {g : View} (at : JumpAt g) {p : Model.Path} (sh : Shows x p) → j ≡ isJumpEdge (g .edge e) → Grown g (x .steps) (x .count) p (sh .stepped) more-room e s → (q : Model.Path) × (append g p e ≡ ok q) × Shows next q
+  shows-more {g} at {p} sh is y =
       let k = append-ok g p (y .path) e (y .appended) in (
         y .path,
         y .appended,
         record {
-          sized = more-sized x e j s z;
+          sized = more-sized e j s z;
           stepped = y .stepped;
           start = sh .start ∙ sym (k .added .start);
           end = y .end;
           edges = ap (λ n. take n (set (x .edges) (x .count) e)) (add-one (x .count)) ∙ take-suc-set (x .edges) (x .count) e (omega (arith, z .edges, few)) ∙ ap (λ (l : List ℕ). l ++ (e ∷ [])) (sh .edges) ∙ sym (k .added .edges);
-          steps = newest ∙ ap₂ (λ (l : List Passage) (b : Bool). l ++ (edge e ∷ consIf b (jump (s .end)) [])) (sh .steps) is ∙ ap (λ n. passages (p .steps) ++ (edge e ∷ consIf (isJumpEdge (g .edge e)) (jump n) [])) (y .end) ∙ sym (append-passages g at p (y .path) e (y .appended));
+          steps = newest ∙ ap₂ (λ (l : List Passage) (b : Bool). l ++ (edge e ∷ consIf b (jump (s .end)) [])) (sh .steps) is ∙ ap (λ n. passages (p .steps) ++ (edge e ∷ consIf (isJumpEdge (g .edge e)) (jump n) [])) (y .end) ∙ sym (append-passages at p (y .path) e (y .appended));
         },
       )
 
 -- WHAT IS READ
-pub reads : (x : Path) (p : Model.Path) → Shows x p → readPath x ≡ record { end = p .end; steps = passages (p .steps); symbols = p .stacks .symbols; scopes = p .stacks .scopes }
-reads x p sh = λ i. record { end = sh .end i; steps = sh .steps i; symbols = sym (sh .stepped .stacks) i .symbols; scopes = sym (sh .stepped .stacks) i .scopes }
+pub reads : {x : Path} {p : Model.Path} → Shows x p → readPath x ≡ record { end = p .end; steps = passages (p .steps); symbols = p .stacks .symbols; scopes = p .stacks .scopes }
+reads sh = λ i. record { end = sh .end i; steps = sh .steps i; symbols = sym (sh .stepped .stacks) i .symbols; scopes = sym (sh .stepped .stacks) i .scopes }
 
 pub reads-empty : readPath emptyPath ≡ noPath
 unfolding passagesTo symbolsFrom scopesFrom

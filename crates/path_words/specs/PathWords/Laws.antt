@@ -8,41 +8,40 @@ use mathlib.Core.Bool.{Bool, true, false, true≢false}
 use mathlib.Core.Option.{none, some}
 use mathlib.Core.List.{List, [], _∷_, _++_, append-assoc, append-nil}
 use lib.ListN.{length, getD}
+use Rattle.semantics.specs.Written.{written}
+use Rattle.semantics.specs.ReplayedPaths.{stepAt, scopesFrom, scopesOf, attachedOf, symbolsFrom, symbolsOf, passagesTo, readPath}
 use Rattle.semantics.specs.Lists.{consIf}
 use Rattle.semantics.specs.Words.{zeros}
 use Rattle.semantics.specs.Calls.{Passage, edge, jump, noPath}
-use Rattle.stepping.specs.declared.step.Step.{Step}
-use Rattle.stepping.specs.Steps.{scopesFrom, scopesOf, attachedOf, symbolsFrom, symbolsOf}
-use Rattle.stepping.specs.StepWords.{stepAt}
-use Rattle.path.specs.declared.path.Path.{Path}
-use Rattle.path.specs.Values.{passagesTo, readPath}
-use Rattle.path_words.specs.Written.{written, Holds, Adds}
+use Rattle.semantics.specs.declared.replayed.Step.{Step}
+use Rattle.semantics.specs.declared.replayed.Path.{Path}
+use Rattle.path_words.specs.Written.{Filled, Adds}
 use Rattle.path_words.specs.Written.Laws.{holds-none}
-use Rattle.path_words.specs.PathWords.{closed, stepWords, scopeWords, symbolWord, symbolWords, pathWords}
+use Rattle.semantics.specs.PathWords.{closed, stepWords, scopeWords, symbolWord, symbolWords, pathWords}
 
 -- of the numbers `all` that are to be added, `rest` are left
 abbrev pub Left : List ℕ → ℕ → List ℕ → List ℕ → ℕ → List ℕ → Type 0
-Left before from all now at rest = (l : List ℕ) → Holds before from l → (m : List ℕ) × Holds now at m × (m ++ rest ≡ l ++ all)
+Left before from all now at rest = (l : List ℕ) → Filled before from l → (m : List ℕ) × Filled now at m × (m ++ rest ≡ l ++ all)
 
 pub adds-none : (a : List ℕ) (k : ℕ) → Adds a k a k []
-adds-none a k l h = subst (Holds a k) (sym (append-nil l)) h
+adds-none a k l h = subst (Filled a k) (sym (append-nil l)) h
 
 pub adds-then : (a b c : List ℕ) (i j k : ℕ) (x y : List ℕ) → Adds a i b j x → Adds b j c k y → Adds a i c k (x ++ y)
-adds-then a b c i j k x y f g l h = subst (Holds c k) (append-assoc l x y) (g (l ++ x) (f l h))
+adds-then a b c i j k x y f g l h = subst (Filled c k) (append-assoc l x y) (g (l ++ x) (f l h))
 
 pub left-start : (a : List ℕ) (k : ℕ) (x : List ℕ) → Left a k x a k x
 left-start a k x l h = (l, h, refl)
 
-pub left-more : (a b c : List ℕ) (i j k : ℕ) (all x rest next : List ℕ) → rest ≡ x ++ next → Left a i all b j rest → Adds b j c k x → Left a i all c k next
-left-more a b c i j k all x rest next e f g l h =
+pub left-more : (a b c : List ℕ) (i j k : ℕ) (all x : List ℕ) {rest : List ℕ} (next : List ℕ) → rest ≡ x ++ next → Left a i all b j rest → Adds b j c k x → Left a i all c k next
+left-more a b c i j k all x next e f g l h =
     let r = f l h in
     (r .0 ++ x, g (r .0) (r .1), append-assoc (r .0) x next ∙ ap (λ (n : List ℕ). r .0 ++ n) (sym e) ∙ r .2)
 
-pub left-end : (a b c : List ℕ) (i j k : ℕ) (all rest : List ℕ) → rest ≡ [] → Left a i all b j rest → Adds b j c k (0 ∷ []) → Adds a i c k (closed all)
-left-end a b c i j k all rest e f g l h =
+pub left-end : (a b c : List ℕ) (i j k : ℕ) (all : List ℕ) {rest : List ℕ} → rest ≡ [] → Left a i all b j rest → Adds b j c k (0 ∷ []) → Adds a i c k (closed all)
+left-end a b c i j k all e f g l h =
     let r = f l h in
     let q : r .0 ≡ l ++ all = sym (append-nil (r .0)) ∙ ap (λ (n : List ℕ). r .0 ++ n) (sym e) ∙ r .2 in
-    subst (Holds c k) (ap closed q ∙ append-assoc l all (0 ∷ [])) (g (r .0) (r .1))
+    subst (Filled c k) (ap closed q ∙ append-assoc l all (0 ∷ [])) (g (r .0) (r .1))
 
 -- THE STACKS
 module _ (f : ℕ → Step) where
@@ -57,11 +56,11 @@ module _ (f : ℕ → Step) where
   scopes-out zero c h = refl
   scopes-out (suc n) c h = absurd (omega arith)
 
-  pub scopes-turn : (n c s d : ℕ) → 0 < n → 0 < c → s ≡ f (c - 1) .scope → d ≡ f (c - 1) .scopes → scopeWords (scopesFrom f n c) ≡ (1 ∷ s ∷ []) ++ scopeWords (scopesFrom f (n - 1) d)
+  pub scopes-turn : (n c : ℕ) {s d : ℕ} → 0 < n → 0 < c → s ≡ f (c - 1) .scope → d ≡ f (c - 1) .scopes → scopeWords (scopesFrom f n c) ≡ (1 ∷ s ∷ []) ++ scopeWords (scopesFrom f (n - 1) d)
   unfolding scopesFrom scopeWords
-  scopes-turn zero c s d h k e g = absurd (not-suc-le-zero h)
-  scopes-turn (suc n) zero s d h k e g = absurd (not-suc-le-zero k)
-  scopes-turn (suc n) (suc c) s d h k e g =
+  scopes-turn zero c h k e g = absurd (not-suc-le-zero h)
+  scopes-turn (suc n) zero h k e g = absurd (not-suc-le-zero k)
+  scopes-turn (suc n) (suc c) {s} {d} h k e g =
       let x : suc n - 1 ≡ n = omega arith in
       let y : suc c - 1 ≡ c = omega arith in
       let e2 : f c .scope ≡ s = sym (e ∙ ap (λ (j : ℕ). f j .scope) y) in
@@ -79,26 +78,26 @@ module _ (f : ℕ → Step) where
   symbols-out zero c h = refl
   symbols-out (suc n) c h = absurd (omega arith)
 
-  pub symbols-turn : (n c d : ℕ) → 0 < n → 0 < c → d ≡ f (c - 1) .below → symbolWords (symbolsFrom f n c) ≡ symbolWord (f (c - 1) .symbol) (attachedOf f (f (c - 1) .attached)) ++ symbolWords (symbolsFrom f (n - 1) d)
+  pub symbols-turn : (n c : ℕ) {d : ℕ} → 0 < n → 0 < c → d ≡ f (c - 1) .below → symbolWords (symbolsFrom f n c) ≡ symbolWord (f (c - 1) .symbol) (attachedOf f (f (c - 1) .attached)) ++ symbolWords (symbolsFrom f (n - 1) d)
   unfolding symbolsFrom symbolWords
-  symbols-turn zero c d h k g = absurd (not-suc-le-zero h)
-  symbols-turn (suc n) zero d h k g = absurd (not-suc-le-zero k)
-  symbols-turn (suc n) (suc c) d h k g =
+  symbols-turn zero c h k g = absurd (not-suc-le-zero h)
+  symbols-turn (suc n) zero h k g = absurd (not-suc-le-zero k)
+  symbols-turn (suc n) (suc c) {d} h k g =
       let x : suc n - 1 ≡ n = omega arith in
       let y : suc c - 1 ≡ c = omega arith in
       let g2 : f c .below ≡ d = sym (g ∙ ap (λ (j : ℕ). f j .below) y) in
       (λ i. symbolWord (f (sym y i) .symbol) (attachedOf f (f (sym y i) .attached)) ++ symbolWords (symbolsFrom f (sym x i) (g2 i)))
 
   -- a symbol without scopes, and one with scopes
-  pub symbol-plain : (x y c : ℕ) → x ≡ y → c < 1 → 1 ∷ x ∷ [] ≡ symbolWord y (attachedOf f c)
+  pub symbol-plain : {x y : ℕ} (c : ℕ) → x ≡ y → c < 1 → 1 ∷ x ∷ [] ≡ symbolWord y (attachedOf f c)
   unfolding symbolWord
-  symbol-plain x y zero e h = ap (λ (z : ℕ). 1 ∷ z ∷ []) e
-  symbol-plain x y (suc c) e h = absurd (omega arith)
+  symbol-plain zero e h = ap (λ (z : ℕ). 1 ∷ z ∷ []) e
+  symbol-plain (suc c) e h = absurd (omega arith)
 
-  pub symbol-scoped : (x y c : ℕ) → x ≡ y → 0 < c → (2 ∷ x ∷ []) ++ closed (scopeWords (scopesFrom f c c)) ≡ symbolWord y (attachedOf f c)
+  pub symbol-scoped : {x y : ℕ} (c : ℕ) → x ≡ y → 0 < c → (2 ∷ x ∷ []) ++ closed (scopeWords (scopesFrom f c c)) ≡ symbolWord y (attachedOf f c)
   unfolding symbolWord
-  symbol-scoped x y zero e h = absurd (not-suc-le-zero h)
-  symbol-scoped x y (suc c) e h = ap (λ (z : ℕ). 2 ∷ z ∷ closed (scopeWords (scopesFrom f (suc c) (suc c)))) e
+  symbol-scoped zero e h = absurd (not-suc-le-zero h)
+  symbol-scoped (suc c) e h = ap (λ (z : ℕ). 2 ∷ z ∷ closed (scopeWords (scopesFrom f (suc c) (suc c)))) e
 
 -- THE STEPS
 steps-append : (ps qs : List Passage) → stepWords (ps ++ qs) ≡ stepWords ps ++ stepWords qs
@@ -112,10 +111,10 @@ unfolding stepWords passagesTo
 steps-none p = refl
 
 -- one edge more, and the jump behind it
-pub steps-turn : (p : Path) (i e t : ℕ) (j : Bool) → e ≡ getD (p .edges) i 0 → j ≡ getD (p .jumps) i false → t ≡ stepAt (p .steps) (i + 1) .end
+pub steps-turn : (p : Path) (i : ℕ) {e t : ℕ} {j : Bool} → e ≡ getD (p .edges) i 0 → j ≡ getD (p .jumps) i false → t ≡ stepAt (p .steps) (i + 1) .end
     → stepWords (passagesTo p i) ++ ((1 ∷ e ∷ []) ++ stepWords (consIf j (jump t) [])) ≡ stepWords (passagesTo p (i + 1))
 unfolding stepWords passagesTo
-steps-turn p i e t j a b d =
+steps-turn p i {t} a b d =
     let s : i + 1 ≡ suc i = add-one i in
     let t2 : t ≡ stepAt (p .steps) (suc i) .end = d ∙ ap (λ (k : ℕ). stepAt (p .steps) k .end) s in
     (λ k. stepWords (passagesTo p i) ++ stepWords (edge (a k) ∷ consIf (b k) (jump (t2 k)) []))
@@ -134,7 +133,7 @@ jump-some true t e = refl
 jump-some false t e = absurd (true≢false (sym e))
 
 -- THE WHOLE PATH: a zero area, and its four parts written one behind the other
-pub path-written : (p : Path) (n s t : ℕ) (a b c d e : List ℕ) (i j k m : ℕ) → length a ≡ n → a ≡ zeros n → length e ≡ n
+pub path-written : (p : Path) {n s t : ℕ} {a : List ℕ} (b c d e : List ℕ) (i j k m : ℕ) → length a ≡ n → a ≡ zeros n → length e ≡ n
     → s ≡ stepAt (p .steps) (p .count) .symbols → t ≡ stepAt (p .steps) (p .count) .scopes
     → Adds a 0 b i (p .end ∷ [])
     → Adds b i c j (closed (stepWords (passagesTo p (p .count))))
@@ -142,7 +141,7 @@ pub path-written : (p : Path) (n s t : ℕ) (a b c d e : List ℕ) (i j k m : �
     → Adds d k e m (closed (scopeWords (scopesOf (stepAt (p .steps)) t)))
     → e ≡ written n (pathWords (readPath p))
 unfolding pathWords
-path-written p n s t a b c d e i j k m u z v g h w x y o =
+path-written p {n} {s} {t} {a} b c d e i j k m u z v g h w x y o =
     let f = stepAt (p .steps) in
     let steps = closed (stepWords (passagesTo p (p .count))) in
     let all = adds-then a b e 0 i m (p .end ∷ []) _ w (adds-then b c e i j m steps _ x (adds-then c d e j k m (closed (symbolWords (symbolsOf f s))) (closed (scopeWords (scopesOf f t))) y o)) in

@@ -5,8 +5,9 @@ use native.Mathlib.Numerals.{add-one}
 use mathlib.Core.Path.{_≡_, refl, sym, ap, ap₂, subst, _∙_}
 use mathlib.Core.List.{List, [], _∷_, _++_}
 use lib.ListN.{length, getD, set, length-set}
+use Rattle.semantics.specs.Written.{written}
 use Rattle.semantics.specs.Words.{zeros}
-use Rattle.path_words.specs.Written.{written, reached, Holds}
+use Rattle.path_words.specs.Written.{reached, Filled}
 
 pub written-length : (n : ℕ) (ns : List ℕ) → length (written n ns) ≡ n
 unfolding written
@@ -50,7 +51,7 @@ place-full (suc n) [] v h = absurd (not-suc-le-zero h)
 place-full (suc n) (x ∷ ns) v h = ap suc (place-full n ns v (le-of-suc-le-suc h))
 
 -- a number put at the place that was reached
-pub holds-more : (area : List ℕ) (at v : ℕ) (ns : List ℕ) → at < length area → Holds area at ns → Holds (set area at v) (at + 1) (ns ++ (v ∷ []))
+pub holds-more : (area : List ℕ) (at v : ℕ) (ns : List ℕ) → at < length area → Filled area at ns → Filled (set area at v) (at + 1) (ns ++ (v ∷ []))
 holds-more area at v ns h k =
     let n = length area in
     let s : length (set area at v) ≡ n = length-set area at v in
@@ -61,7 +62,7 @@ holds-more area at v ns h k =
     }
 
 -- nothing is put where the area is full
-pub holds-full : (area : List ℕ) (at v : ℕ) (ns : List ℕ) → length area ≤ at → Holds area at ns → Holds area at (ns ++ (v ∷ []))
+pub holds-full : (area : List ℕ) (at v : ℕ) (ns : List ℕ) → length area ≤ at → Filled area at ns → Filled area at (ns ++ (v ∷ []))
 holds-full area at v ns h k =
     let n = length area in
     let b : n ≤ reached n ns = subst (λ (i : ℕ). n ≤ i) (k .place) h in
@@ -78,5 +79,5 @@ unfolding reached
 reached-none zero = refl
 reached-none (suc n) = refl
 
-pub holds-none : (area : List ℕ) (n : ℕ) → length area ≡ n → area ≡ zeros n → Holds area 0 []
+pub holds-none : (area : List ℕ) (n : ℕ) → length area ≡ n → area ≡ zeros n → Filled area 0 []
 holds-none area n h k = record { words = k ∙ written-none n ∙ ap (λ (m : ℕ). written m []) (sym h); place = reached-none (length area) }

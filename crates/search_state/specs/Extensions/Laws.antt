@@ -13,7 +13,7 @@ use Rattle.semantics.specs.Graph.{View}
 use Rattle.semantics.specs.Path.{Path}
 use Rattle.semantics.specs.Enumeration.{State, Setting, Tally, keep, withPending, pushItem}
 use Rattle.semantics.specs.Enumeration.Laws.{place-ok}
-use Rattle.graph_search.specs.Frontier.{Waits}
+use Rattle.path_frontier.specs.Frontier.{Waits}
 use Rattle.search_state.specs.declared.state.SearchState.{SearchState}
 use Rattle.search_state.specs.declared.state.Recorded.{Recorded}
 use Rattle.search_state.specs.declared.state.Recorded.the-variants.{Done, Full}
@@ -31,33 +31,33 @@ use Rattle.search_state.specs.Reps.Laws.{Kept, Records, record-tells, pu
 use Rattle.search_state.specs.Extensions.{Extendable, ExtendsTo}
 
 -- ---- not complete: it waits
-pub extend-only : (s : S.Search) (ws rs item : List ℕ) (a : Going) (ws′ : List ℕ) → Extends s ws item a ws′ → ExtendsTo s false ws rs item a ws′ rs
+pub extend-only : {s : S.Search} {ws : List ℕ} (rs : List ℕ) {item : List ℕ} {a : Going} {ws′ : List ℕ} → Extends s ws item a ws′ → ExtendsTo s false ws rs item a ws′ rs
 unfolding keep
-extend-only s ws rs item a ws′ x g r m q n rep few at good e = push-tells g r s ws rs m rep q good a ws′ (subst (λ (i : List ℕ). Extends s ws i a ws′) e x)
+extend-only {s} {ws} rs {a} {ws′} x g r m q n rep few at good e = push-tells rep q good (subst (λ (i : List ℕ). Extends s ws i a ws′) e x)
 
 -- ---- complete
-module _ (s : S.Search) (ws rs item : List ℕ) (b : Recorded) (rs′ : List ℕ) (is : b ≡ recordedBy (s .state)) (w : rs′ ≡ resultAfter (s .state) item rs) where
-  module _ (g : View) (r : ℕ) (m : State Path) (q : Path) (rep : Rep g r s ws rs m) (e : item ≡ slotOf q) where
-    told : Records (settingOf (frameOf s)) Search.NoResultSlot (s .state) refl refl rs m (rep .counts) q b rs′ (keep true (settingOf (frameOf s)) m q)
-    told = record-tells (settingOf (frameOf s)) Search.NoResultSlot (s .state) refl refl rs m (rep .counts) q b rs′ is (w ∙ ap (λ (i : List ℕ). resultAfter (s .state) i rs) e)
+module _ (s : S.Search) (ws rs item : List ℕ) {b : Recorded} {rs′ : List ℕ} (is : b ≡ recordedBy (s .state)) (w : rs′ ≡ resultAfter (s .state) item rs) where
+  module _ {g : View} {r : ℕ} {m : State Path} (q : Path) (rep : Rep g r s ws rs m) (e : item ≡ slotOf q) where
+    told : Records (settingOf (frameOf s)) Search.NoResultSlot refl refl (rep .counts) q b rs′ (keep true (settingOf (frameOf s)) m q)
+    told = record-tells (settingOf (frameOf s)) Search.NoResultSlot refl refl (rep .counts) q is (w ∙ ap (λ (i : List ℕ). resultAfter (s .state) i rs) e)
 
     kept-done : (n : SearchState) → b ≡ Done n → (u : State Path) × (keep true (settingOf (frameOf s)) m q ≡ ok u) × Kept (s .state) n rs′ m u
-    kept-done n d = on (keep true (settingOf (frameOf s)) m q) refl (subst (λ (y : Recorded). Records (settingOf (frameOf s)) Search.NoResultSlot (s .state) refl refl rs m (rep .counts) q y rs′ (keep true (settingOf (frameOf s)) m q)) d told)
+    kept-done n d = on (keep true (settingOf (frameOf s)) m q) refl (subst (λ (y : Recorded). Records (settingOf (frameOf s)) Search.NoResultSlot refl refl (rep .counts) q y rs′ (keep true (settingOf (frameOf s)) m q)) d told)
       where
-        on : (t : Answer SearchRefusal (State Path)) → keep true (settingOf (frameOf s)) m q ≡ t → Records (settingOf (frameOf s)) Search.NoResultSlot (s .state) refl refl rs m (rep .counts) q (Done n) rs′ t
+        on : (t : Answer SearchRefusal (State Path)) → keep true (settingOf (frameOf s)) m q ≡ t → Records (settingOf (frameOf s)) Search.NoResultSlot refl refl (rep .counts) q (Done n) rs′ t
             → (u : State Path) × (keep true (settingOf (frameOf s)) m q ≡ ok u) × Kept (s .state) n rs′ m u
         on (ok u) k h = (u, k, h)
         on (refuse y) k h = absurd h
 
     kept-full : b ≡ Full → keep true (settingOf (frameOf s)) m q ≡ refuse Search.NoResultSlot
-    kept-full d = on (keep true (settingOf (frameOf s)) m q) (subst (λ (y : Recorded). Records (settingOf (frameOf s)) Search.NoResultSlot (s .state) refl refl rs m (rep .counts) q y rs′ (keep true (settingOf (frameOf s)) m q)) d told)
+    kept-full d = on (keep true (settingOf (frameOf s)) m q) (subst (λ (y : Recorded). Records (settingOf (frameOf s)) Search.NoResultSlot refl refl (rep .counts) q y rs′ (keep true (settingOf (frameOf s)) m q)) d told)
       where
-        on : (t : Answer SearchRefusal (State Path)) → Records (settingOf (frameOf s)) Search.NoResultSlot (s .state) refl refl rs m (rep .counts) q Full rs′ t → t ≡ refuse Search.NoResultSlot
+        on : (t : Answer SearchRefusal (State Path)) → Records (settingOf (frameOf s)) Search.NoResultSlot refl refl (rep .counts) q Full rs′ t → t ≡ refuse Search.NoResultSlot
         on (ok u) h = absurd h
         on (refuse y) h = ap (λ (x : SearchRefusal). refuse x) h
 
-    kept-rep : (n : SearchState) (u : State Path) (k : ℕ) → Kept (s .state) n rs′ m u → Few k (m .stats) → k + 1 ≡ m .tally .looked → Rep g r (withState n s) ws rs′ u
-    kept-rep n u k h f l = let L = s .frontier .length in record {
+    kept-rep : {n : SearchState} {u : State Path} {k : ℕ} → Kept (s .state) n rs′ m u → Few k (m .stats) → k + 1 ≡ m .tally .looked → Rep g r (withState n s) ws rs′ u
+    kept-rep {u} {k} h f l = let L = s .frontier .length in record {
       sized = subst (λ (x : List Path). Slotted (s .frontier) ws x (u .pending)) (sym (h .same .rest)) (subst (λ (x : List Path). Slotted (s .frontier) ws (m .rest) x) (sym (h .same .pending)) (rep .sized));
       stands = subst (λ (x : List Path). Waits (s .frontier) ws (map (slotIn L) x) (map (slotIn L) (u .pending))) (sym (h .same .rest)) (subst (λ (x : List Path). Waits (s .frontier) ws (map (slotIn L) (m .rest)) (map (slotIn L) x)) (sym (h .same .pending)) (rep .stands));
       counts = h .counts;
@@ -65,23 +65,23 @@ module _ (s : S.Search) (ws rs item : List ℕ) (b : Recorded) (rs′ : List ℕ
       replays = λ p k. ⊎-elim (λ (x : List·Memᴰ p (u .rest)). rep .replays p (inl (subst (λ (y : List Path). List·Memᴰ p y) (h .same .rest) x))) (λ (x : List·Memᴰ p (u .pending)). rep .replays p (inr (subst (λ (y : List Path). List·Memᴰ p y) (h .same .pending) x))) k;
     }
 
-    kept-frame : (n : SearchState) (u : State Path) → Kept (s .state) n rs′ m u → frameOf (withState n s) ≡ frameOf s
-    kept-frame n u h = λ i. record { order = s .frontier .order; limits = h .same .limits i; waiting = s .frontier .capacity; results = h .same .results i }
+    kept-frame : {n : SearchState} {u : State Path} → Kept (s .state) n rs′ m u → frameOf (withState n s) ≡ frameOf s
+    kept-frame h = λ i. record { order = s .frontier .order; limits = h .same .limits i; waiting = s .frontier .capacity; results = h .same .results i }
 
   pub extend-full : b ≡ Full → ExtendsTo s true ws rs item (Refused Search.NoResultSlot) ws rs′
-  extend-full d g r m q n rep few at good e = rw (kept-full g r m q rep e d) refl
+  extend-full d g r m q n rep few at good e = rw (kept-full q rep e d) refl
 
-  pub extend-kept : (n : SearchState) → b ≡ Done n → (t : S.Search) → t ≡ withState n s → (a : Going) (ws′ : List ℕ) → Extends t ws item a ws′ → ExtendsTo s true ws rs item a ws′ rs′
-  extend-kept n d t made a ws′ x g r m q k rep few at good e =
-      let h = kept-done g r m q rep e n d in
+  pub extend-kept : (n : SearchState) → b ≡ Done n → {t : S.Search} → t ≡ withState n s → {a : Going} {ws′ : List ℕ} → Extends t ws item a ws′ → ExtendsTo s true ws rs item a ws′ rs′
+  extend-kept n d {t} made {a} {ws′} x g r m q k rep few at good e =
+      let h = kept-done q rep e n d in
       let u = h .0 in
       let y : Extends (withState n s) ws (slotOf q) a ws′ = subst (λ (z : S.Search). Extends z ws (slotOf q) a ws′) made (subst (λ (i : List ℕ). Extends t ws i a ws′) e x) in
-      let v = push-tells g r (withState n s) ws rs′ u (kept-rep g r m q rep e n u k (h .2) few at) q good a ws′ y in
-      rw (h .1) (subst (λ (f : Frame). Tells g r f a ws′ rs′ (pushItem (settingOf f) q u)) (kept-frame g r m q rep e n u (h .2)) v)
+      let v = push-tells (kept-rep q rep e (h .2) few at) q good y in
+      rw (h .1) (subst (λ (f : Frame). Tells g r f a ws′ rs′ (pushItem (settingOf f) q u)) (kept-frame q rep e (h .2)) v)
 
 -- what the push behind it is given
-pub extend-push : (s t : S.Search) (n : SearchState) (ws rs item : List ℕ) → Extendable s ws rs item → t ≡ withState n s → Pushable t ws item
-extend-push s t n ws rs item x e = subst (λ (y : S.Search). Pushable y ws item) (sym e) (record { framed = x .pushable .framed; wider = x .pushable .wider; slot = x .pushable .slot; short = x .pushable .short })
+pub extend-push : {s t : S.Search} (n : SearchState) {ws rs item : List ℕ} → Extendable s ws rs item → t ≡ withState n s → Pushable t ws item
+extend-push n {ws} {item} x e = subst (λ (y : S.Search). Pushable y ws item) (sym e) (record { framed = x .pushable .framed; wider = x .pushable .wider; slot = x .pushable .slot; short = x .pushable .short })
 
 -- ---- the item behind it
 
@@ -90,9 +90,9 @@ unfolding pushItem
 pushed-is c q m u e = place-ok (c .waiting) _ _ u e
 
 -- the path waits, so that its words have a place in a slot
-pub extend-clears : (g : View) (r : ℕ) (f : Frame) (c : Bool) (a : Going) (ws rs : List ℕ) (m : State Path) (q : Path) (item : List ℕ) → item ≡ slotOf q → Tells g r f a ws rs (andThen (keep c (settingOf f) m q) (pushItem (settingOf f) q)) → Clears a item
-extend-clears g r f c (Refused x) ws rs m q item e h = tt
-extend-clears g r f c (On s) ws rs m q item e h = on (andThen (keep c (settingOf f) m q) (pushItem (settingOf f) q)) refl h
+pub extend-clears : (g : View) (r : ℕ) (f : Frame) (c : Bool) (a : Going) (ws rs : List ℕ) (m : State Path) (q : Path) {item : List ℕ} → item ≡ slotOf q → Tells g r f a ws rs (andThen (keep c (settingOf f) m q) (pushItem (settingOf f) q)) → Clears a item
+extend-clears g r f c (Refused x) ws rs m q e h = tt
+extend-clears g r f c (On s) ws rs m q {item} e h = on (andThen (keep c (settingOf f) m q) (pushItem (settingOf f) q)) refl h
   where
     on : (t : Answer SearchRefusal (State Path)) → andThen (keep c (settingOf f) m q) (pushItem (settingOf f) q) ≡ t → Tells g r f (On s) ws rs t → Clears (On s) item
     on (refuse y) k h = absurd h

@@ -10,6 +10,7 @@ use lib.Dec.{eqb}
 use borrow.Rule.Slice.PartMut.{putMid, post-is}
 use lib.ListN.{length, take, drop, set, getD, length-set, length-drop, drop-of-length-le, replicate-append-replicate}
 use lib.Seq.{drop-cons, set-set, take-set-le, take-at, drop-at, length-take-le}
+use Rattle.semantics.specs.Limits.{slotLength}
 use Rattle.semantics.specs.Lists.{or, has}
 use Rattle.semantics.specs.Words.{zeros, encode}
 use Rattle.semantics.specs.Words.Laws.{length-encode}
@@ -72,9 +73,9 @@ carries-slot m es h = record {
     one-longer (x ∷ es) e = ap suc (one-longer es e)
 
 -- another edge tried behind the same ones
-pub carries-edge : (L : ℕ) (item es : List ℕ) (e : ℕ) → Carries L item es → Carries L (withEdge item (length es) e) es
-carries-edge L [] es e c = record { long = c .long; edges = c .edges; grows = λ x l. c .grows x l }
-carries-edge L (w ∷ item) es e c = record {
+pub carries-edge : (L : ℕ) (item : List ℕ) {es : List ℕ} (e : ℕ) → Carries L item es → Carries L (withEdge item (length es) e) es
+carries-edge L [] e c = record { long = c .long; edges = c .edges; grows = λ x l. c .grows x l }
+carries-edge L (w ∷ item) {es} e c = record {
   long = rw add-one (ap suc (length-set item (length es) e) ∙ c .long);
   edges = rw add-one (take-set-le (length es) item (length es) e (omega arith) ∙ c .edges);
   grows = λ x l. let g = c .grows x l in rw add-one (ap (λ (t : List ℕ). suc (length es) ∷ t) (set-set item (length es) e x) ∙ (rw add-one at g));
@@ -102,19 +103,19 @@ pub front-back : (L : ℕ) (s item : List ℕ) → length s ≡ L → s ≡ take
 front-back L s item e = sym (ap (take L) (part-front L s item) ∙ take-at s (drop L item) L e)
 
 -- the rest of it, when it is back as zeros
-pub rest-back : (L : ℕ) (s item : List ℕ) → length item ≡ 128 → L ≤ 128 → s ≡ zeros (length (take (128 - L) (drop L item))) → putMid L (128 - L) item s ≡ take L item ++ zeros (128 - L)
-rest-back L s item e h z =
-    let n : length (take (128 - L) (drop L item)) ≡ 128 - L = length-take-le (128 - L) (drop L item) (simp length-drop (omega (arith, e))) in
-    let b : length item ≤ 128 = omega (arith, e) in
-    rw (post-is L 128 item h) (ap (λ (l : List ℕ). take L item ++ (l ++ drop 128 item)) (z ∙ ap zeros n) ∙ ap (λ (l : List ℕ). take L item ++ (zeros (128 - L) ++ l)) (drop-of-length-le item b) ∙ ap (λ (l : List ℕ). take L item ++ l) (append-nil (zeros (128 - L))))
+pub rest-back : (L : ℕ) {s : List ℕ} (item : List ℕ) → length item ≡ slotLength → L ≤ slotLength → s ≡ zeros (length (take (slotLength - L) (drop L item))) → putMid L (slotLength - L) item s ≡ take L item ++ zeros (slotLength - L)
+rest-back L item e h z =
+    let n : length (take (slotLength - L) (drop L item)) ≡ slotLength - L = length-take-le (slotLength - L) (drop L item) (simp length-drop (omega (arith, e))) in
+    let b : length item ≤ slotLength = omega (arith, e) in
+    rw (post-is L slotLength item h) (ap (λ (l : List ℕ). take L item ++ (l ++ drop slotLength item)) (z ∙ ap zeros n) ∙ ap (λ (l : List ℕ). take L item ++ (zeros (slotLength - L) ++ l)) (drop-of-length-le item b) ∙ ap (λ (l : List ℕ). take L item ++ l) (append-nil (zeros (slotLength - L))))
 
 -- the front of an item that is clear behind it
-pub clear-back : (L : ℕ) (s item : List ℕ) → length s ≡ L → Clear L item → putMid 0 (L - 0) item s ≡ padded 128 s
-clear-back L s item e c = part-front L s item ∙ ap (λ (l : List ℕ). s ++ l) c ∙ padded-is 128 L s e
+pub clear-back : (L : ℕ) (s item : List ℕ) → length s ≡ L → Clear L item → putMid 0 (L - 0) item s ≡ padded slotLength s
+clear-back L s item e c = part-front L s item ∙ ap (λ (l : List ℕ). s ++ l) c ∙ padded-is slotLength L s e
 
 -- a path that fits in a shorter slot leaves the rest of a longer one clear
-pub clear-slot : (L : ℕ) (es : List ℕ) → length es < L → L ≤ 128 → Clear L (encode 128 es)
+pub clear-slot : (L : ℕ) (es : List ℕ) → length es < L → L ≤ slotLength → Clear L (encode slotLength es)
 clear-slot L es h k =
-    ap (drop L) (sym (encode-longer L 128 es h k))
-    ∙ drop-at (encode L es) (zeros (128 - length (encode L es))) L (length-encode L es)
-    ∙ ap (λ (n : ℕ). zeros (128 - n)) (length-encode L es)
+    ap (drop L) (sym (encode-longer L slotLength es h k))
+    ∙ drop-at (encode L es) (zeros (slotLength - length (encode L es))) L (length-encode L es)
+    ∙ ap (λ (n : ℕ). zeros (slotLength - n)) (length-encode L es)

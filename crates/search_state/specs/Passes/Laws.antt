@@ -5,13 +5,13 @@ use native.Mathlib.Omega.{arith}
 use mathlib.Core.Path.{_≡_, ap}
 use mathlib.Core.Bool.{Bool, true, false}
 use Rattle.semantics.specs.Limits.{within}
-use Rattle.budget.specs.declared.path_budget.Budget.{Budget}
-use Rattle.budget.specs.Budget.{refusedLength, lengthening}
+use Rattle.path_budget.specs.declared.budget.Budget.{Budget}
+use Rattle.path_budget.specs.Budget.{refusedLength, lengthening}
 use Rattle.search_state.specs.declared.search.Search as S
-use Rattle.search_state.specs.declared.passed.Passed.{Passed}
+use Rattle.search_state.specs.declared.dead_ends.DeadEnds.{DeadEnds}
 use Rattle.search_state.specs.States.{cutOne, rejectedOne, overlongBy}
 use Rattle.search_state.specs.Searches.{withState}
-use Rattle.search_state.specs.Passes.{nothingPassed, passedCut, passedRejection, passedLength, flaggedIf, passing, passedBy}
+use Rattle.search_state.specs.Passes.{nothingPassed, passedCut, passedRejection, passedLength, flaggedIf, passedBy}
 
 pub nothing-passed : (s : S.Search) → passedBy nothingPassed s ≡ s
 nothing-passed s =
@@ -19,7 +19,7 @@ nothing-passed s =
     let b : s .state .rejected + 0 ≡ s .state .rejected = omega arith in
     λ i. record { frontier = s .frontier; state = record { budget = s .state .budget; cycles = a i; rejected = b i; kept = s .state .kept; results = s .state .results } }
 
-module _ (p : Passed) (s : S.Search) where
+module _ (p : DeadEnds) (s : S.Search) where
   pub one-cut : withState (cutOne (passedBy p s .state)) (passedBy p s) ≡ passedBy (passedCut p) s
   one-cut =
       let a : s .state .cycles + p .cycles + 1 ≡ s .state .cycles + (p .cycles + 1) = omega arith in

@@ -13,25 +13,25 @@ use Rattle.semantics.specs.declared.search.SearchStats.{SearchStats}
 use Rattle.semantics.specs.declared.refusal.SearchRefusal.{SearchRefusal}
 use Rattle.semantics.specs.declared.refusal.SearchRefusal.the-variants as Search
 use Rattle.semantics.specs.Lists.{pick}
-use Rattle.semantics.specs.Limits.{below}
-use Rattle.semantics.specs.Answer.{Answer, ok, refuse}
+use Rattle.semantics.specs.Limits.{below, slotLength}
+use Rattle.semantics.specs.Answer.{Answer, ok, refuse, okIf}
 use Rattle.semantics.specs.Graph.{View}
 use Rattle.semantics.specs.Path.{Path}
-use Rattle.semantics.specs.Enumeration.{State, Setting, Area, slots, keep, keepIf, place, placeIf, pushItem, withPending, withKept, withStats, addComplete, flagComplete}
+use Rattle.semantics.specs.Enumeration.{State, Setting, Area, slots, keep, keepIf, place, pushItem, withPending, withKept, withStats, addComplete, flagComplete}
 use Rattle.semantics.specs.Recorded.{edgeLists}
 use Rattle.semantics.specs.Words.{zeros, encode, flat, area}
 use Rattle.semantics.specs.Words.Laws.{length-encode, length-flat}
 use Rattle.words.specs.Area.{encode-count}
 use Rattle.words.specs.Slots.{putSlot, padded}
 use Rattle.words.specs.Slots.Laws.{within, length-put, put-at}
-use Rattle.graph_search.specs.declared.path_frontier.Frontier.{Frontier}
-use Rattle.graph_search.specs.declared.path_frontier.Pushed.{Pushed}
-use Rattle.graph_search.specs.declared.path_frontier.Pushed.the-variants as Pushed
-use Rattle.budget.specs.Budget.{completion, limitsOf}
-use Rattle.budget.specs.Budget.Laws.{completion-allowed, completion-limits, completion-granted, completion-refused}
-use Rattle.graph_search.specs.Frontier.{pushed, Waits, Pushes, MakesRoom}
-use Rattle.graph_search.specs.Frontier.Laws.{push-frame}
-use Rattle.graph_search.specs.Frontier.Stands.{Stands, stands-done, stands-full}
+use Rattle.path_frontier.specs.declared.frontier.Frontier.{Frontier}
+use Rattle.path_frontier.specs.declared.frontier.Pushed.{Pushed}
+use Rattle.path_frontier.specs.declared.frontier.Pushed.the-variants as Pushed
+use Rattle.path_budget.specs.Budget.{completion, limitsOf}
+use Rattle.path_budget.specs.Budget.Laws.{completion-allowed, completion-limits, completion-granted, completion-refused}
+use Rattle.path_frontier.specs.Frontier.{pushed, Waits, Pushes, MakesRoom}
+use Rattle.path_frontier.specs.Frontier.Laws.{push-frame}
+use Rattle.path_frontier.specs.Frontier.Stands.{Stands, stands-done, stands-full}
 use Rattle.path.specs.Replays.Calls.{few-edges}
 use Rattle.search_state.specs.declared.state.SearchState.{SearchState}
 use Rattle.search_state.specs.declared.state.Recorded.{Recorded}
@@ -97,22 +97,22 @@ pub record Kept (st n : SearchState) (rs : List ℕ) (m u : State Path) : Type 0
   pub counts : Counts n rs u
   pub few : (k : ℕ) → Few k (m .stats) → Few (k + 1) (u .stats)
 
-module _ {R : Type 0} (c : Setting R) (full : R) (st : SearchState) (lent : c .results ≡ slots (st .results) full) (limit : c .maxComplete ≡ st .budget .maxComplete)
-    (rs : List ℕ) (m : State Path) (k : Counts st rs m) (q : Path) where
+module _ {R : Type 0} (c : Setting R) (full : R) {st : SearchState} (lent : c .results ≡ slots (st .results) full) (limit : c .maxComplete ≡ st .budget .maxComplete)
+    {rs : List ℕ} {m : State Path} (k : Counts st rs m) (q : Path) where
   abbrev counted : State Path
   counted = withStats m (addComplete (m .stats))
 
-  keep-is : (b : Bool) → completion (st .kept) (st .budget) .allowed ≡ b → keep true c m q ≡ keepIf b c counted q
+  keep-is : {b : Bool} → completion (st .kept) (st .budget) .allowed ≡ b → keep true c m q ≡ keepIf b c counted q
   unfolding keep
-  keep-is b e = ap (λ (x : Bool). keepIf x c counted q)
+  keep-is e = ap (λ (x : Bool). keepIf x c counted q)
       (ap₂ below (sym (k .kept)) limit ∙ sym (completion-allowed (st .kept) (st .budget)) ∙ e)
 
-  place-is : (b : Bool) → ltb (st .kept) (st .results) ≡ b → keepIf true c counted q ≡ placeIf b full (withKept q counted)
+  place-is : {b : Bool} → ltb (st .kept) (st .results) ≡ b → keepIf true c counted q ≡ okIf b full (withKept q counted)
   unfolding keepIf place
-  place-is b e = ap (λ (x : Area R). place x (length (m .kept)) (withKept q counted)) lent ∙ ap (λ (x : Bool). placeIf x full (withKept q counted)) (ap (λ (x : ℕ). ltb x (st .results)) (sym (k .kept)) ∙ e)
+  place-is e = ap (λ (x : Area R). place x (length (m .kept)) (withKept q counted)) lent ∙ ap (λ (x : Bool). okIf x full (withKept q counted)) (ap (λ (x : ℕ). ltb x (st .results)) (sym (k .kept)) ∙ e)
 
-  answer-is : (b : Bool) → completion (st .kept) (st .budget) .allowed ≡ b → below (st .kept) (st .budget .maxComplete) ≡ b
-  answer-is b e = sym (completion-allowed (st .kept) (st .budget)) ∙ e
+  answer-is : {b : Bool} → completion (st .kept) (st .budget) .allowed ≡ b → below (st .kept) (st .budget .maxComplete) ≡ b
+  answer-is e = sym (completion-allowed (st .kept) (st .budget)) ∙ e
 
   -- the answer of recording beside the enumeration's
   abbrev pub Records : Recorded → List ℕ → Answer R (State Path) → Type 0
@@ -121,53 +121,53 @@ module _ {R : Type 0} (c : Setting R) (full : R) (st : SearchState) (lent : c .r
   Records Full rs′ (ok u) = ⊥
   Records Full rs′ (refuse y) = y ≡ full
 
-  few-more : (n : ℕ) → Few n (m .stats) → Few (n + 1) (addComplete (m .stats))
-  few-more n f = record { complete = omega (arith, f .complete); rejected = omega (arith, f .rejected); cycles = omega (arith, f .cycles) }
+  few-more : {n : ℕ} → Few n (m .stats) → Few (n + 1) (addComplete (m .stats))
+  few-more f = record { complete = omega (arith, f .complete); rejected = omega (arith, f .rejected); cycles = omega (arith, f .cycles) }
 
   not-kept : completion (st .kept) (st .budget) .allowed ≡ false → Kept st (asked st) rs m (withStats counted (flagComplete (counted .stats)))
   not-kept e = record {
     same = record { limits = completion-limits (st .kept) (st .budget); results = refl; rest = refl; pending = refl; tally = refl };
     counts = record {
-      stats = completion-refused (st .kept) (st .budget) (st .rejected) (st .cycles) (answer-is false e) ∙ ap (λ (t : SearchStats). flagComplete (addComplete t)) (k .stats);
+      stats = completion-refused (st .kept) (st .budget) (st .rejected) (st .cycles) (answer-is e) ∙ ap (λ (t : SearchStats). flagComplete (addComplete t)) (k .stats);
       kept = k .kept;
       fits = k .fits;
       room = k .room;
       words = k .words;
     };
-    few = λ n f. let h = few-more n f in record { complete = h .complete; rejected = h .rejected; cycles = h .cycles };
+    few = λ n f. let h = few-more f in record { complete = h .complete; rejected = h .rejected; cycles = h .cycles };
   }
 
-  newly-kept : completion (st .kept) (st .budget) .allowed ≡ true → st .kept < st .results → Kept st (keptOne (asked st)) (putSlot 128 (st .kept) (slotOf q) rs) m (withKept q counted)
+  newly-kept : completion (st .kept) (st .budget) .allowed ≡ true → st .kept < st .results → Kept st (keptOne (asked st)) (putSlot slotLength (st .kept) (slotOf q) rs) m (withKept q counted)
   newly-kept e h =
-      let i = within 128 (st .results) (st .kept) rs h (k .room) in
-      let n : length (putSlot 128 (st .kept) (slotOf q) rs) ≡ length rs = length-put 128 (st .kept) (slotOf q) rs (length-encode 128 (q .edges)) i in
+      let i = within slotLength (st .results) (st .kept) rs h (k .room) in
+      let n : length (putSlot slotLength (st .kept) (slotOf q) rs) ≡ length rs = length-put slotLength (st .kept) (slotOf q) rs (length-encode slotLength (q .edges)) i in
       let j : st .kept ≡ length (edgeLists (m .kept)) = k .kept ∙ sym (lists-length (m .kept)) in
       record {
         same = record { limits = completion-limits (st .kept) (st .budget); results = refl; rest = refl; pending = refl; tally = refl };
         counts = record {
-          stats = completion-granted (st .kept) (st .budget) (st .rejected) (st .cycles) (answer-is true e) ∙ ap addComplete (k .stats);
+          stats = completion-granted (st .kept) (st .budget) (st .rejected) (st .cycles) (answer-is e) ∙ ap addComplete (k .stats);
           kept = ap (λ (x : ℕ). x + 1) (k .kept) ∙ sym (length-append (m .kept) (q ∷ []));
           fits = omega (arith, h);
-          room = subst (λ (x : ℕ). 128 * st .results ≤ x) (sym n) (k .room);
+          room = subst (λ (x : ℕ). slotLength * st .results ≤ x) (sym n) (k .room);
           words =
-              ap (λ (x : List ℕ). putSlot 128 (st .kept) (slotOf q) x) (k .words)
-              ∙ ap (λ (x : ℕ). putSlot 128 x (slotOf q) (area 128 (length rs) (edgeLists (m .kept)))) j
-              ∙ area-snoc 128 (length rs) (edgeLists (m .kept)) (q .edges) (subst (λ (x : ℕ). 128 * x + 128 ≤ length rs) j i)
-              ∙ ap (area 128 (length rs)) (sym (lists-snoc (m .kept) q))
-              ∙ ap (λ (x : ℕ). area 128 x (edgeLists (m .kept ++ (q ∷ [])))) (sym n);
+              ap (λ (x : List ℕ). putSlot slotLength (st .kept) (slotOf q) x) (k .words)
+              ∙ ap (λ (x : ℕ). putSlot slotLength x (slotOf q) (area slotLength (length rs) (edgeLists (m .kept)))) j
+              ∙ area-snoc slotLength (length rs) (edgeLists (m .kept)) (q .edges) (subst (λ (x : ℕ). slotLength * x + slotLength ≤ length rs) j i)
+              ∙ ap (area slotLength (length rs)) (sym (lists-snoc (m .kept) q))
+              ∙ ap (λ (x : ℕ). area slotLength x (edgeLists (m .kept ++ (q ∷ [])))) (sym n);
         };
-        few = λ x f. few-more x f;
+        few = λ x f. few-more f;
       }
 
-  pub record-tells : (a : Recorded) (rs′ : List ℕ) → a ≡ recordedBy st → rs′ ≡ resultAfter st (slotOf q) rs → Records a rs′ (keep true c m q)
+  pub record-tells : {a : Recorded} {rs′ : List ℕ} → a ≡ recordedBy st → rs′ ≡ resultAfter st (slotOf q) rs → Records a rs′ (keep true c m q)
   unfolding recordedBy resultAfter
-  record-tells a rs′ e w = subst (λ (x : Recorded). Records x rs′ (keep true c m q)) (sym e) (subst (λ (x : List ℕ). Records (recordedBy st) x (keep true c m q)) (sym w) (on (completion (st .kept) (st .budget) .allowed) (ltb (st .kept) (st .results)) refl refl))
+  record-tells {rs′} e w = subst (λ (x : Recorded). Records x rs′ (keep true c m q)) (sym e) (subst (λ (x : List ℕ). Records (recordedBy st) x (keep true c m q)) (sym w) (on (completion (st .kept) (st .budget) .allowed) (ltb (st .kept) (st .results)) refl refl))
     where
       on : (b d : Bool) → completion (st .kept) (st .budget) .allowed ≡ b → ltb (st .kept) (st .results) ≡ d
-          → Records (pick b (pick d (Done (keptOne (asked st))) Full) (Done (asked st))) (pick b (pick d (putSlot 128 (st .kept) (slotOf q) rs) rs) rs) (keep true c m q)
-      on false d x y = unfold keepIf in subst (λ (z : Answer R (State Path)). Records (Done (asked st)) rs z) (sym (keep-is false x)) (not-kept x)
-      on true false x y = unfold placeIf in subst (λ (z : Answer R (State Path)). Records Full rs z) (sym (keep-is true x ∙ place-is false y)) refl
-      on true true x y = unfold placeIf in subst (λ (z : Answer R (State Path)). Records (Done (keptOne (asked st))) (putSlot 128 (st .kept) (slotOf q) rs) z) (sym (keep-is true x ∙ place-is true y)) (newly-kept x (ltb→lt (st .kept) (st .results) (subst T (sym y) tt)))
+          → Records (pick b (pick d (Done (keptOne (asked st))) Full) (Done (asked st))) (pick b (pick d (putSlot slotLength (st .kept) (slotOf q) rs) rs) rs) (keep true c m q)
+      on false d x y = unfold keepIf in subst (λ (z : Answer R (State Path)). Records (Done (asked st)) rs z) (sym (keep-is x)) (not-kept x)
+      on true false x y = unfold okIf in subst (λ (z : Answer R (State Path)). Records Full rs z) (sym (keep-is x ∙ place-is y)) refl
+      on true true x y = unfold okIf in subst (λ (z : Answer R (State Path)). Records (Done (keptOne (asked st))) (putSlot slotLength (st .kept) (slotOf q) rs) z) (sym (keep-is x ∙ place-is y)) (newly-kept x (ltb→lt (st .kept) (st .results) (subst T (sym y) tt)))
 
 -- ---- a push
 
@@ -179,9 +179,9 @@ all-longer : (L M : ℕ) → L ≤ M → (l : List Path) → ((p : Path) → Lis
 all-longer L M h [] k = refl
 all-longer L M h (p ∷ l) k = ap₂ (λ (s : List ℕ) (t : List (List ℕ)). s ∷ t) (encode-longer L M (p .edges) (k p (List·Memᴰ·head refl)) h) (all-longer L M h l (λ q i. k q (List·Memᴰ·tail i)))
 
-module _ (g : View) (r : ℕ) (s : S.Search) (ws rs : List ℕ) (m : State Path) (rep : Rep g r s ws rs m) where
+module _ {g : View} {r : ℕ} {s : S.Search} {ws rs : List ℕ} {m : State Path} (rep : Rep g r s ws rs m) where
   -- longer slots stand for the same state
-  module _ (words : ℕ) (f : Frontier) (ws₁ : List ℕ) (room : MakesRoom (s .frontier) ws words f ws₁) where
+  module _ {words : ℕ} {f : Frontier} {ws₁ : List ℕ} (room : MakesRoom (s .frontier) ws words f ws₁) where
     roomy-frame : frameOf (withFrontier f s) ≡ frameOf s
     roomy-frame = ap (λ (z : Frontier). frameOf (withFrontier z s)) (room .widens .is)
 
@@ -211,8 +211,8 @@ module _ (g : View) (r : ℕ) (s : S.Search) (ws rs : List ℕ) (m : State Path)
         (λ (b : List·Memᴰ p (q ∷ [])). subst (λ (z : Path). Replayed g r z × (length (z .edges) < s .frontier .length)) (sym (List·Memᴰ·eq-of-singleton b)) (good, short))
         (List·Memᴰ·append-cases (m .pending) a)
 
-    slot-tells : (a : Pushed) (ws′ : List ℕ) → Pushes (s .frontier) ws (slotIn (s .frontier .length) q) a ws′ → Tells g r (frameOf s) (goingOf (s .state) a) ws′ rs (pushItem (settingOf (frameOf s)) q m)
-    slot-tells a ws′ x = on a refl
+    slot-tells : {a : Pushed} {ws′ : List ℕ} → Pushes (s .frontier) ws (slotIn (s .frontier .length) q) a ws′ → Tells g r (frameOf s) (goingOf (s .state) a) ws′ rs (pushItem (settingOf (frameOf s)) q m)
+    slot-tells {a} {ws′} x = on a refl
       where
         on : (p : Pushed) → a ≡ p → Tells g r (frameOf s) (goingOf (s .state) p) ws′ rs (pushItem (settingOf (frameOf s)) q m)
         on (Pushed.Done f) e =
@@ -234,25 +234,25 @@ module _ (g : View) (r : ℕ) (s : S.Search) (ws rs : List ℕ) (m : State Path)
             subst (λ (y : Answer SearchRefusal (State Path)). Tells g r (frameOf s) (Refused Search.NoWaitingSlot) ws′ rs y) (sym (stands-full (slotIn (s .frontier .length)) (settingOf (frameOf s)) Search.NoWaitingSlot (s .frontier) refl ws m q a ws′ x (rep .stands) e)) refl
 
 -- the words of a path can be pushed
-pub rep-pushable : (g : View) (r : ℕ) (s : S.Search) (ws rs : List ℕ) (m : State Path) → Rep g r s ws rs m → (q : Path) → Replayed g r q → (item : List ℕ) → item ≡ slotOf q → Pushable s ws item
-rep-pushable g r s ws rs m rep q good item e =
+pub rep-pushable : {g : View} {r : ℕ} {s : S.Search} {ws rs : List ℕ} {m : State Path} → Rep g r s ws rs m → (q : Path) → Replayed g r q → {item : List ℕ} → item ≡ slotOf q → Pushable s ws item
+rep-pushable {g} {r} rep q good {item} e =
     let n = few-edges g r (q .edges) q good in
-    let k = encode-count 128 (q .edges) (omega (arith, n)) in
+    let k = encode-count slotLength (q .edges) (omega (arith, n)) in
     let c : getD item 0 0 ≡ length (q .edges) = ap (λ (l : List ℕ). getD l 0 0) e ∙ k in
-    record { framed = rep .stands .framed; wider = rep .sized .wider; slot = ap length e ∙ length-encode 128 (q .edges); short = omega (arith, c, n) }
+    record { framed = rep .stands .framed; wider = rep .sized .wider; slot = ap length e ∙ length-encode slotLength (q .edges); short = omega (arith, c, n) }
 
 -- room is made for the path, then it is pushed
-pub push-tells : (g : View) (r : ℕ) (s : S.Search) (ws rs : List ℕ) (m : State Path) → Rep g r s ws rs m → (q : Path) → Replayed g r q → (a : Going) (ws′ : List ℕ) → Extends s ws (slotOf q) a ws′ → Tells g r (frameOf s) a ws′ rs (pushItem (settingOf (frameOf s)) q m)
-push-tells g r s ws rs m rep q good a ws′ x =
+pub push-tells : {g : View} {r : ℕ} {s : S.Search} {ws rs : List ℕ} {m : State Path} → Rep g r s ws rs m → (q : Path) → Replayed g r q → {a : Going} {ws′ : List ℕ} → Extends s ws (slotOf q) a ws′ → Tells g r (frameOf s) a ws′ rs (pushItem (settingOf (frameOf s)) q m)
+push-tells {g} {r} {s} {ws} {rs} {m} rep q good {ws′} x =
     let L = x .roomy .length in
     let words = getD (slotOf q) 0 0 + 1 in
     let n = few-edges g r (q .edges) q good in
-    let k = encode-count 128 (q .edges) (omega (arith, n)) in
+    let k = encode-count slotLength (q .edges) (omega (arith, n)) in
     let h : length (q .edges) < L = omega (arith, x .makes .enough, k) in
-    let p = subst (λ (w : List ℕ). Pushes (x .roomy) (x .words) w (x .pushed) ws′) (encode-front L 128 (q .edges) h (x .makes .most)) (x .pushes) in
-    let t = slot-tells g r (withFrontier (x .roomy) s) (x .words) rs m (roomy-rep g r s ws rs m rep words (x .roomy) (x .words) (x .makes)) q good h (x .pushed) ws′ p in
+    let p = subst (λ (w : List ℕ). Pushes (x .roomy) (x .words) w (x .pushed) ws′) (encode-front L slotLength (q .edges) h (x .makes .most)) (x .pushes) in
+    let t = slot-tells (roomy-rep rep (x .makes)) q good h p in
     subst (λ (y : Going). Tells g r (frameOf s) y ws′ rs (pushItem (settingOf (frameOf s)) q m)) (sym (x .is))
-    (subst (λ (z : Frame). Tells g r z (goingOf (s .state) (x .pushed)) ws′ rs (pushItem (settingOf z) q m)) (roomy-frame g r s ws rs m rep words (x .roomy) (x .words) (x .makes)) t)
+    (subst (λ (z : Frame). Tells g r z (goingOf (s .state) (x .pushed)) ws′ rs (pushItem (settingOf z) q m)) (roomy-frame rep (x .makes)) t)
 
 -- ---- what a caller draws from an answer
 

@@ -12,19 +12,19 @@ use Rattle.semantics.specs.declared.search.SearchOrder.{SearchOrder}
 use Rattle.semantics.specs.declared.search.SearchOrder.the-variants.{BreadthFirst, DepthFirst}
 use Rattle.semantics.specs.declared.search.SearchStats.{SearchStats}
 use Rattle.semantics.specs.Lists.{pick}
-use Rattle.semantics.specs.Limits.{below}
+use Rattle.semantics.specs.Limits.{below, maxExpansions, slotLength}
 use Rattle.semantics.specs.Graph.{View}
 use Rattle.semantics.specs.Path.{Path}
 use Rattle.semantics.specs.Enumeration.{State, Turn, over, expand, turn, popped, admit, merge, addExpanded, flagCount}
 use Rattle.words.specs.Slots.{padded}
-use Rattle.graph_search.specs.declared.path_frontier.Frontier.{Frontier}
-use Rattle.graph_search.specs.declared.path_frontier.Popped.{Popped}
-use Rattle.graph_search.specs.declared.path_frontier.Popped.the-variants as Popped
-use Rattle.budget.specs.Budget.{expansion}
-use Rattle.budget.specs.Budget.Laws.{expansion-allowed, expansion-limits, expansion-granted, expansion-refused}
-use Rattle.graph_search.specs.Frontier.{merged, Waits}
-use Rattle.graph_search.specs.Frontier.Laws.{merge-is, pop-frame}
-use Rattle.graph_search.specs.Frontier.Stands.{stands-item, stands-empty}
+use Rattle.path_frontier.specs.declared.frontier.Frontier.{Frontier}
+use Rattle.path_frontier.specs.declared.frontier.Popped.{Popped}
+use Rattle.path_frontier.specs.declared.frontier.Popped.the-variants as Popped
+use Rattle.path_budget.specs.Budget.{expansion}
+use Rattle.path_budget.specs.Budget.Laws.{expansion-allowed, expansion-limits, expansion-granted, expansion-refused}
+use Rattle.path_frontier.specs.Frontier.{merged, Waits}
+use Rattle.path_frontier.specs.Frontier.Laws.{merge-is, pop-frame}
+use Rattle.path_frontier.specs.Frontier.Stands.{stands-item, stands-empty}
 use Rattle.search_state.specs.declared.state.SearchState.{SearchState}
 use Rattle.search_state.specs.declared.search.Search as S
 use Rattle.search_state.specs.declared.search.Taken.{Taken}
@@ -55,7 +55,7 @@ module _ (g : View) (r : ℕ) (s : S.Search) (ws rs : List ℕ) (m : State Path)
     pub rep : Rep g r n ws′ rs model
     pub tally : model .tally ≡ m .tally
     pub expanded : n .state .budget .expanded ≡ s .state .budget .expanded + 1
-    pub before : s .state .budget .expanded < 16777216
+    pub before : s .state .budget .expanded < maxExpansions
 
   -- it ends the search
   pub record Ended (n : SearchState) : Type 0 where
@@ -68,7 +68,7 @@ module _ (g : View) (r : ℕ) (s : S.Search) (ws rs : List ℕ) (m : State Path)
     pub path : Path
     pub model : State Path
     pub round : roundOf ≡ expand path model
-    pub before : 16777216 ≤ s .state .budget .expanded
+    pub before : maxExpansions ≤ s .state .budget .expanded
 
   abbrev Rounds : Taken → List ℕ → List ℕ → Type 0
   Rounds (Over n) item ws′ = Ended n
@@ -108,7 +108,7 @@ module _ (g : View) (r : ℕ) (s : S.Search) (ws rs : List ℕ) (m : State Path)
     others p h = mem-merged (s .frontier .order) (m .rest) (m .pending) p (subst (λ (l : List Path). List·Memᴰ p l) (sym first) (List·Memᴰ·tail h))
 
     onward : (f : Frontier) (item ws′ : List ℕ) → f .order ≡ s .frontier .order → f .capacity ≡ s .frontier .capacity → f .length ≡ s .frontier .length → length ws′ ≡ length ws → slotOf w ≡ item → Waits f ws′ (map (slotIn (s .frontier .length)) us) []
-        → expansion (s .state .budget) .allowed ≡ true → s .state .budget .expanded < 16777216
+        → expansion (s .state .budget) .allowed ≡ true → s .state .budget .expanded < maxExpansions
         → Opened item ws′ (record { frontier = f; state = withBudget (expansion (s .state .budget) .budget) (s .state) })
     unfolding admit expansion
     onward f item ws′ o c l n e v a h = record {
@@ -154,7 +154,7 @@ module _ (g : View) (r : ℕ) (s : S.Search) (ws rs : List ℕ) (m : State Path)
       };
     }
 
-    exceeded : expansion (s .state .budget) .allowed ≡ true → 16777216 ≤ s .state .budget .expanded → Exceeded
+    exceeded : expansion (s .state .budget) .allowed ≡ true → maxExpansions ≤ s .state .budget .expanded → Exceeded
     unfolding admit
     exceeded a h = record { path = w; model = record { rest = us; pending = []; kept = m .kept; stats = addExpanded (m .stats); tally = m .tally }; round = asked-is true a; before = h }
 
@@ -168,25 +168,25 @@ module _ (g : View) (r : ℕ) (s : S.Search) (ws rs : List ℕ) (m : State Path)
         round = ap (turn (settingOf (frameOf s))) (merge-is (s .frontier .order) m) ∙ ap (popped (settingOf (frameOf s)) opened) (ap (λ (u : State Path). u .rest) (sym (merge-is (s .frontier .order) m)) ∙ stands-empty (slotIn (s .frontier .length)) (s .frontier) ws m (x .popped) (x .pops .words) ws′ (x .pops .pops) (was .stands) e);
         counts = record { stats = was .counts .stats; kept = was .counts .kept; fits = was .counts .fits; room = was .counts .room; words = was .counts .words };
       }
-      on (Popped.Item f) e = told (expansion (s .state .budget) .allowed) (leb 16777216 (s .state .budget .expanded)) refl refl
+      on (Popped.Item f) e = told (expansion (s .state .budget) .allowed) (leb maxExpansions (s .state .budget .expanded)) refl refl
         where
           -- the popped slot with zeros behind
           whole : (w : Path) (us : List Path) → merge (s .frontier .order) m .rest ≡ w ∷ us → slotIn (s .frontier .length) w ≡ x .pops .words → slotOf w ≡ item
-          whole w us t i = sym (encode-longer (s .frontier .length) 128 (w .edges) (fits-first w us t) (was .sized .wider .longer)) ∙ ap (padded 128) i ∙ sym (x .pops .laid)
+          whole w us t i = sym (encode-longer (s .frontier .length) slotLength (w .edges) (fits-first w us t) (was .sized .wider .longer)) ∙ ap (padded slotLength) i ∙ sym (x .pops .laid)
 
-          told : (b d : Bool) → expansion (s .state .budget) .allowed ≡ b → leb 16777216 (s .state .budget .expanded) ≡ d
+          told : (b d : Bool) → expansion (s .state .budget) .allowed ≡ b → leb maxExpansions (s .state .budget .expanded) ≡ d
               → Rounds (pick b (pick d TooMany (Expand (record { frontier = f; state = withBudget (expansion (s .state .budget) .budget) (s .state) }))) (Over (withBudget (expansion (s .state .budget) .budget) (s .state)))) item ws′
           told b d a h =
               let v = stands-item (slotIn (s .frontier .length)) (s .frontier) ws m (x .popped) (x .pops .words) ws′ (x .pops .pops) (was .stands) f e in
               let k = pop-frame (s .frontier) ws (x .popped) (x .pops .words) ws′ (x .pops .pops) f e .0 .kept in
               by b d a h (v .0) (v .1) (v .2) (v .3) (v .4) (k .order) (k .capacity) (k .length)
             where
-              by : (b d : Bool) → expansion (s .state .budget) .allowed ≡ b → leb 16777216 (s .state .budget .expanded) ≡ d
+              by : (b d : Bool) → expansion (s .state .budget) .allowed ≡ b → leb maxExpansions (s .state .budget .expanded) ≡ d
                   → (w : Path) (us : List Path) → merge (s .frontier .order) m .rest ≡ w ∷ us → slotIn (s .frontier .length) w ≡ x .pops .words → Waits f ws′ (map (slotIn (s .frontier .length)) us) [] → f .order ≡ s .frontier .order → f .capacity ≡ s .frontier .capacity → f .length ≡ s .frontier .length
                   → Rounds (pick b (pick d TooMany (Expand (record { frontier = f; state = withBudget (expansion (s .state .budget) .budget) (s .state) }))) (Over (withBudget (expansion (s .state .budget) .budget) (s .state)))) item ws′
               by false d a h w us t i v o c l = ended w us t a
-              by true true a h w us t i v o c l = exceeded w us t a (leb→le 16777216 (s .state .budget .expanded) (subst T (sym h) tt))
-              by true false a h w us t i v o c l = onward w us t f item ws′ o c l (x .pops .pops .same-length) (whole w us t i) v a (nleb→lt 16777216 (s .state .budget .expanded) (subst T (sym (ap not h)) tt))
+              by true true a h w us t i v o c l = exceeded w us t a (leb→le maxExpansions (s .state .budget .expanded) (subst T (sym h) tt))
+              by true false a h w us t i v o c l = onward w us t f item ws′ o c l (x .pops .pops .same-length) (whole w us t i) v a (nleb→lt maxExpansions (s .state .budget .expanded) (subst T (sym (ap not h)) tt))
 
   -- ---- what a caller draws from the answer
 

@@ -10,23 +10,24 @@ use borrow.Author.Tests.{ltb-true, ltb-false}
 use lib.Dec.{ltb}
 use lib.ListN.{length, take, drop, getD, take-append-drop, drop-of-length-le}
 use lib.Seq.{length-take-le, getD-take, drop-cons}
+use Rattle.semantics.specs.ReplayedPaths.{stepAt}
 use Rattle.semantics.specs.declared.graph.Node.{Node}
 use Rattle.semantics.specs.declared.graph.Edge.{Edge}
 use Rattle.semantics.specs.declared.refusal.PathRefusal.{PathRefusal}
-use Rattle.semantics.specs.Limits.{base}
+use Rattle.semantics.specs.Limits.{base, stepLength}
 use Rattle.semantics.specs.Answer.{ok, refuse}
 use Rattle.semantics.specs.Answer.Laws.{ok-inj, ok-refuse, andThen-ok}
 use Rattle.semantics.specs.Graph.{Graph, View, viewOf}
 use Rattle.semantics.specs.Path.{Path, append, appendAll, appendUnder}
 use Rattle.semantics.specs.Path.Laws.{appendUnder-ok, appendAll-append, appendAll-edges}
-use Rattle.storage.specs.Rows.{BLOCK, nodeRow, edgeRow, targetRow, Loaded}
-use Rattle.storage.specs.Rows.Laws.{target-row, edge-inside, node-inside}
-use Rattle.stepping.specs.declared.step.Step.{Step}
+use Rattle.storage.specs.Index.{BLOCK, nodeRow, edgeRow, targetRow, Loaded}
+use Rattle.storage.specs.Index.Laws.{target-row, edge-inside, node-inside}
+use Rattle.semantics.specs.declared.replayed.Step.{Step}
 use Rattle.stepping.specs.declared.step.Effect.{Effect}
 use Rattle.stepping.specs.declared.step.Effect.the-variants.{Done, Refused}
 use Rattle.stepping.specs.Steps.{Low, stacksOf}
 use Rattle.stepping.specs.Steps.Laws.{scopes-kept, symbols-kept}
-use Rattle.stepping.specs.StepWords.{stepAt, withStep}
+use Rattle.stepping.specs.StepWords.{withStep}
 use Rattle.stepping.specs.StepWords.Laws.{step-same, step-other}
 use Rattle.stepping.specs.Judged.{Ready, Stepped, Behind, judgedOf, remadeBehind, remadeIn}
 use Rattle.stepping.specs.Judged.Laws.{Grown, judged-done, judged-refused, Made, judged-made}
@@ -35,8 +36,8 @@ use Rattle.search_state.specs.Retraces.{Laid, Retraces, Retraced, Way, M
 
 -- ---- steps below a new one stay
 
-pub stepped-kept : (ws : List ℕ) (m k : ℕ) (s : Step) (p : Path) → k < m → Stepped ws k p → Stepped (withStep ws m s) k p
-stepped-kept ws m k s p h st =
+pub stepped-kept : {ws : List ℕ} (m : ℕ) {k : ℕ} (s : Step) {p : Path} → k < m → Stepped ws k p → Stepped (withStep ws m s) k p
+stepped-kept {ws} m {k} s {p} h st =
     let f = stepAt ws in
     let f′ = stepAt (withStep ws m s) in
     let e : (j : ℕ) → j < k + 1 → f′ j ≡ f j = λ j l. step-other ws m j s (omega (arith, h, l)) in
@@ -56,11 +57,11 @@ stepped-kept ws m k s p h st =
     on j l = ap (λ (x : Step). x .edge) (step-other ws m (j + 1) s (omega (arith, h, l))) ∙ st .edges j l
 
 -- an edge can be judged behind these steps
-pub ready-of : (ws : List ℕ) (k : ℕ) (p : Path) → Stepped ws k p → k < 4294967294 → 8 * k + 8 ≤ length ws → Ready ws k
-ready-of ws k p st f r = let low = st .low k (omega arith) in record { few = f; room = r; symbols = low .symbols; scopes = omega (arith, low .scopes) }
+pub ready-of : {ws : List ℕ} {k : ℕ} {p : Path} → Stepped ws k p → k < 4294967294 → stepLength * k + stepLength ≤ length ws → Ready ws k
+ready-of {k} st f r = let low = st .low k (omega arith) in record { few = f; room = r; symbols = low .symbols; scopes = omega (arith, low .scopes) }
 
 -- ---- an edge judged in the index is the edge appended in the graph
-module _ (g : Graph) (index : List ℕ) (loaded : Loaded g index) (ws : List ℕ) (k : ℕ) (p : Path) (st : Stepped ws k p) (room : 8 * (k + 1) + 8 ≤ length ws) (e : ℕ) (x : Effect)
+module _ {g : Graph} {index : List ℕ} (loaded : Loaded g index) {ws : List ℕ} {k : ℕ} {p : Path} (st : Stepped ws k p) (room : stepLength * (k + 1) + stepLength ≤ length ws) (e : ℕ) {x : Effect}
     (is : x ≡ judgedOf (nodeRow index) ws k e (edgeRow index e)) where
   judged-in : judgedOf (viewOf g .node) ws k e (viewOf g .edge e) ≡ x
   judged-in = sym (is ∙ ap (λ (f : ℕ → Node). judgedOf f ws k e (edgeRow index e)) (nodes-are g index loaded) ∙ ap (λ (f : ℕ → Edge). judgedOf (viewOf g .node) ws k e (f e)) (edges-are g index loaded))
@@ -95,30 +96,30 @@ append-split g (y ∷ l) m p q x e f =
 pub shared-none : (ws edges : List ℕ) (n : ℕ) → Shared ws edges n 0
 shared-none ws edges n = record { within = omega arith; inside = omega arith; same = λ j h. absurd (omega (arith, h)) }
 
-pub shared-more : (ws edges : List ℕ) (n i : ℕ) → Shared ws edges n i → i < n → i < length edges → stepAt ws (i + 1) .edge ≡ getD edges i 0 → Shared ws edges n (i + 1)
-shared-more ws edges n i h a b e = record { within = omega (arith, a); inside = omega (arith, b); same = λ j k. by j k (ltb j i) refl }
+pub shared-more : {ws edges : List ℕ} {n i : ℕ} → Shared ws edges n i → i < n → i < length edges → stepAt ws (i + 1) .edge ≡ getD edges i 0 → Shared ws edges n (i + 1)
+shared-more {ws} {edges} {i} h a b e = record { within = omega (arith, a); inside = omega (arith, b); same = λ j k. by j k (ltb j i) refl }
   where
     by : (j : ℕ) → j < i + 1 → (b : Bool) → ltb j i ≡ b → stepAt ws (j + 1) .edge ≡ getD edges j 0
     by j k true t = h .same j (ltb-true j i t)
     by j k false t = let l = ltb-false j i t in let z : i ≡ j = omega (arith, l, k) in subst (λ (m : ℕ). stepAt ws (m + 1) .edge ≡ getD edges m 0) z e
 
 -- a step more below which all stays
-laid-more : (g : View) (first : Path) (ws : List ℕ) (n : ℕ) (s : Step) (q : Path) → Laid g first ws n → Stepped (withStep ws (n + 1) s) (n + 1) q → appendAll base g first (q .edges) ≡ ok q → Laid g first (withStep ws (n + 1) s) (n + 1)
-laid-more g first ws n s q h st e j k = by (ltb j (n + 1)) refl
+laid-more : (g : View) (first : Path) (ws : List ℕ) (n : ℕ) (s : Step) {q : Path} → Laid g first ws n → Stepped (withStep ws (n + 1) s) (n + 1) q → appendAll base g first (q .edges) ≡ ok q → Laid g first (withStep ws (n + 1) s) (n + 1)
+laid-more g first ws n s {q} h st e j k = by (ltb j (n + 1)) refl
   where
     by : (b : Bool) → ltb j (n + 1) ≡ b → (p : Path) × Stepped (withStep ws (n + 1) s) j p × (appendAll base g first (p .edges) ≡ ok p)
-    by true t = let l = ltb-true j (n + 1) t in let u = h j (omega (arith, l)) in (u .0, stepped-kept ws (n + 1) j s (u .0) l (u .1), u .2)
+    by true t = let l = ltb-true j (n + 1) t in let u = h j (omega (arith, l)) in (u .0, stepped-kept (n + 1) s l (u .1), u .2)
     by false t = let l = ltb-false j (n + 1) t in let z : n + 1 ≡ j = omega (arith, l, k) in (q, subst (λ (i : ℕ). Stepped (withStep ws (n + 1) s) i q) z st, e)
 
 -- ---- the loop
 
 -- the edges of a path that is to be laid out
-pub way-of : (index ws edges : List ℕ) (n : ℕ) → Retraces index ws edges n → Way index edges
-way-of index ws edges n t = record { graph = t .graph; loaded = t .loaded; first = t .first; path = t .path; few = t .few }
+pub way-of : {index ws edges : List ℕ} {n : ℕ} → Retraces index ws edges n → Way index edges
+way-of t = record { graph = t .graph; loaded = t .loaded; first = t .first; path = t .path; few = t .few }
 
-pub mid-start : (index ws edges : List ℕ) (n : ℕ) (t : Retraces index ws edges n) (c : ℕ) → Shared ws edges n c → Mid index edges (way-of index ws edges n t) ws c
+pub mid-start : {index ws edges : List ℕ} {n : ℕ} (t : Retraces index ws edges n) {c : ℕ} → Shared ws edges n c → Mid index edges (way-of t) ws c
 unfolding way-of
-mid-start index ws edges n t c h =
+mid-start {edges} t {c} h =
     let u = t .laid c (h .within) in
     let l : length (u .0 .edges) ≡ c = u .1 .count in
     let m : length (take c edges) ≡ c = length-take-le c edges (h .inside) in
@@ -133,9 +134,9 @@ mid-start index ws edges n t c h =
       onward = append-split (viewOf (t .graph)) (take c edges) (drop c edges) (t .first) (u .0) (t .path) (subst (λ (x : List ℕ). appendAll base (viewOf (t .graph)) (t .first) x ≡ ok (t .path)) (sym (take-append-drop c edges)) (t .appended)) d;
     }
 
-pub mid-end : (index ws₀ edges : List ℕ) (n : ℕ) (t : Retraces index ws₀ edges n) (ws : List ℕ) (i : ℕ) → Mid index edges (way-of index ws₀ edges n t) ws i → i ≤ length edges → length edges ≤ i → Retraced index ws₀ edges n t ws
+pub mid-end : {index ws₀ edges : List ℕ} {n : ℕ} (t : Retraces index ws₀ edges n) {ws : List ℕ} {i : ℕ} → Mid index edges (way-of t) ws i → i ≤ length edges → length edges ≤ i → Retraced index ws₀ edges n t ws
 unfolding appendAll way-of
-mid-end index ws₀ edges n t ws i mid a b =
+mid-end {edges} t {ws} {i} mid a b =
     let m : i ≡ length edges = omega (arith, a, b) in
     let o = subst (λ (l : List ℕ). appendAll base (viewOf (t .graph)) (mid .path) l ≡ ok (t .path)) (drop-of-length-le edges b) (mid .onward) in
     record {
@@ -145,19 +146,19 @@ mid-end index ws₀ edges n t ws i mid a b =
     }
 
 -- ---- one edge more
-module _ (index edges : List ℕ) (w : Way index edges) (ws : List ℕ) (i : ℕ) (mid : Mid index edges w ws i) (room : 8 * length edges + 8 ≤ length ws) (h : i < length edges) where
+module _ {index edges : List ℕ} {w : Way index edges} {ws : List ℕ} {i : ℕ} (mid : Mid index edges w ws i) (room : stepLength * length edges + stepLength ≤ length ws) (h : i < length edges) where
   abbrev edge : ℕ
   edge = getD edges i 0
 
   abbrev view : View
   view = viewOf (w .graph)
 
-  mid-room : 8 * (i + 1) + 8 ≤ length ws
+  mid-room : stepLength * (i + 1) + stepLength ≤ length ws
   mid-room = omega (arith, h, room)
 
   -- its step can be made behind the last one
-  pub mid-behind : (last : Step) → last ≡ stepAt ws i → Behind ws last (i + 1)
-  mid-behind last is =
+  pub mid-behind : {last : Step} → last ≡ stepAt ws i → Behind ws last (i + 1)
+  mid-behind is =
       let low = mid .stepped .low i (omega arith) in
       let a = ap (λ (s : Step). s .symbols) is in
       let b = ap (λ (s : Step). s .scopes) is in
@@ -186,7 +187,7 @@ module _ (index edges : List ℕ) (w : Way index edges) (ws : List ℕ) (i : ℕ
     where
       on : (x : Effect) → x ≡ judgedOf (nodeRow index) ws i edge (edgeRow index edge) → (s : Step) × (judgedOf (nodeRow index) ws i edge (edgeRow index edge) ≡ Done s)
       on (Done s) is = (s, sym is)
-      on (Refused z) is = let q = parts in absurd (ok-refuse z (q .0) (sym (q .2) ∙ effect-refused (w .graph) index (w .loaded) ws i (mid .path) (mid .stepped) mid-room edge (Refused z) is z refl))
+      on (Refused z) is = let q = parts in absurd (ok-refuse z (q .0) (sym (q .2) ∙ effect-refused (w .loaded) (mid .stepped) mid-room edge is z refl))
 
   made : Made (nodeRow index) ws i edge (edgeRow index edge) (judged .0)
   made = judged-made (nodeRow index) ws i edge (edgeRow index edge) (judged .0) (judged .1)
@@ -202,11 +203,11 @@ module _ (index edges : List ℕ) (w : Way index edges) (ws : List ℕ) (i : ℕ
   mid-node = node-inside index (targetRow index edge) (λ e. made .there (ap (nodeRow index) (sym leads) ∙ e))
 
   -- made again behind the last step, it is the next one
-  pub mid-again : (last : Step) → last ≡ stepAt ws i → (r : Step) → r ≡ remadeBehind (nodeRow index) ws last (i + 1) edge (targetRow index edge) → (ws′ : List ℕ) → ws′ ≡ withStep ws (i + 1) r → Mid index edges w ws′ (i + 1)
-  mid-again last was r is ws′ e =
+  pub mid-again : {last : Step} → last ≡ stepAt ws i → {r : Step} → r ≡ remadeBehind (nodeRow index) ws last (i + 1) edge (targetRow index edge) → {ws′ : List ℕ} → ws′ ≡ withStep ws (i + 1) r → Mid index edges w ws′ (i + 1)
+  mid-again was {r} is {ws′} e =
       let q = parts in
       let s = judged .0 in
-      let m = effect-done (w .graph) index (w .loaded) ws i (mid .path) (mid .stepped) mid-room edge (Done s) (sym (judged .1)) s refl in
+      let m = effect-done (w .loaded) (mid .stepped) mid-room edge (sym (judged .1)) s refl in
       let x : r ≡ s = is ∙ ap (λ (l : Step). remadeBehind (nodeRow index) ws l (i + 1) edge (targetRow index edge)) was ∙ ap (remadeIn (nodeRow index) ws i edge) leads ∙ sym (made .step) in
       let y : ws′ ≡ withStep ws (i + 1) s = e ∙ ap (withStep ws (i + 1)) x in
       let z : q .0 ≡ m .path = ok-inj (q .0) (m .path) (sym (q .2) ∙ m .appended) in
@@ -214,11 +215,11 @@ module _ (index edges : List ℕ) (w : Way index edges) (ws : List ℕ) (i : ℕ
       record {
         path = m .path;
         stepped = subst (λ (l : List ℕ). Stepped l (i + 1) (m .path)) (sym y) (m .stepped);
-        begun = subst (λ (l : List ℕ). Stepped l 0 (w .first)) (sym y) (stepped-kept ws (i + 1) 0 s (w .first) (omega arith) (mid .begun));
+        begun = subst (λ (l : List ℕ). Stepped l 0 (w .first)) (sym y) (stepped-kept (i + 1) s (omega arith) (mid .begun));
         led = d;
-        laid = subst (λ (l : List ℕ). Laid view (w .first) l (i + 1)) (sym y) (laid-more view (w .first) ws i s (m .path) (mid .laid) (m .stepped) d);
+        laid = subst (λ (l : List ℕ). Laid view (w .first) l (i + 1)) (sym y) (laid-more view (w .first) ws i s (mid .laid) (m .stepped) d);
         onward = subst (λ (p : Path). appendAll base view p (drop (i + 1) edges) ≡ ok (w .path)) z (q .3);
       }
 
-  pub mid-last : (r : Step) (ws′ : List ℕ) → ws′ ≡ withStep ws (i + 1) r → r ≡ stepAt ws′ (i + 1)
-  mid-last r ws′ e = sym (ap (λ (l : List ℕ). stepAt l (i + 1)) e ∙ step-same ws (i + 1) r mid-room)
+  pub mid-last : (r : Step) {ws′ : List ℕ} → ws′ ≡ withStep ws (i + 1) r → r ≡ stepAt ws′ (i + 1)
+  mid-last r e = sym (ap (λ (l : List ℕ). stepAt l (i + 1)) e ∙ step-same ws (i + 1) r mid-room)

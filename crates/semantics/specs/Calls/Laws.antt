@@ -15,7 +15,7 @@ use Rattle.semantics.specs.declared.refusal.SearchRefusal.{SearchRefusal
 use Rattle.semantics.specs.declared.refusal.SearchRefusal.the-variants as Search
 use Rattle.semantics.specs.declared.answer.Resolution.{Resolution}
 use Rattle.semantics.specs.declared.answer.Resolution.the-variants as Resolution
-use Rattle.semantics.specs.Limits.{Bounds}
+use Rattle.semantics.specs.Limits.{Bounds, slotWords}
 use Rattle.semantics.specs.Answer.{Answer, ok, refuse}
 use Rattle.semantics.specs.Answer.Laws.{ok-inj}
 use Rattle.semantics.specs.Graph.{Graph, View, viewOf}
@@ -33,11 +33,11 @@ use Rattle.semantics.specs.Stitching.{stitched, slotTries}
 use Rattle.semantics.specs.Stitching.Laws.{stitched-ok, stitched-exact}
 use Rattle.semantics.specs.Demand.{fileOwners, Demand, Valid, Holds, Suited}
 use Rattle.semantics.specs.Acceptance.{accepts}
-use Rattle.semantics.specs.Words.{wholeSlots, area, listsIn, slotWords}
+use Rattle.semantics.specs.Words.{wholeSlots, area, listsIn}
 use Rattle.semantics.specs.Words.Laws.{Fits, AllFit, lists-area, whole-fits, length-area}
-use Rattle.semantics.specs.Database.{slotsIn, checkDatabase, filesOnly}
+use Rattle.semantics.specs.Database.{slotsIn, checkDatabase, knownOwners}
 use Rattle.semantics.specs.Database.Laws.{checked}
-use Rattle.semantics.specs.Calls.{Request, Outcome, settingOf, searched, directCall, onSlots, stitchedCall}
+use Rattle.semantics.specs.Calls.{Request, Outcome, settingOf, searchOutcome, directCall, stitchedOutcome, stitchedCall}
 use Rattle.semantics.specs.Demand.Laws.{demand-slots}
 use Rattle.semantics.specs.Acceptance.Laws.{suited}
 
@@ -78,20 +78,20 @@ record Answered (bd : Bounds) (len : ℕ) (a : Answer SearchRefusal (State Path)
   pub stats : state .stats ≡ t
   pub result : o .result ≡ area (slotWords bd) len (edgeLists (recorded state))
 
-searched-done : (bd : Bounds) (q : Request) (n : ℕ) (t : SearchStats) (a : Answer SearchRefusal (State Path)) → (searched bd recorded q a) .answer ≡ Resolution.Done n t → Answered bd (q .result) a t (searched bd recorded q a)
-unfolding searched
+searched-done : (bd : Bounds) (q : Request) (n : ℕ) (t : SearchStats) (a : Answer SearchRefusal (State Path)) → (searchOutcome bd recorded q a) .answer ≡ Resolution.Done n t → Answered bd (q .result) a t (searchOutcome bd recorded q a)
+unfolding searchOutcome
 searched-done bd q n t (ok s) e = record { state = s; found = refl; stats = cc; result = refl }
 searched-done bd q n t (refuse r) e = absurd (let z : _≡_ {A = Bool} true false = cc in true≢false z)
 
 stitched-done : (bd : Bounds) (known : ℕ → ℕ → Bool) (g : Graph) (words : List ℕ) (q : Request) (n : ℕ) (t : SearchStats) → (stitchedCall bd recorded known (ok g) words q) .answer ≡ Resolution.Done n t
     → Answered bd (q .result) (stitched bd (q .limits .length) (settingOf bd q) (viewOf g) (slotsIn bd words) (q .node)) t (stitchedCall bd recorded known (ok g) words q)
-unfolding stitchedCall onSlots
+unfolding stitchedCall stitchedOutcome
 stitched-done bd known g words q n t e = on (checkDatabase bd known g words) refl e
   where
-    on : (a : Answer DatabaseRefusal (List Slot)) → checkDatabase bd known g words ≡ a → (onSlots bd recorded g q a) .answer ≡ Resolution.Done n t
-        → Answered bd (q .result) (stitched bd (q .limits .length) (settingOf bd q) (viewOf g) (slotsIn bd words) (q .node)) t (onSlots bd recorded g q a)
+    on : (a : Answer DatabaseRefusal (List Slot)) → checkDatabase bd known g words ≡ a → (stitchedOutcome bd recorded g q a) .answer ≡ Resolution.Done n t
+        → Answered bd (q .result) (stitched bd (q .limits .length) (settingOf bd q) (viewOf g) (slotsIn bd words) (q .node)) t (stitchedOutcome bd recorded g q a)
     on (ok db) k h =
-        subst (λ x. Answered bd (q .result) (stitched bd (q .limits .length) (settingOf bd q) (viewOf g) x (q .node)) t (onSlots bd recorded g q (ok db))) (sym (checked bd known g words db k))
+        subst (λ x. Answered bd (q .result) (stitched bd (q .limits .length) (settingOf bd q) (viewOf g) x (q .node)) t (stitchedOutcome bd recorded g q (ok db))) (sym (checked bd known g words db k))
         (searched-done bd q n t (stitched bd (q .limits .length) (settingOf bd q) (viewOf g) db (q .node)) h)
     on (refuse r) k h = absurd (let z : _≡_ {A = Bool} true false = cc in true≢false z)
 
@@ -100,7 +100,7 @@ abbrev pub directLists : Bounds → Graph → Request → List (List ℕ)
 directLists bd g q = listsIn (slotWords bd) ((directCall bd recorded (ok g) q) .result)
 
 abbrev pub stitchedLists : Bounds → Graph → List ℕ → Request → List (List ℕ)
-stitchedLists bd g words q = listsIn (slotWords bd) ((stitchedCall bd recorded filesOnly (ok g) words q) .result)
+stitchedLists bd g words q = listsIn (slotWords bd) ((stitchedCall bd recorded knownOwners (ok g) words q) .result)
 
 -- what is recorded stands in the slots
 direct-slots : (bd : Bounds) (g : Graph) (q : Request) (u : State Path) → direct bd (q .limits .length) (settingOf bd q) (viewOf g) (q .node) ≡ ok u → (directCall bd recorded (ok g) q) .result ≡ area (slotWords bd) (q .result) (edgeLists (recorded u)) → directLists bd g q ≡ edgeLists (recorded u)
@@ -112,7 +112,7 @@ direct-slots bd g q u h e =
     (λ l m. valid-fits bd (q .limits .length) (viewOf g) (q .node) l (x .sound l m)) (recorded-shorter u)
 
 stitched-slots : (bd : Bounds) (g : Graph) (words : List ℕ) (q : Request) (u : State Path) → Suited (viewOf g) (fileOwners g) → Holds (fileOwners g) bd (viewOf g) (slotsIn bd words)
-    → stitched bd (q .limits .length) (settingOf bd q) (viewOf g) (slotsIn bd words) (q .node) ≡ ok u → (stitchedCall bd recorded filesOnly (ok g) words q) .result ≡ area (slotWords bd) (q .result) (edgeLists (recorded u)) → stitchedLists bd g words q ≡ edgeLists (recorded u)
+    → stitched bd (q .limits .length) (settingOf bd q) (viewOf g) (slotsIn bd words) (q .node) ≡ ok u → (stitchedCall bd recorded knownOwners (ok g) words q) .result ≡ area (slotWords bd) (q .result) (edgeLists (recorded u)) → stitchedLists bd g words q ≡ edgeLists (recorded u)
 stitched-slots bd g words q u good holds h e =
     let a = stitched-ok (fileOwners g) bd (q .limits .length) (settingOf bd q) (viewOf g) (q .node) (slotsIn bd words) u h in
     let x = stitched-exact (fileOwners g) bd (q .limits .length) (settingOf bd q) (viewOf g) (q .node) (slotsIn bd words) u holds good h in
@@ -125,7 +125,7 @@ pub demand : (bd : Bounds) (g : Graph) → accepts g ≡ true → (q q′ : Requ
     → Holds (fileOwners g) bd (viewOf g) (slotsIn bd words)
     → (n n′ : ℕ) (t t′ : SearchStats)
     → (directCall bd recorded (ok g) q) .answer ≡ Resolution.Done n t → t .countLimited ≡ false → t .completeLimited ≡ false
-    → (stitchedCall bd recorded filesOnly (ok g) words q′) .answer ≡ Resolution.Done n′ t′ → t′ .countLimited ≡ false → t′ .completeLimited ≡ false
+    → (stitchedCall bd recorded knownOwners (ok g) words q′) .answer ≡ Resolution.Done n′ t′ → t′ .countLimited ≡ false → t′ .completeLimited ≡ false
     → Demand bd (viewOf g) (q .node) (q .limits .length) (directLists bd g q) (stitchedLists bd g words q′)
 unfolding directCall
 demand bd g good q q′ words node limit holds n n′ t t′ hd dn dk hs sn sk =
@@ -145,8 +145,8 @@ demand bd g good q q′ words node limit holds n n′ t t′ hd dn dk hs sn sk =
     d : Answered bd (q .result) (direct bd lim (settingOf bd q) (viewOf g) r) t (directCall bd recorded (ok g) q)
     d = searched-done bd q n t (direct bd lim (settingOf bd q) (viewOf g) r) hd
 
-    s : Answered bd (q′ .result) (stitched bd (q′ .limits .length) (settingOf bd q′) (viewOf g) (slotsIn bd words) (q′ .node)) t′ (stitchedCall bd recorded filesOnly (ok g) words q′)
-    s = stitched-done bd filesOnly g words q′ n′ t′ hs
+    s : Answered bd (q′ .result) (stitched bd (q′ .limits .length) (settingOf bd q′) (viewOf g) (slotsIn bd words) (q′ .node)) t′ (stitchedCall bd recorded knownOwners (ok g) words q′)
+    s = stitched-done bd knownOwners g words q′ n′ t′ hs
 
     found-s : stitched bd lim (settingOf bd q′) (viewOf g) (slotsIn bd words) r ≡ ok (s .state)
     found-s = subst (λ z. stitched bd lim (settingOf bd q′) (viewOf g) (slotsIn bd words) z ≡ ok (s .state)) (sym node) (subst (λ z. stitched bd z (settingOf bd q′) (viewOf g) (slotsIn bd words) (q′ .node) ≡ ok (s .state)) (sym limit) (s .found))
@@ -171,8 +171,8 @@ demand bd g good q q′ words node limit holds n n′ t t′ hd dn dk hs sn sk =
 
 -- the result area keeps its length
 module _ (bd : Bounds) (kept : State Path → List Path) (shorter : (u : State Path) → length (kept u) ≤ length (u .kept)) where
-  searched-length : (q : Request) (a : Answer SearchRefusal (State Path)) → ((u : State Path) → a ≡ ok u → length (u .kept) ≤ wholeSlots (slotWords bd) (q .result)) → length ((searched bd kept q a) .result) ≡ q .result
-  unfolding searched
+  searched-length : (q : Request) (a : Answer SearchRefusal (State Path)) → ((u : State Path) → a ≡ ok u → length (u .kept) ≤ wholeSlots (slotWords bd) (q .result)) → length ((searchOutcome bd kept q a) .result) ≡ q .result
+  unfolding searchOutcome
   searched-length q (ok u) h = length-area (slotWords bd) (q .result) (edgeLists (kept u)) (le-trans (mul-le-mul-left (slotWords bd) (omega (arith, length-lists (kept u), shorter u, h u refl))) (whole-fits (slotWords bd) (q .result)))
   searched-length q (refuse r) h = length-replicate (q .result) 0
 
@@ -183,10 +183,10 @@ module _ (bd : Bounds) (kept : State Path → List Path) (shorter : (u : State P
   direct-length (refuse r) q = length-replicate (q .result) 0
 
   pub stitched-length : (known : ℕ → ℕ → Bool) (image : Answer ImageRefusal Graph) (words : List ℕ) (q : Request) → length ((stitchedCall bd kept known image words q) .result) ≡ q .result
-  unfolding stitchedCall onSlots
+  unfolding stitchedCall stitchedOutcome
   stitched-length known (ok g) words q = on (checkDatabase bd known g words)
     where
-      on : (a : Answer DatabaseRefusal (List Slot)) → length ((onSlots bd kept g q a) .result) ≡ q .result
+      on : (a : Answer DatabaseRefusal (List Slot)) → length ((stitchedOutcome bd kept g q a) .result) ≡ q .result
       on (ok db) = searched-length q (stitched bd (q .limits .length) (settingOf bd q) (viewOf g) db (q .node))
           (λ u h. let a = stitched-ok (fileOwners g) bd (q .limits .length) (settingOf bd q) (viewOf g) (q .node) db u h in enumerate-room (wholeSlots (slotWords bd) (q .result)) Search.NoResultSlot (settingOf bd q) refl (slotTries bd (q .limits .length) (viewOf g) db) (bd .expansions) (a .0 ∷ []) u (a .2))
       on (refuse r) = length-replicate (q .result) 0

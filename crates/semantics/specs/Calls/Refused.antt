@@ -24,7 +24,7 @@ use Rattle.semantics.specs.PartialPaths.{Route, Slot, filePartials}
 use Rattle.semantics.specs.Stitching.{stitched}
 use Rattle.semantics.specs.Words.{zeros}
 use Rattle.semantics.specs.Database.{checkDatabase, hasRoom}
-use Rattle.semantics.specs.Calls.{Request, LinearRequest, FileRequest, Outcome, Change, noPath, replayedAs, replayCall, settingOf, linearSettingOf, fileSettingOf, searched, directCall, onSlots, stitchedCall, linearly, linearCall, created, freshCall, stored, computed, onDatabase, replaceCall}
+use Rattle.semantics.specs.Calls.{Request, LinearRequest, FileRequest, Outcome, Change, noPath, replayAnswer, replayCall, settingOf, linearSettingOf, fileSettingOf, searchOutcome, directCall, stitchedOutcome, stitchedCall, linearOutcome, linearCall, creationOutcome, freshCall, filingOutcome, computationOutcome, replacementOutcome, replaceCall}
 
 -- told with a number other than 0
 abbrev pub IsRefused : List ℕ → Type 0
@@ -42,8 +42,8 @@ pub record Kept {A : Type 0} (told : A → List ℕ) (workLength : ℕ) (words :
 
 module _ (bd : Bounds) where
   module _ (reply : State Path → List Path) where
-    searched-zeroed : (q : Request) (a : Answer SearchRefusal (State Path)) → Zeroed toldResolution (q .work) (q .result) (searched bd reply q a)
-    unfolding searched
+    searched-zeroed : (q : Request) (a : Answer SearchRefusal (State Path)) → Zeroed toldResolution (q .work) (q .result) (searchOutcome bd reply q a)
+    unfolding searchOutcome
     searched-zeroed q (ok s) = record { work = refl; result = λ h. absurd (h refl) }
     searched-zeroed q (refuse r) = record { work = refl; result = λ h. refl }
 
@@ -52,8 +52,8 @@ module _ (bd : Bounds) where
     direct-zeroed (ok g) q = searched-zeroed q (direct bd (q .limits .length) (settingOf bd q) (viewOf g) (q .node))
     direct-zeroed (refuse x) q = record { work = refl; result = λ h. refl }
 
-    slots-zeroed : (g : Graph) (q : Request) (a : Answer DatabaseRefusal (List Slot)) → Zeroed toldResolution (q .work) (q .result) (onSlots bd reply g q a)
-    unfolding onSlots
+    slots-zeroed : (g : Graph) (q : Request) (a : Answer DatabaseRefusal (List Slot)) → Zeroed toldResolution (q .work) (q .result) (stitchedOutcome bd reply g q a)
+    unfolding stitchedOutcome
     slots-zeroed g q (ok db) = searched-zeroed q (stitched bd (q .limits .length) (settingOf bd q) (viewOf g) db (q .node))
     slots-zeroed g q (refuse r) = record { work = refl; result = λ h. refl }
 
@@ -62,8 +62,8 @@ module _ (bd : Bounds) where
     stitched-zeroed known (ok g) words q = slots-zeroed g q (checkDatabase bd known g words)
     stitched-zeroed known (refuse x) words q = record { work = refl; result = λ h. refl }
 
-    linearly-zeroed : (q : LinearRequest) (a : Answer LinearRefusal (State Path)) → Zeroed toldLinearResolution 0 (q .result) (linearly bd reply q a)
-    unfolding linearly
+    linearly-zeroed : (q : LinearRequest) (a : Answer LinearRefusal (State Path)) → Zeroed toldLinearResolution 0 (q .result) (linearOutcome bd reply q a)
+    unfolding linearOutcome
     linearly-zeroed q (ok s) = record { work = refl; result = λ h. absurd (h refl) }
     linearly-zeroed q (refuse r) = record { work = refl; result = λ h. refl }
 
@@ -74,26 +74,26 @@ module _ (bd : Bounds) where
 
   -- a refused replay answers no path
   pub replay-refused : (image : Answer ImageRefusal Graph) (r : ℕ) (es : List ℕ) → IsRefused (toldReplayed ((replayCall bd image r es) .answer)) → (replayCall bd image r es) .path ≡ noPath
-  unfolding replayCall replayedAs
+  unfolding replayCall replayAnswer
   replay-refused (ok g) r es h = on (replay bd (viewOf g) r es) h
     where
-      on : (a : Answer ReplayRefusal Path) → IsRefused (toldReplayed ((replayedAs a) .answer)) → (replayedAs a) .path ≡ noPath
+      on : (a : Answer ReplayRefusal Path) → IsRefused (toldReplayed ((replayAnswer a) .answer)) → (replayAnswer a) .path ≡ noPath
       on (ok p) h = absurd (h refl)
       on (refuse x) h = refl
   replay-refused (refuse x) r es h = refl
 
-  stored-kept : (b : Bool) (g : Graph) (q : FileRequest) (words : List ℕ) (s : State Route) → Kept toldReplacement (q .work) words (stored bd b g q words s)
-  unfolding stored
+  stored-kept : (b : Bool) (g : Graph) (q : FileRequest) (words : List ℕ) (s : State Route) → Kept toldReplacement (q .work) words (filingOutcome bd b g q words s)
+  unfolding filingOutcome
   stored-kept true g q words s = record { work = refl; database = λ h. absurd (h refl) }
   stored-kept false g q words s = record { work = refl; database = λ h. refl }
 
-  computed-kept : (g : Graph) (q : FileRequest) (words : List ℕ) (a : Answer PartialPathRefusal (State Route)) → Kept toldReplacement (q .work) words (computed bd g q words a)
-  unfolding computed
+  computed-kept : (g : Graph) (q : FileRequest) (words : List ℕ) (a : Answer PartialPathRefusal (State Route)) → Kept toldReplacement (q .work) words (computationOutcome bd g q words a)
+  unfolding computationOutcome
   computed-kept g q words (ok s) = stored-kept (hasRoom bd s words) g q words s
   computed-kept g q words (refuse r) = record { work = refl; database = λ h. refl }
 
-  database-kept : (g : Graph) (q : FileRequest) (words : List ℕ) (a : Answer DatabaseRefusal (List Slot)) → Kept toldReplacement (q .work) words (onDatabase bd g q words a)
-  unfolding onDatabase
+  database-kept : (g : Graph) (q : FileRequest) (words : List ℕ) (a : Answer DatabaseRefusal (List Slot)) → Kept toldReplacement (q .work) words (replacementOutcome bd g q words a)
+  unfolding replacementOutcome
   database-kept g q words (ok db) = computed-kept g q words (filePartials bd (q .length) (fileSettingOf bd q) g (q .file))
   database-kept g q words (refuse r) = record { work = refl; database = λ h. refl }
 
@@ -102,8 +102,8 @@ module _ (bd : Bounds) where
   replace-kept known (ok g) q words = database-kept g q words (checkDatabase bd known g words)
   replace-kept known (refuse x) q words = record { work = refl; database = λ h. refl }
 
-created-kept : (b : Bool) (g : Graph) (words : List ℕ) → Kept toldCreation 0 words (created b g words)
-unfolding created
+created-kept : (b : Bool) (g : Graph) (words : List ℕ) → Kept toldCreation 0 words (creationOutcome b g words)
+unfolding creationOutcome
 created-kept true g words = record { work = refl; database = λ h. absurd (h refl) }
 created-kept false g words = record { work = refl; database = λ h. refl }
 

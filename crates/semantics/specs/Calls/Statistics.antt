@@ -3,7 +3,7 @@
 -- expansions, paths still waiting, and 1 more if the path-count flag is set." The start is no push there.
 use Prim.Native.Nat.{ℕ, _+_, _-_}
 use native.Mathlib.Omega.{arith}
-use mathlib.Core.Path.{_≡_, refl, sym, ap, subst}
+use mathlib.Core.Path.{_≡_, refl, subst}
 use mathlib.Core.Bool.{Bool, true, false, true≢false}
 use mathlib.Core.List.{List}
 use lib.ListN.{length}
@@ -19,7 +19,7 @@ use Rattle.semantics.specs.Enumeration.{State}
 use Rattle.semantics.specs.Enumeration.Statistics.{Balanced, bit}
 use Rattle.semantics.specs.Direct.{direct}
 use Rattle.semantics.specs.Direct.Laws.{direct-balanced}
-use Rattle.semantics.specs.Calls.{Request, settingOf, searched, directCall}
+use Rattle.semantics.specs.Calls.{Request, settingOf, searchOutcome, directCall}
 
 -- what no call returns: edges looked at, length refusals, pushes without the start, paths still waiting
 pub record Unreturned : Type 0 where
@@ -49,8 +49,8 @@ balanced-identities : (u : State Path) → Balanced 1 u → Identities (u .stats
 balanced-identities u b = record { looks = omega (arith, b .outcome, b .begun); pushes = omega (arith, b .pushes, b .begun) }
 
 module _ (bd : Bounds) (reply : State Path → List Path) where
-  searched-done : (q : Request) (n : ℕ) (t : SearchStats) (a : Answer SearchRefusal (State Path)) → (searched bd reply q a) .answer ≡ Resolution.Done n t → (u : State Path) × (a ≡ ok u) × (u .stats ≡ t)
-  unfolding searched
+  searched-done : (q : Request) (n : ℕ) (t : SearchStats) (a : Answer SearchRefusal (State Path)) → (searchOutcome bd reply q a) .answer ≡ Resolution.Done n t → (u : State Path) × (a ≡ ok u) × (u .stats ≡ t)
+  unfolding searchOutcome
   searched-done q n t (ok s) e = (s, refl, cc)
   searched-done q n t (refuse r) e = absurd (let z : _≡_ {A = Bool} true false = cc in true≢false z)
 

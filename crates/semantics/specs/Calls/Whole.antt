@@ -9,7 +9,7 @@ use Rattle.semantics.specs.declared.refusal.ImageRefusal.{ImageRefusal}
 use Rattle.semantics.specs.declared.refusal.DatabaseRefusal.{DatabaseRefusal}
 use Rattle.semantics.specs.declared.answer.Resolution.{Resolution}
 use Rattle.semantics.specs.declared.answer.Resolution.the-variants as Resolution
-use Rattle.semantics.specs.Limits.{Bounds}
+use Rattle.semantics.specs.Limits.{Bounds, slotWords}
 use Rattle.semantics.specs.Answer.{Answer, ok, refuse}
 use Rattle.semantics.specs.Answer.Laws.{ok-inj}
 use Rattle.semantics.specs.Graph.{Graph, viewOf}
@@ -18,13 +18,13 @@ use Rattle.semantics.specs.Direct.{direct}
 use Rattle.semantics.specs.Recorded.{recorded}
 use Rattle.semantics.specs.Image.{checkImage}
 use Rattle.semantics.specs.Image.Laws.{image-accepted}
-use Rattle.semantics.specs.Words.{listsIn, slotWords}
+use Rattle.semantics.specs.Words.{listsIn}
 use Rattle.semantics.specs.PartialPaths.{Slot}
-use Rattle.semantics.specs.Database.{slotsIn, filesOnly, checkDatabase}
+use Rattle.semantics.specs.Database.{slotsIn, knownOwners, checkDatabase}
 use Rattle.semantics.specs.Database.Checked.{Checked, checked-words}
 use Rattle.semantics.specs.Demand.{fileOwners, Demand, Holds}
 use Rattle.semantics.specs.Demand.Rules.{Exactly, demand-exactly}
-use Rattle.semantics.specs.Calls.{Request, Outcome, settingOf, directCall, onSlots, stitchedCall}
+use Rattle.semantics.specs.Calls.{Request, Outcome, settingOf, directCall, stitchedOutcome, stitchedCall}
 use Rattle.semantics.specs.Calls.Laws.{demand}
 use Rattle.semantics.specs.Calls.Statistics.{direct-identities}
 use Rattle.semantics.specs.Calls.Filing.{Refiled, Filed, refiled-holds, filed-holds}
@@ -46,7 +46,7 @@ module _ (w : ℕ) (bd : Bounds) where
   directRecorded im q = directCall bd recorded (checkImage w im) q
 
   abbrev pub stitchedRecorded : List ℕ → List ℕ → Request → Outcome Resolution
-  stitchedRecorded im words q = stitchedCall bd recorded filesOnly (checkImage w im) words q
+  stitchedRecorded im words q = stitchedCall bd recorded knownOwners (checkImage w im) words q
 
   -- THE PREMISES: direct search is asked q, stitched search q′, each in any order, areas and count limits
   pub record Premises (im words : List ℕ) (q q′ : Request) : Type 0 where
@@ -66,8 +66,8 @@ module _ (w : ℕ) (bd : Bounds) where
       g = p .graph
 
       onGraph : Finished (directRecorded im q) → Finished (stitchedRecorded im words q′) → Demand bd (viewOf g) (q .node) (q .limits .length) (recordedSet bd (directRecorded im q)) (recordedSet bd (stitchedRecorded im words q′))
-      onGraph = subst (λ (a : Answer ImageRefusal Graph). Finished (directCall bd recorded a q) → Finished (stitchedCall bd recorded filesOnly a words q′)
-          → Demand bd (viewOf g) (q .node) (q .limits .length) (recordedSet bd (directCall bd recorded a q)) (recordedSet bd (stitchedCall bd recorded filesOnly a words q′))) (sym (p .accepted))
+      onGraph = subst (λ (a : Answer ImageRefusal Graph). Finished (directCall bd recorded a q) → Finished (stitchedCall bd recorded knownOwners a words q′)
+          → Demand bd (viewOf g) (q .node) (q .limits .length) (recordedSet bd (directCall bd recorded a q)) (recordedSet bd (stitchedCall bd recorded knownOwners a words q′))) (sym (p .accepted))
           (λ d s. demand bd g (image-accepted w im g (p .accepted)) q q′ words (p .same-reference) (p .same-length-limit) (p .database-holds) (d .paths) (s .paths) (d .stats) (s .stats) (d .answered) (d .uncounted) (d .uncut) (s .answered) (s .uncounted) (s .uncut))
 
   -- the premise on databases is met by a fresh database in which every file was then replaced on this image, without limits and unrefused
@@ -75,12 +75,12 @@ module _ (w : ℕ) (bd : Bounds) where
   filed-premise im g h words done filed all = filed-holds bd g words done (subst (λ (a : Answer ImageRefusal Graph). Filed bd a words done) h filed) all
 
   -- an unrefused stitched call has met neither 35 nor 34
-  stitched-checked : (g : Graph) (words : List ℕ) (q : Request) → Finished (stitchedCall bd recorded filesOnly (ok g) words q) → Checked bd filesOnly g words
-  unfolding stitchedCall onSlots
-  stitched-checked g words q f = on (checkDatabase bd filesOnly g words) refl (f .answered)
+  stitched-checked : (g : Graph) (words : List ℕ) (q : Request) → Finished (stitchedCall bd recorded knownOwners (ok g) words q) → Checked bd knownOwners g words
+  unfolding stitchedCall stitchedOutcome
+  stitched-checked g words q f = on (checkDatabase bd knownOwners g words) refl (f .answered)
     where
-      on : (a : Answer DatabaseRefusal (List Slot)) → checkDatabase bd filesOnly g words ≡ a → (onSlots bd recorded g q a) .answer ≡ Resolution.Done (f .paths) (f .stats) → Checked bd filesOnly g words
-      on (ok db) k e = checked-words bd filesOnly g words db k
+      on : (a : Answer DatabaseRefusal (List Slot)) → checkDatabase bd knownOwners g words ≡ a → (stitchedOutcome bd recorded g q a) .answer ≡ Resolution.Done (f .paths) (f .stats) → Checked bd knownOwners g words
+      on (ok db) k e = checked-words bd knownOwners g words db k
       on (refuse r) k e = absurd (let z : _≡_ {A = Bool} true false = cc in true≢false z)
 
   -- THE DAILY REFILING: every file was replaced on this image in words that may have been made and filed on any earlier one
@@ -99,7 +99,7 @@ module _ (w : ℕ) (bd : Bounds) where
   refiled-premises im before words q q′ p =
       let g = p .graph in
       let filed = subst (λ (a : Answer ImageRefusal Graph). Refiled bd a before words (p .done)) (p .accepted) (p .replaced) in
-      let checked = stitched-checked g words q′ (subst (λ (a : Answer ImageRefusal Graph). Finished (stitchedCall bd recorded filesOnly a words q′)) (p .accepted) (p .stitched-finished)) in
+      let checked = stitched-checked g words q′ (subst (λ (a : Answer ImageRefusal Graph). Finished (stitchedCall bd recorded knownOwners a words q′)) (p .accepted) (p .stitched-finished)) in
       record {
         graph = g;
         accepted = p .accepted;

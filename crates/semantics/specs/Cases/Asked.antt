@@ -11,15 +11,15 @@ use Rattle.semantics.specs.declared.answer.Resolution.{Resolution}
 use Rattle.semantics.specs.declared.answer.LinearResolution.{LinearResolution}
 use Rattle.semantics.specs.declared.answer.Creation.{Creation}
 use Rattle.semantics.specs.declared.answer.Replacement.{Replacement}
-use Rattle.semantics.specs.Limits.{Bounds, base}
+use Rattle.semantics.specs.Limits.{Bounds, base, slotWords, recordWords}
 use Rattle.semantics.specs.Told.{toldChecked, toldReplayed, toldJudgement, toldResolution, toldLinearResolution, toldCreation, toldReplacement}
 use Rattle.semantics.specs.Path.{Path}
 use Rattle.semantics.specs.Enumeration.{State}
 use Rattle.semantics.specs.PartialPaths.{Slot, dead, slot}
 use Rattle.semantics.specs.Recorded.{recorded, returned}
 use Rattle.semantics.specs.Image.{symbolBytes, checkImage}
-use Rattle.semantics.specs.Words.{zeros, listsIn, slotWords, recordWords}
-use Rattle.semantics.specs.Database.{slotsIn, filesOnly, lookupPart, wordsOf}
+use Rattle.semantics.specs.Words.{zeros, listsIn}
+use Rattle.semantics.specs.Database.{slotsIn, knownOwners, lookupPart, wordsOf}
 use Rattle.semantics.specs.Calls.{Request, LinearRequest, FileRequest, Outcome, Change, ReplayedPath, checkCall, replayCall, completeCall, shadowsCall, directCall, stitchedCall, linearCall, freshCall, replaceCall}
 use Rattle.semantics.specs.Cases.Graphs.{joined}
 
@@ -54,14 +54,14 @@ shadowing im left leftEdges right rightEdges = toldJudgement (shadowsCall base (
 -- from a node, with so many whole slots in the areas
 abbrev pub requestFrom : ℕ → Bounds → SearchOrder → Limit → Limit → Limit → ℕ → ℕ → Request
 requestFrom node bd order length count complete waiting results =
-    record { order = order; limits = record { length = length; paths = count; complete = complete }; work = slotWords bd * waiting; result = slotWords bd * results; node = node }
+    record { order = order; limits = record { length = length; expansions = count; complete = complete }; work = slotWords bd * waiting; result = slotWords bd * results; node = node }
 
 abbrev pub request : Bounds → SearchOrder → Limit → Limit → Limit → ℕ → ℕ → Request
 request = requestFrom 2
 
 -- with so many words in the areas
 abbrev pub requestIn : ℕ → ℕ → Request
-requestIn work result = record { order = BreadthFirst; limits = record { length = Absent; paths = Absent; complete = Absent }; work = work; result = result; node = 2 }
+requestIn work result = record { order = BreadthFirst; limits = record { length = Absent; expansions = Absent; complete = Absent }; work = work; result = result; node = 2 }
 
 -- an answer's number and values, then the lists in the used result slots
 unfoldable pub shown : Bounds → Outcome Resolution → List (List ℕ)
@@ -105,7 +105,7 @@ recording order length count complete im = recordedBy base (request base order l
 
 unfoldable pub stitch : (State Path → List Path) → Bounds → Request → List ℕ → List ℕ → Outcome Resolution
 unfolding stitchedCall checkImage
-stitch reply bd q im words = stitchedCall bd reply filesOnly (checkImage symbolBytes im) words q
+stitch reply bd q im words = stitchedCall bd reply knownOwners (checkImage symbolBytes im) words q
 
 unfoldable pub stitchedReturned : Bounds → Request → List ℕ → List ℕ → List (List ℕ)
 unfolding shown stitch returned
@@ -124,7 +124,7 @@ unfolding stitchedReturned
 stitching order length count complete im words = stitchedReturned base (request base order length count complete 128 128) im words
 
 abbrev pub linearRequest : ℕ → Limit → Limit → Limit → ℕ → LinearRequest
-linearRequest node length count complete result = record { limits = record { length = length; paths = count; complete = complete }; result = result; node = node }
+linearRequest node length count complete result = record { limits = record { length = length; expansions = count; complete = complete }; result = result; node = node }
 
 unfoldable pub linear : Bounds → LinearRequest → List ℕ → Outcome LinearResolution
 unfolding linearCall checkImage returned
@@ -169,11 +169,11 @@ unfolding freshCall checkImage
 creating im words = freshCall (checkImage symbolBytes im) words
 
 abbrev pub fileRequest : Bounds → SearchOrder → Limit → Limit → ℕ → ℕ → FileRequest
-fileRequest bd order length count waiting file = record { order = order; length = length; paths = count; work = slotWords bd * waiting; file = file }
+fileRequest bd order length count waiting file = record { order = order; length = length; expansions = count; work = slotWords bd * waiting; file = file }
 
 unfoldable pub filing : Bounds → FileRequest → List ℕ → List ℕ → Change Replacement
 unfolding replaceCall checkImage
-filing bd q im words = replaceCall bd filesOnly (checkImage symbolBytes im) q words
+filing bd q im words = replaceCall bd knownOwners (checkImage symbolBytes im) q words
 
 -- every word that a fresh database and a replacement leave
 abbrev pub createdWords : Change Creation → List (List ℕ)
@@ -191,9 +191,9 @@ unfoldable pub replacing : List ℕ → ℕ → List ℕ → Change Replacement
 unfolding filing
 replacing im f words = filing base (fileRequest base BreadthFirst Absent Absent 128 f) im words
 
-unfoldable pub oneFile : List ℕ → List ℕ
+unfoldable pub firstFiled : List ℕ → List ℕ
 unfolding replacing freshly
-oneFile im = (replacing im 0 (freshly im)) .database
+firstFiled im = (replacing im 0 (freshly im)) .database
 
 -- a live slot's start, then its edges
 unfoldable pub slotRow : Slot → List ℕ
@@ -225,4 +225,4 @@ slotsHeld words = map slotWhole (slotsIn base words)
 -- the place of a partial path's edges among the words, and the words there
 unfoldable pub lookingUp : ℕ → List ℕ → List (List ℕ)
 unfolding lookupPart
-lookingUp i words = ((lookupPart base filesOnly i words) .from ∷ (lookupPart base filesOnly i words) .upTo ∷ []) ∷ wordsOf (lookupPart base filesOnly i words) words ∷ []
+lookingUp i words = ((lookupPart base knownOwners i words) .from ∷ (lookupPart base knownOwners i words) .upTo ∷ []) ∷ wordsOf (lookupPart base knownOwners i words) words ∷ []

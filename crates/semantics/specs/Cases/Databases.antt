@@ -1,19 +1,19 @@
 -- A database as words: which words are 35 and 34, a fresh one, every word of a replacement, a lookup.
 -- Document 01, "Partial paths", second paragraph, and the rows 33, 34, 35 and 21 of "Turned back".
-use Prim.Native.Nat.{ℕ}
+use Prim.Native.Nat.{ℕ, _+_, _-_, _*_}
 use mathlib.Core.Path.{refl}
 use mathlib.Core.List.{List, [], _∷_, _++_}
 use lib.ListN.{take, replicate}
 use Rattle.semantics.specs.declared.search.Limit.the-variants.{Absent}
 use Rattle.semantics.specs.declared.search.SearchOrder.the-variants.{BreadthFirst}
-use Rattle.semantics.specs.Limits.{Bounds, base}
+use Rattle.semantics.specs.Limits.{Bounds, base, maxEdges, slotLength, recordLength}
 use Rattle.semantics.specs.Told.{toldReplacement}
 use Rattle.semantics.specs.Enumeration.{State, noStats, noTally}
 use Rattle.semantics.specs.PartialPaths.{Route, Slot, dead, slot, clear, replaced}
 use Rattle.semantics.specs.Words.{zeros}
 use Rattle.semantics.specs.Cases.Rows.{Row, _gives_, Agreed, refused}
 use Rattle.semantics.specs.Cases.Graphs.{imageA, imageOf, scope, reference, definition, _⟶_}
-use Rattle.semantics.specs.Cases.Asked.{bounded, request, requestFrom, stitchedReturned, databaseOf, held, creating, createdWords, fileRequest, filing, changedWords, oneFile, slotsHeld, lookingUp}
+use Rattle.semantics.specs.Cases.Asked.{bounded, request, requestFrom, stitchedReturned, databaseOf, held, creating, createdWords, fileRequest, filing, changedWords, firstFiled, slotsHeld, lookingUp}
 
 -- WORDS THAT ARE 35 OR 34, on A: F 1, N 6. File 9 is none, so words that are neither are answered by 21, which stands behind both
 lent : Bounds → List ℕ → List ℕ
@@ -22,7 +22,7 @@ lent bd words = toldReplacement ((filing bd (fileRequest bd BreadthFirst Absent 
 
 -- the stored N and F, and one slot: file + 1, start, end, edge count, and 127 words 8
 abbrev oneSlot : ℕ → ℕ → ℕ → ℕ → ℕ → ℕ → List ℕ
-oneSlot nodes files owner start end count = 1 ∷ nodes ∷ files ∷ owner ∷ start ∷ end ∷ count ∷ replicate 127 8
+oneSlot nodes files owner start end count = 1 ∷ nodes ∷ files ∷ owner ∷ start ∷ end ∷ count ∷ replicate maxEdges 8
 
 pub lendings : List (Row (List ℕ))
 unfolding lent
@@ -34,7 +34,7 @@ lendings =
     ∷ (lent base (0 ∷ 6 ∷ 1 ∷ []) gives 21 ∷ 9 ∷ [])
     -- slots used above the whole slots lent: 130 words are none, 131 are one
     ∷ (lent base (1 ∷ 6 ∷ 1 ∷ zeros 130) gives 35 ∷ [])
-    ∷ (lent base (1 ∷ 6 ∷ 1 ∷ zeros 131) gives 21 ∷ 9 ∷ [])
+    ∷ (lent base (1 ∷ 6 ∷ 1 ∷ zeros recordLength) gives 21 ∷ 9 ∷ [])
     ∷ (lent base (2 ∷ 6 ∷ 1 ∷ zeros 261) gives 35 ∷ [])
     ∷ (lent base (2 ∷ 6 ∷ 1 ∷ zeros 262) gives 21 ∷ 9 ∷ [])
     -- capacity 4,096, whatever is lent: with slots of 5 words, so that few are needed
@@ -49,13 +49,13 @@ lendings =
     ∷ (lent base (oneSlot 6 1 1 6 3 1) gives 35 ∷ [])
     -- edge counts 0, 127, 128
     ∷ (lent base (oneSlot 6 1 1 2 3 0) gives 35 ∷ [])
-    ∷ (lent base (oneSlot 6 1 1 2 3 127) gives 21 ∷ 9 ∷ [])
-    ∷ (lent base (oneSlot 6 1 1 2 3 128) gives 35 ∷ [])
+    ∷ (lent base (oneSlot 6 1 1 2 3 maxEdges) gives 21 ∷ 9 ∷ [])
+    ∷ (lent base (oneSlot 6 1 1 2 3 slotLength) gives 35 ∷ [])
     -- the end is not looked at, and the edges are not
     ∷ (lent base (oneSlot 6 1 1 2 4000000000 1) gives 21 ∷ 9 ∷ [])
     -- dead slots and slots beyond use are not looked at
     ∷ (lent base (oneSlot 6 1 0 99 99 200) gives 21 ∷ 9 ∷ [])
-    ∷ (lent base (0 ∷ 6 ∷ 1 ∷ 9 ∷ 99 ∷ 99 ∷ 0 ∷ zeros 127) gives 21 ∷ 9 ∷ [])
+    ∷ (lent base (0 ∷ 6 ∷ 1 ∷ 9 ∷ 99 ∷ 99 ∷ 0 ∷ zeros maxEdges) gives 21 ∷ 9 ∷ [])
     -- each used slot is
     ∷ (lent base (databaseOf 2 6 1 (held 1 2 3 (0 ∷ []) ∷ held 1 6 3 (0 ∷ []) ∷ [])) gives 35 ∷ [])
     ∷ (lent base (databaseOf 2 6 1 (held 1 6 3 (0 ∷ []) ∷ held 1 2 3 (0 ∷ []) ∷ [])) gives 35 ∷ [])
@@ -121,7 +121,7 @@ abbrev old0 : List ℕ
 old0 = 1 ∷ 2 ∷ 3 ∷ 1 ∷ 0 ∷ replicate 126 8
 
 abbrev oldDead : List ℕ
-oldDead = 0 ∷ 5 ∷ 6 ∷ 7 ∷ replicate 127 8
+oldDead = 0 ∷ 5 ∷ 6 ∷ 7 ∷ replicate maxEdges 8
 
 abbrev old1 : List ℕ
 old1 = 2 ∷ 3 ∷ 9 ∷ 2 ∷ 4 ∷ 5 ∷ replicate 125 8
@@ -129,9 +129,9 @@ old1 = 2 ∷ 3 ∷ 9 ∷ 2 ∷ 4 ∷ 5 ∷ replicate 125 8
 -- the partial paths of A's file
 abbrev filedA : List (List ℕ)
 filedA =
-    (1 ∷ 2 ∷ 3 ∷ 1 ∷ 0 ∷ zeros 126)
-    ∷ (1 ∷ 3 ∷ 4 ∷ 1 ∷ 1 ∷ zeros 126)
-    ∷ (1 ∷ 3 ∷ 5 ∷ 1 ∷ 2 ∷ zeros 126)
+    (1 ∷ 2 ∷ 3 ∷ 1 ∷ 0 ∷ zeros (maxEdges - 1))
+    ∷ (1 ∷ 3 ∷ 4 ∷ 1 ∷ 1 ∷ zeros (maxEdges - 1))
+    ∷ (1 ∷ 3 ∷ 5 ∷ 1 ∷ 2 ∷ zeros (maxEdges - 1))
     ∷ (1 ∷ 2 ∷ 4 ∷ 2 ∷ 0 ∷ 1 ∷ zeros 125)
     ∷ (1 ∷ 2 ∷ 5 ∷ 2 ∷ 0 ∷ 2 ∷ zeros 125)
     ∷ []
@@ -147,20 +147,20 @@ replacements =
     (changedWords (filing base (fileRequest base BreadthFirst Absent Absent 4 0) imageA (0 ∷ 6 ∷ 1 ∷ replicate 657 9)) gives (0 ∷ 8 ∷ 5 ∷ 0 ∷ 0 ∷ 0 ∷ []) ∷ zeros 512 ∷ databaseOf 5 6 1 (filedA ++ ((9 ∷ 9 ∷ []) ∷ [])) ∷ [])
     -- the file's slot becomes zeros, all 131; the dead one keeps its words, the other file's too; the new slot is the next; N and F are the graph's
     ∷ (refiled 2 0 (databaseOf 3 4 2 (old0 ∷ oldDead ∷ old1 ∷ replicate 133 8 ∷ [])) gives
-    (0 ∷ 3 ∷ 1 ∷ 0 ∷ 0 ∷ 0 ∷ []) ∷ zeros 256 ∷ databaseOf 4 7 3 (zeros 131 ∷ oldDead ∷ old1 ∷ (1 ∷ 2 ∷ 3 ∷ 1 ∷ 0 ∷ zeros 126) ∷ (8 ∷ 8 ∷ []) ∷ []) ∷ [])
+    (0 ∷ 3 ∷ 1 ∷ 0 ∷ 0 ∷ 0 ∷ []) ∷ zeros (2 * slotLength) ∷ databaseOf 4 7 3 (zeros recordLength ∷ oldDead ∷ old1 ∷ (1 ∷ 2 ∷ 3 ∷ 1 ∷ 0 ∷ zeros (maxEdges - 1)) ∷ (8 ∷ 8 ∷ []) ∷ []) ∷ [])
     ∷ (refiled 2 1 (databaseOf 3 4 2 (old0 ∷ oldDead ∷ old1 ∷ replicate 133 8 ∷ [])) gives
-    (0 ∷ 3 ∷ 1 ∷ 0 ∷ 0 ∷ 0 ∷ []) ∷ zeros 256 ∷ databaseOf 4 7 3 (old0 ∷ oldDead ∷ zeros 131 ∷ (2 ∷ 4 ∷ 5 ∷ 1 ∷ 1 ∷ zeros 126) ∷ (8 ∷ 8 ∷ []) ∷ []) ∷ [])
+    (0 ∷ 3 ∷ 1 ∷ 0 ∷ 0 ∷ 0 ∷ []) ∷ zeros (2 * slotLength) ∷ databaseOf 4 7 3 (old0 ∷ oldDead ∷ zeros recordLength ∷ (2 ∷ 4 ∷ 5 ∷ 1 ∷ 1 ∷ zeros (maxEdges - 1)) ∷ (8 ∷ 8 ∷ []) ∷ []) ∷ [])
     -- a file without partial paths needs no slot
-    ∷ (refiled 2 2 (databaseOf 3 4 2 (old0 ∷ oldDead ∷ old1 ∷ [])) gives (0 ∷ 1 ∷ 0 ∷ 0 ∷ 0 ∷ 0 ∷ []) ∷ zeros 256 ∷ databaseOf 3 7 3 (old0 ∷ oldDead ∷ old1 ∷ []) ∷ [])
+    ∷ (refiled 2 2 (databaseOf 3 4 2 (old0 ∷ oldDead ∷ old1 ∷ [])) gives (0 ∷ 1 ∷ 0 ∷ 0 ∷ 0 ∷ 0 ∷ []) ∷ zeros (2 * slotLength) ∷ databaseOf 3 7 3 (old0 ∷ oldDead ∷ old1 ∷ []) ∷ [])
     -- 3 words hold a database of no slots
-    ∷ (refiled 2 2 (0 ∷ 1 ∷ 1 ∷ []) gives (0 ∷ 1 ∷ 0 ∷ 0 ∷ 0 ∷ 0 ∷ []) ∷ zeros 256 ∷ (0 ∷ 7 ∷ 3 ∷ []) ∷ [])
+    ∷ (refiled 2 2 (0 ∷ 1 ∷ 1 ∷ []) gives (0 ∷ 1 ∷ 0 ∷ 0 ∷ 0 ∷ 0 ∷ []) ∷ zeros (2 * slotLength) ∷ (0 ∷ 7 ∷ 3 ∷ []) ∷ [])
     -- refused, every word stays, and the work area is zero: 33, 31, 21, 34, 35, the image
-    ∷ (refiled 2 0 (databaseOf 3 7 3 (old0 ∷ oldDead ∷ old1 ∷ replicate 130 8 ∷ [])) gives (33 ∷ []) ∷ zeros 256 ∷ databaseOf 3 7 3 (old0 ∷ oldDead ∷ old1 ∷ replicate 130 8 ∷ []) ∷ [])
-    ∷ (refiled 1 0 (databaseOf 1 7 3 (old0 ∷ replicate 131 8 ∷ [])) gives (31 ∷ []) ∷ zeros 128 ∷ databaseOf 1 7 3 (old0 ∷ replicate 131 8 ∷ []) ∷ [])
-    ∷ (refiled 2 3 (databaseOf 1 7 3 (old0 ∷ [])) gives (21 ∷ 3 ∷ []) ∷ zeros 256 ∷ databaseOf 1 7 3 (old0 ∷ []) ∷ [])
-    ∷ (refiled 2 0 (databaseOf 1 8 3 (old0 ∷ [])) gives (34 ∷ []) ∷ zeros 256 ∷ databaseOf 1 8 3 (old0 ∷ []) ∷ [])
-    ∷ (refiled 2 0 (databaseOf 2 7 3 (old0 ∷ [])) gives (35 ∷ []) ∷ zeros 256 ∷ databaseOf 2 7 3 (old0 ∷ []) ∷ [])
-    ∷ (changedWords (filing base (fileRequest base BreadthFirst Absent Absent 1 9) (take 76 imageA) (9 ∷ [])) gives (2 ∷ []) ∷ zeros 128 ∷ (9 ∷ []) ∷ [])
+    ∷ (refiled 2 0 (databaseOf 3 7 3 (old0 ∷ oldDead ∷ old1 ∷ replicate (recordLength - 1) 8 ∷ [])) gives (33 ∷ []) ∷ zeros (2 * slotLength) ∷ databaseOf 3 7 3 (old0 ∷ oldDead ∷ old1 ∷ replicate (recordLength - 1) 8 ∷ []) ∷ [])
+    ∷ (refiled 1 0 (databaseOf 1 7 3 (old0 ∷ replicate recordLength 8 ∷ [])) gives (31 ∷ []) ∷ zeros slotLength ∷ databaseOf 1 7 3 (old0 ∷ replicate recordLength 8 ∷ []) ∷ [])
+    ∷ (refiled 2 3 (databaseOf 1 7 3 (old0 ∷ [])) gives (21 ∷ 3 ∷ []) ∷ zeros (2 * slotLength) ∷ databaseOf 1 7 3 (old0 ∷ []) ∷ [])
+    ∷ (refiled 2 0 (databaseOf 1 8 3 (old0 ∷ [])) gives (34 ∷ []) ∷ zeros (2 * slotLength) ∷ databaseOf 1 8 3 (old0 ∷ []) ∷ [])
+    ∷ (refiled 2 0 (databaseOf 2 7 3 (old0 ∷ [])) gives (35 ∷ []) ∷ zeros (2 * slotLength) ∷ databaseOf 2 7 3 (old0 ∷ []) ∷ [])
+    ∷ (changedWords (filing base (fileRequest base BreadthFirst Absent Absent 1 9) (take 76 imageA) (9 ∷ [])) gives (2 ∷ []) ∷ zeros slotLength ∷ (9 ∷ []) ∷ [])
     ∷ []
 
 pub replacement-cases : Agreed replacements
@@ -169,20 +169,20 @@ replacement-cases = refl
 
 -- WHAT THE SLOTS HOLD, and a lookup: the place of the edges and the words there
 pub lookups : List (Row (List (List ℕ)))
-unfolding slotsHeld lookingUp oneFile
+unfolding slotsHeld lookingUp firstFiled
 lookups =
     -- file, start, end and edges; nothing for a dead slot
     (slotsHeld (databaseOf 3 6 2 (held 1 2 3 (0 ∷ []) ∷ oldDead ∷ held 2 4 5 (6 ∷ 7 ∷ []) ∷ [])) gives (0 ∷ 2 ∷ 3 ∷ 0 ∷ []) ∷ [] ∷ (1 ∷ 4 ∷ 5 ∷ 6 ∷ 7 ∷ []) ∷ [])
-    ∷ (slotsHeld (oneFile imageA) gives (0 ∷ 2 ∷ 3 ∷ 0 ∷ []) ∷ (0 ∷ 3 ∷ 4 ∷ 1 ∷ []) ∷ (0 ∷ 3 ∷ 5 ∷ 2 ∷ []) ∷ (0 ∷ 2 ∷ 4 ∷ 0 ∷ 1 ∷ []) ∷ (0 ∷ 2 ∷ 5 ∷ 0 ∷ 2 ∷ []) ∷ [])
+    ∷ (slotsHeld (firstFiled imageA) gives (0 ∷ 2 ∷ 3 ∷ 0 ∷ []) ∷ (0 ∷ 3 ∷ 4 ∷ 1 ∷ []) ∷ (0 ∷ 3 ∷ 5 ∷ 2 ∷ []) ∷ (0 ∷ 2 ∷ 4 ∷ 0 ∷ 1 ∷ []) ∷ (0 ∷ 2 ∷ 5 ∷ 0 ∷ 2 ∷ []) ∷ [])
     -- the first slot, the last, one behind it, also where live words stand there
-    ∷ (lookingUp 0 (oneFile imageA) gives (7 ∷ 8 ∷ []) ∷ (0 ∷ []) ∷ [])
-    ∷ (lookingUp 4 (oneFile imageA) gives (531 ∷ 533 ∷ []) ∷ (0 ∷ 2 ∷ []) ∷ [])
-    ∷ (lookingUp 5 (oneFile imageA) gives (0 ∷ 0 ∷ []) ∷ [] ∷ [])
+    ∷ (lookingUp 0 (firstFiled imageA) gives (7 ∷ 8 ∷ []) ∷ (0 ∷ []) ∷ [])
+    ∷ (lookingUp 4 (firstFiled imageA) gives ((7 + 4 * recordLength) ∷ (9 + 4 * recordLength) ∷ []) ∷ (0 ∷ 2 ∷ []) ∷ [])
+    ∷ (lookingUp 5 (firstFiled imageA) gives (0 ∷ 0 ∷ []) ∷ [] ∷ [])
     ∷ (lookingUp 1 (databaseOf 1 6 1 (held 1 2 3 (0 ∷ []) ∷ held 1 3 4 (1 ∷ []) ∷ [])) gives (0 ∷ 0 ∷ []) ∷ [] ∷ [])
     -- a dead slot; all 127 edges; words that meet 35; words that only 34 would refuse
     ∷ (lookingUp 1 (databaseOf 3 6 2 (held 1 2 3 (0 ∷ []) ∷ oldDead ∷ held 2 4 5 (6 ∷ 7 ∷ []) ∷ [])) gives (0 ∷ 0 ∷ []) ∷ [] ∷ [])
-    ∷ (lookingUp 0 (oneSlot 6 1 1 2 3 127) gives (7 ∷ 134 ∷ []) ∷ replicate 127 8 ∷ [])
-    ∷ (lookingUp 0 (oneSlot 6 1 1 2 3 128) gives (0 ∷ 0 ∷ []) ∷ [] ∷ [])
+    ∷ (lookingUp 0 (oneSlot 6 1 1 2 3 maxEdges) gives (7 ∷ (7 + maxEdges) ∷ []) ∷ replicate maxEdges 8 ∷ [])
+    ∷ (lookingUp 0 (oneSlot 6 1 1 2 3 slotLength) gives (0 ∷ 0 ∷ []) ∷ [] ∷ [])
     ∷ (lookingUp 0 (oneSlot 6 1 1 6 3 1) gives (0 ∷ 0 ∷ []) ∷ [] ∷ [])
     ∷ (lookingUp 0 (9 ∷ 8 ∷ 1 ∷ 0 ∷ []) gives (0 ∷ 0 ∷ []) ∷ [] ∷ [])
     ∷ (lookingUp 0 [] gives (0 ∷ 0 ∷ []) ∷ [] ∷ [])

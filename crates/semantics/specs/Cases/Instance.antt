@@ -1,5 +1,6 @@
 -- An instance of demand 3: all its premises hold of graph C and a database that was filed by the public calls.
 -- So the demand is not empty, and its conclusion there is what document 01 says of C.
+use Prim.Native.Nat.{_+_, _*_}
 use native.Mathlib.Omega.{arith}
 use mathlib.Core.Path.{_≡_, refl}
 use mathlib.Core.Bool.{true, false}
@@ -7,7 +8,7 @@ use mathlib.Core.List.{[], _∷_, List·Memᴰ·head}
 use Rattle.semantics.specs.declared.graph.Node.the-variants as N
 use Rattle.semantics.specs.declared.search.Limit.the-variants.{Absent}
 use Rattle.semantics.specs.declared.search.SearchOrder.the-variants.{BreadthFirst}
-use Rattle.semantics.specs.Limits.{base}
+use Rattle.semantics.specs.Limits.{base, slotLength, recordLength}
 use Rattle.semantics.specs.Graph.{fileId, Graph}
 use Rattle.semantics.specs.Recorded.{recorded}
 use Rattle.semantics.specs.Image.{symbolBytes, checkImage}
@@ -16,7 +17,7 @@ use Rattle.semantics.specs.Calls.{Request, directCall, stitchedCall, fre
 use Rattle.semantics.specs.Calls.Filing.{Filed, begun, refiled}
 use Rattle.semantics.specs.Calls.Whole.{Premises, filed-premise, Refiling}
 use Rattle.semantics.specs.Cases.Graphs.{imageA, imageC, live}
-use Rattle.semantics.specs.Cases.Asked.{request, oneFile, replacing, freshly}
+use Rattle.semantics.specs.Cases.Asked.{request, firstFiled, replacing, freshly}
 
 -- DEMAND 3 HAS INSTANCES: its premises hold together of C, whose file was filed into a fresh database of 8 slots
 abbrev pub askedC : Request
@@ -30,22 +31,22 @@ graphC =
       edges = live 2 0 0 ∷ live 0 0 0 ∷ live 0 3 0 ∷ [];
     }
 
-filedC : Filed base (checkImage symbolBytes imageC) (oneFile imageC) (0 ∷ [])
-unfolding oneFile replacing freshly checkImage freshCall replaceCall
+filedC : Filed base (checkImage symbolBytes imageC) (firstFiled imageC) (0 ∷ [])
+unfolding firstFiled replacing freshly checkImage freshCall replaceCall
 filedC = record {
-  lent = zeros 1051;
+  lent = zeros (3 + 8 * recordLength);
   created = refl;
-  replaced = refiled BreadthFirst 16384 0 (record { expanded = 5; found = 3; cycles = 0; lengthLimited = false; countLimited = false }) begun refl;
+  replaced = refiled BreadthFirst (128 * slotLength) 0 (record { expanded = 5; found = 3; cycles = 0; lengthLimited = false; countLimited = false }) begun refl;
 }
 
-pub premises-c : Premises symbolBytes base imageC (oneFile imageC) askedC askedC
-unfolding checkImage graphC oneFile replacing freshly directCall stitchedCall recorded
+pub premises-c : Premises symbolBytes base imageC (firstFiled imageC) askedC askedC
+unfolding checkImage graphC firstFiled replacing freshly directCall stitchedCall recorded
 premises-c = record {
   graph = graphC;
   accepted = refl;
   same-reference = refl;
   same-length-limit = refl;
-  database-holds = filed-premise symbolBytes base imageC graphC refl (oneFile imageC) (0 ∷ []) filedC (λ f h. List·Memᴰ·head (omega (arith, h)));
+  database-holds = filed-premise symbolBytes base imageC graphC refl (firstFiled imageC) (0 ∷ []) filedC (λ f h. List·Memᴰ·head (omega (arith, h)));
   direct-finished = record { paths = 2; stats = record { expanded = 5; complete = 2; rejected = 0; cycles = 1; lengthLimited = false; countLimited = false; completeLimited = false }; answered = refl; uncounted = refl; uncut = refl };
   stitched-finished = record { paths = 1; stats = record { expanded = 4; complete = 2; rejected = 0; cycles = 0; lengthLimited = false; countLimited = false; completeLimited = false }; answered = refl; uncounted = refl; uncut = refl };
 }
@@ -59,15 +60,15 @@ graphA =
       edges = live 2 3 0 ∷ live 3 4 0 ∷ live 3 5 1 ∷ [];
     }
 
-pub refiling-a : Refiling symbolBytes base imageA (oneFile imageC) ((replacing imageA 0 (oneFile imageC)) .database) askedC askedC
-unfolding checkImage graphA oneFile replacing freshly freshCall replaceCall directCall stitchedCall recorded
+pub refiling-a : Refiling symbolBytes base imageA (firstFiled imageC) ((replacing imageA 0 (firstFiled imageC)) .database) askedC askedC
+unfolding checkImage graphA firstFiled replacing freshly freshCall replaceCall directCall stitchedCall recorded
 refiling-a = record {
   graph = graphA;
   accepted = refl;
   same-reference = refl;
   same-length-limit = refl;
   done = 0 ∷ [];
-  replaced = refiled BreadthFirst 16384 0 (record { expanded = 8; found = 5; cycles = 0; lengthLimited = false; countLimited = false }) begun refl;
+  replaced = refiled BreadthFirst (128 * slotLength) 0 (record { expanded = 8; found = 5; cycles = 0; lengthLimited = false; countLimited = false }) begun refl;
   every-file = λ f h. let z : f ≡ 0 = omega (arith, h) in List·Memᴰ·head z;
   direct-finished = record { paths = 1; stats = record { expanded = 3; complete = 1; rejected = 1; cycles = 0; lengthLimited = false; countLimited = false; completeLimited = false }; answered = refl; uncounted = refl; uncut = refl };
   stitched-finished = record { paths = 1; stats = record { expanded = 4; complete = 2; rejected = 2; cycles = 0; lengthLimited = false; countLimited = false; completeLimited = false }; answered = refl; uncounted = refl; uncut = refl };

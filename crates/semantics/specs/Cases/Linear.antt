@@ -1,11 +1,11 @@
 -- Linear search: which second edge is 20, the order of its checks, its limits, its bounds and every word that it leaves.
 -- Document 01, "Answer": "Linear stops at a second appendable edge of one node", "That test stands between append and completeness".
-use Prim.Native.Nat.{ℕ}
+use Prim.Native.Nat.{ℕ, _+_, _*_}
 use mathlib.Core.Path.{refl}
 use mathlib.Core.List.{List, [], _∷_}
 use lib.ListN.{take}
 use Rattle.semantics.specs.declared.search.Limit.the-variants.{Absent, AtMost}
-use Rattle.semantics.specs.Limits.{base}
+use Rattle.semantics.specs.Limits.{base, maxEdges, slotLength}
 use Rattle.semantics.specs.Words.{zeros}
 use Rattle.semantics.specs.Cases.Rows.{Row, _gives_, Agreed, refused, returned_expanded_complete_rejected_cycles_flags_paths_, noFlag, lengthFlag, countFlag, completeFlag}
 use Rattle.semantics.specs.Cases.Graphs.{imageA, imageB, imageOf, scope, reference, push, pop, definition, _⟶_, twiceComplete, goingOn, looping}
@@ -58,9 +58,9 @@ linears =
     ∷ (linearIn base 6 Absent Absent Absent 8 imageA gives refused (10 ∷ 6 ∷ []))
     ∷ (linearIn (bounded 1 9) 2 Absent Absent Absent 8 imageA gives refused (30 ∷ []))
     ∷ (linearIn (bounded 2 9) 2 Absent Absent Absent 8 imageA gives returned 1 expanded 3 complete 1 rejected 1 cycles 0 flags noFlag paths (0 ∷ 1 ∷ []) ∷ [])
-    ∷ (linearIn (bounded 127 2) 2 Absent Absent Absent 8 imageA gives refused (36 ∷ []))
-    ∷ (linearIn (bounded 127 3) 2 Absent Absent Absent 8 imageA gives returned 1 expanded 3 complete 1 rejected 1 cycles 0 flags noFlag paths (0 ∷ 1 ∷ []) ∷ [])
-    ∷ (linearIn (bounded 127 2) 2 Absent (AtMost 2) Absent 8 imageA gives returned 1 expanded 2 complete 1 rejected 1 cycles 0 flags countFlag paths (0 ∷ 1 ∷ []) ∷ [])
+    ∷ (linearIn (bounded maxEdges 2) 2 Absent Absent Absent 8 imageA gives refused (36 ∷ []))
+    ∷ (linearIn (bounded maxEdges 3) 2 Absent Absent Absent 8 imageA gives returned 1 expanded 3 complete 1 rejected 1 cycles 0 flags noFlag paths (0 ∷ 1 ∷ []) ∷ [])
+    ∷ (linearIn (bounded maxEdges 2) 2 Absent (AtMost 2) Absent 8 imageA gives returned 1 expanded 2 complete 1 rejected 1 cycles 0 flags countFlag paths (0 ∷ 1 ∷ []) ∷ [])
     ∷ (linearIn base 2 Absent Absent Absent 0 imageA gives refused (32 ∷ []))
     -- no waiting slots: without a complete path nothing is refused
     ∷ (linearIn base 2 Absent Absent Absent 0 (imageOf 1 (reference 0 7 ∷ scope 0 ∷ []) (2 ⟶ 3 ∷ [])) gives returned 0 expanded 2 complete 0 rejected 0 cycles 0 flags noFlag paths [])
@@ -76,8 +76,8 @@ linear-cases = refl
 pub areas : List (Row (List (List ℕ)))
 unfolding linearAreas
 areas =
-    (linearAreas (linearRequest 2 Absent Absent Absent 260) imageA gives (0 ∷ 1 ∷ 3 ∷ 1 ∷ 1 ∷ 0 ∷ 0 ∷ 0 ∷ 0 ∷ []) ∷ [] ∷ (2 ∷ 0 ∷ 1 ∷ zeros 257) ∷ [])
-    ∷ (linearAreas (linearRequest 2 Absent Absent Absent 127) imageA gives (32 ∷ []) ∷ [] ∷ (zeros 127) ∷ [])
+    (linearAreas (linearRequest 2 Absent Absent Absent (2 * slotLength + 4)) imageA gives (0 ∷ 1 ∷ 3 ∷ 1 ∷ 1 ∷ 0 ∷ 0 ∷ 0 ∷ 0 ∷ []) ∷ [] ∷ (2 ∷ 0 ∷ 1 ∷ zeros (2 * slotLength + 1)) ∷ [])
+    ∷ (linearAreas (linearRequest 2 Absent Absent Absent maxEdges) imageA gives (32 ∷ []) ∷ [] ∷ (zeros maxEdges) ∷ [])
     ∷ (linearAreas (linearRequest 2 Absent Absent Absent 3) imageB gives (20 ∷ 2 ∷ []) ∷ [] ∷ (0 ∷ 0 ∷ 0 ∷ []) ∷ [])
     ∷ (linearAreas (linearRequest 2 Absent Absent Absent 3) (take 76 imageA) gives (2 ∷ []) ∷ [] ∷ (0 ∷ 0 ∷ 0 ∷ []) ∷ [])
     ∷ []

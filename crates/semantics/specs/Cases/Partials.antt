@@ -5,7 +5,7 @@ use mathlib.Core.Path.{refl}
 use mathlib.Core.List.{List, [], _∷_}
 use Rattle.semantics.specs.declared.search.Limit.the-variants.{Absent, AtMost}
 use Rattle.semantics.specs.declared.search.SearchOrder.the-variants.{BreadthFirst, DepthFirst}
-use Rattle.semantics.specs.Limits.{base}
+use Rattle.semantics.specs.Limits.{base, maxEdges}
 use Rattle.semantics.specs.Cases.Rows.{Row, _gives_, Agreed, refused, expansions_partials_cuts_flagged_slots_, unflagged}
 use Rattle.semantics.specs.Cases.Graphs.{imageA, imageB, imageC, imageD, imageE, imageOf, scope, exported, reference, push, pop, definition, pushScoped, scopedReference, popScoped, scopedDefinition, dropScopes, removedEdge, _⟶_}
 use Rattle.semantics.specs.Cases.Asked.{bounded, partialsIn}
@@ -67,9 +67,9 @@ partialPaths =
     ∷ (partialsIn base BreadthFirst Absent (AtMost 0) 2 8 0 imageA gives refused (31 ∷ []))
     ∷ (partialsIn base BreadthFirst Absent Absent 8 4 0 imageA gives refused (33 ∷ []))
     ∷ (partialsIn base BreadthFirst Absent Absent 8 5 0 imageA gives expansions 8 partials 5 cuts 0 flagged unflagged slots (2 ∷ 0 ∷ []) ∷ (3 ∷ 1 ∷ []) ∷ (3 ∷ 2 ∷ []) ∷ (2 ∷ 0 ∷ 1 ∷ []) ∷ (2 ∷ 0 ∷ 2 ∷ []) ∷ [])
-    ∷ (partialsIn (bounded 127 7) BreadthFirst Absent Absent 8 8 0 imageA gives refused (36 ∷ []))
-    ∷ (partialsIn (bounded 127 8) BreadthFirst Absent Absent 8 8 0 imageA gives expansions 8 partials 5 cuts 0 flagged unflagged slots (2 ∷ 0 ∷ []) ∷ (3 ∷ 1 ∷ []) ∷ (3 ∷ 2 ∷ []) ∷ (2 ∷ 0 ∷ 1 ∷ []) ∷ (2 ∷ 0 ∷ 2 ∷ []) ∷ [])
-    ∷ (partialsIn (bounded 127 7) BreadthFirst Absent (AtMost 7) 8 8 0 imageA gives expansions 7 partials 5 cuts 0 flagged (0 ∷ 1 ∷ []) slots (2 ∷ 0 ∷ []) ∷ (3 ∷ 1 ∷ []) ∷ (3 ∷ 2 ∷ []) ∷ (2 ∷ 0 ∷ 1 ∷ []) ∷ (2 ∷ 0 ∷ 2 ∷ []) ∷ [])
+    ∷ (partialsIn (bounded maxEdges 7) BreadthFirst Absent Absent 8 8 0 imageA gives refused (36 ∷ []))
+    ∷ (partialsIn (bounded maxEdges 8) BreadthFirst Absent Absent 8 8 0 imageA gives expansions 8 partials 5 cuts 0 flagged unflagged slots (2 ∷ 0 ∷ []) ∷ (3 ∷ 1 ∷ []) ∷ (3 ∷ 2 ∷ []) ∷ (2 ∷ 0 ∷ 1 ∷ []) ∷ (2 ∷ 0 ∷ 2 ∷ []) ∷ [])
+    ∷ (partialsIn (bounded maxEdges 7) BreadthFirst Absent (AtMost 7) 8 8 0 imageA gives expansions 7 partials 5 cuts 0 flagged (0 ∷ 1 ∷ []) slots (2 ∷ 0 ∷ []) ∷ (3 ∷ 1 ∷ []) ∷ (3 ∷ 2 ∷ []) ∷ (2 ∷ 0 ∷ 1 ∷ []) ∷ (2 ∷ 0 ∷ 2 ∷ []) ∷ [])
     ∷ (partialsIn (bounded 1 8) BreadthFirst Absent Absent 8 8 0 imageA gives refused (30 ∷ []))
     ∷ (partialsIn (bounded 2 8) BreadthFirst Absent Absent 8 8 0 imageA gives expansions 8 partials 5 cuts 0 flagged unflagged slots (2 ∷ 0 ∷ []) ∷ (3 ∷ 1 ∷ []) ∷ (3 ∷ 2 ∷ []) ∷ (2 ∷ 0 ∷ 1 ∷ []) ∷ (2 ∷ 0 ∷ 2 ∷ []) ∷ [])
     -- the bound behind the length and behind the cycle test
@@ -77,7 +77,7 @@ partialPaths =
     ∷ (partialsIn (bounded 1 8) BreadthFirst Absent Absent 8 8 0 (imageOf 1 (exported 0 ∷ []) (2 ⟶ 2 ∷ [])) gives expansions 3 partials 1 cuts 1 flagged unflagged slots (2 ∷ 0 ∷ []) ∷ [])
     -- 33 follows a finished computation: 31 and 36 come first, although no slot is there
     ∷ (partialsIn base BreadthFirst Absent Absent 3 0 0 imageA gives refused (31 ∷ []))
-    ∷ (partialsIn (bounded 127 7) BreadthFirst Absent Absent 8 0 0 imageA gives refused (36 ∷ []))
+    ∷ (partialsIn (bounded maxEdges 7) BreadthFirst Absent Absent 8 0 0 imageA gives refused (36 ∷ []))
     ∷ []
 
 pub partial-cases : Agreed partialPaths

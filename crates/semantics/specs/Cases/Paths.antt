@@ -8,7 +8,7 @@ use mathlib.Core.List.{List, [], _∷_, _++_}
 use lib.IntN.{pos, negsuc}
 use lib.ListN.{take, replicate}
 use Rattle.semantics.specs.declared.graph.Node.the-variants as N
-use Rattle.semantics.specs.Limits.{base}
+use Rattle.semantics.specs.Limits.{base, maxEdges}
 use Rattle.semantics.specs.Answer.{ok}
 use Rattle.semantics.specs.Told.{toldReplayed}
 use Rattle.semantics.specs.Graph.{nodeId, fileId, Graph}
@@ -109,7 +109,7 @@ refusals =
     ∷ (replaying imageF 2 (1 ∷ 10 ∷ []) gives 15 ∷ 5 ∷ [])
     -- edges may be repeated; 127 edges are no refusal, a 128th is 30, before anything else is said of it
     ∷ (replaying imageE 2 (0 ∷ replicate 126 1) gives 0 ∷ [])
-    ∷ (replaying imageE 2 (0 ∷ replicate 127 1) gives 30 ∷ [])
+    ∷ (replaying imageE 2 (0 ∷ replicate maxEdges 1) gives 30 ∷ [])
     ∷ (replaying imageE 2 (0 ∷ (replicate 126 1 ++ (9 ∷ []))) gives 30 ∷ [])
     ∷ (replaying imageE 2 (0 ∷ (replicate 125 1 ++ (9 ∷ 1 ∷ []))) gives 12 ∷ 9 ∷ [])
     -- jumps are not counted

@@ -1,6 +1,6 @@
 -- Direct search: its order of checks, its statistics and flags, both orders, limits, and every word of both areas.
 -- Document 01, "Budget and frontier" and "Answer".
-use Prim.Native.Nat.{ℕ}
+use Prim.Native.Nat.{ℕ, _+_, _-_, _*_}
 use mathlib.Core.Path.{refl}
 use mathlib.Core.List.{List, [], _∷_, _++_}
 use lib.ListN.{take}
@@ -10,14 +10,14 @@ use Rattle.semantics.specs.declared.search.SearchOrder.{SearchOrder}
 use Rattle.semantics.specs.declared.search.SearchOrder.the-variants.{BreadthFirst, DepthFirst}
 use Rattle.semantics.specs.declared.refusal.ImageRefusal.{ImageRefusal}
 use Rattle.semantics.specs.declared.refusal.SearchRefusal.{SearchRefusal}
-use Rattle.semantics.specs.Limits.{Bounds, base}
+use Rattle.semantics.specs.Limits.{Bounds, base, slotWords, recordWords, maxEdges, slotLength}
 use Rattle.semantics.specs.Answer.{Answer, ok, refuse}
 use Rattle.semantics.specs.Graph.{Graph, viewOf}
 use Rattle.semantics.specs.Path.{Path}
 use Rattle.semantics.specs.Enumeration.{State}
 use Rattle.semantics.specs.Direct.{direct, searchSetting}
 use Rattle.semantics.specs.Image.{symbolBytes, checkImage}
-use Rattle.semantics.specs.Words.{zeros, slotWords, recordWords}
+use Rattle.semantics.specs.Words.{zeros}
 use Rattle.semantics.specs.Cases.Rows.{Row, _gives_, Agreed, refused, returned_expanded_complete_rejected_cycles_flags_paths_, noFlag, lengthFlag, countFlag, completeFlag}
 use Rattle.semantics.specs.Cases.Graphs.{imageB, imageA, imageD, imageE, imageOf, removedNode, scope, reference, definition, removedEdge, _⟶_, twiceComplete, goingOn, looping}
 use Rattle.semantics.specs.Cases.Asked.{bounded, request, requestFrom, requestIn, returnedBy, recordedBy, searching, recording, areasAfter}
@@ -124,13 +124,13 @@ searches =
     ∷ (recordingIn DepthFirst Absent 2 4 imageB gives refused (31 ∷ []))
     ∷ (recordingIn DepthFirst Absent 3 4 imageB gives returned 4 expanded 7 complete 4 rejected 0 cycles 0 flags noFlag paths (0 ∷ 2 ∷ []) ∷ (0 ∷ 3 ∷ []) ∷ (1 ∷ 2 ∷ []) ∷ (1 ∷ 3 ∷ []) ∷ [])
     -- THE BOUNDS, lowered: B needs 7 expansions and 2 edges
-    ∷ (recordingUnder (bounded 127 6) Absent Absent imageB gives refused (36 ∷ []))
-    ∷ (recordingUnder (bounded 127 7) Absent Absent imageB gives returned 4 expanded 7 complete 4 rejected 0 cycles 0 flags noFlag paths (0 ∷ 2 ∷ []) ∷ (0 ∷ 3 ∷ []) ∷ (1 ∷ 2 ∷ []) ∷ (1 ∷ 3 ∷ []) ∷ [])
+    ∷ (recordingUnder (bounded maxEdges 6) Absent Absent imageB gives refused (36 ∷ []))
+    ∷ (recordingUnder (bounded maxEdges 7) Absent Absent imageB gives returned 4 expanded 7 complete 4 rejected 0 cycles 0 flags noFlag paths (0 ∷ 2 ∷ []) ∷ (0 ∷ 3 ∷ []) ∷ (1 ∷ 2 ∷ []) ∷ (1 ∷ 3 ∷ []) ∷ [])
     ∷ (recordingUnder (bounded 1 7) Absent Absent imageB gives refused (30 ∷ []))
     ∷ (recordingUnder (bounded 2 7) Absent Absent imageB gives returned 4 expanded 7 complete 4 rejected 0 cycles 0 flags noFlag paths (0 ∷ 2 ∷ []) ∷ (0 ∷ 3 ∷ []) ∷ (1 ∷ 2 ∷ []) ∷ (1 ∷ 3 ∷ []) ∷ [])
     -- 36 only for an expansion that the path count allows
-    ∷ (recordingUnder (bounded 127 6) Absent (AtMost 6) imageB gives returned 4 expanded 6 complete 4 rejected 0 cycles 0 flags countFlag paths (0 ∷ 2 ∷ []) ∷ (0 ∷ 3 ∷ []) ∷ (1 ∷ 2 ∷ []) ∷ (1 ∷ 3 ∷ []) ∷ [])
-    ∷ (recordingUnder (bounded 127 6) Absent (AtMost 7) imageB gives refused (36 ∷ []))
+    ∷ (recordingUnder (bounded maxEdges 6) Absent (AtMost 6) imageB gives returned 4 expanded 6 complete 4 rejected 0 cycles 0 flags countFlag paths (0 ∷ 2 ∷ []) ∷ (0 ∷ 3 ∷ []) ∷ (1 ∷ 2 ∷ []) ∷ (1 ∷ 3 ∷ []) ∷ [])
+    ∷ (recordingUnder (bounded maxEdges 6) Absent (AtMost 7) imageB gives refused (36 ∷ []))
     -- on E: the bound behind the length; in front of append, where the pop would be rejected; behind the cycle test, where only the loop is left
     ∷ (recordingUnder (bounded 1 7) Absent Absent imageE gives refused (30 ∷ []))
     ∷ (recordingUnder (bounded 1 7) (AtMost 1) Absent imageE gives returned 0 expanded 2 complete 0 rejected 0 cycles 0 flags lengthFlag paths [])
@@ -151,13 +151,13 @@ pub areas : List (Row (List (List ℕ)))
 unfolding areasAfter
 areas =
     -- count, edges and zeros of a slot; zeros in the unused slot and in the words behind it
-    (areasAfter (requestIn 16384 260) imageA gives (0 ∷ 1 ∷ 3 ∷ 1 ∷ 1 ∷ 0 ∷ 0 ∷ 0 ∷ 0 ∷ []) ∷ (zeros 16384) ∷ (2 ∷ 0 ∷ 1 ∷ zeros 257) ∷ [])
+    (areasAfter (requestIn (128 * slotLength) (2 * slotLength + 4)) imageA gives (0 ∷ 1 ∷ 3 ∷ 1 ∷ 1 ∷ 0 ∷ 0 ∷ 0 ∷ 0 ∷ []) ∷ (zeros (128 * slotLength)) ∷ (2 ∷ 0 ∷ 1 ∷ zeros (2 * slotLength + 1)) ∷ [])
     -- two paths, one behind the other
-    ∷ (areasAfter (requestIn 513 384) branching gives (0 ∷ 2 ∷ 5 ∷ 2 ∷ 4 ∷ 1 ∷ 0 ∷ 0 ∷ 0 ∷ []) ∷ (zeros 513) ∷ (2 ∷ 0 ∷ 2 ∷ (zeros 125 ++ (3 ∷ 0 ∷ 1 ∷ 2 ∷ zeros 252))) ∷ [])
+    ∷ (areasAfter (requestIn 513 (3 * slotLength)) branching gives (0 ∷ 2 ∷ 5 ∷ 2 ∷ 4 ∷ 1 ∷ 0 ∷ 0 ∷ 0 ∷ []) ∷ (zeros 513) ∷ (2 ∷ 0 ∷ 2 ∷ (zeros (slotLength - 3) ++ (3 ∷ 0 ∷ 1 ∷ 2 ∷ zeros (2 * slotLength - 4)))) ∷ [])
     -- 127 words are no slot, 128 are one
-    ∷ (areasAfter (requestIn 128 127) imageA gives (32 ∷ []) ∷ (zeros 128) ∷ (zeros 127) ∷ [])
-    ∷ (areasAfter (requestIn 128 128) imageA gives (0 ∷ 1 ∷ 3 ∷ 1 ∷ 1 ∷ 0 ∷ 0 ∷ 0 ∷ 0 ∷ []) ∷ (zeros 128) ∷ (2 ∷ 0 ∷ 1 ∷ zeros 125) ∷ [])
-    ∷ (areasAfter (requestIn 127 128) imageA gives (31 ∷ []) ∷ (zeros 127) ∷ (zeros 128) ∷ [])
+    ∷ (areasAfter (requestIn slotLength maxEdges) imageA gives (32 ∷ []) ∷ (zeros slotLength) ∷ (zeros maxEdges) ∷ [])
+    ∷ (areasAfter (requestIn slotLength slotLength) imageA gives (0 ∷ 1 ∷ 3 ∷ 1 ∷ 1 ∷ 0 ∷ 0 ∷ 0 ∷ 0 ∷ []) ∷ (zeros slotLength) ∷ (2 ∷ 0 ∷ 1 ∷ zeros (slotLength - 3)) ∷ [])
+    ∷ (areasAfter (requestIn maxEdges slotLength) imageA gives (31 ∷ []) ∷ (zeros maxEdges) ∷ (zeros slotLength) ∷ [])
     -- refused, by the image and by the path rules
     ∷ (areasAfter (requestIn 3 5) (take 76 imageA) gives (2 ∷ []) ∷ (0 ∷ 0 ∷ 0 ∷ []) ∷ (0 ∷ 0 ∷ 0 ∷ 0 ∷ 0 ∷ []) ∷ [])
     ∷ (areasAfter (requestIn 3 5) (imageOf 1 (scope 0 ∷ []) []) gives (11 ∷ 2 ∷ []) ∷ (0 ∷ 0 ∷ 0 ∷ []) ∷ (0 ∷ 0 ∷ 0 ∷ 0 ∷ 0 ∷ []) ∷ [])

@@ -1,6 +1,6 @@
 -- Stitched search: which slots are tried, what is a cycle cut, a length refusal, a rejection or the search's end, copies, limits, bounds, every word.
 -- Document 01, "Partial paths", third paragraph, and "Answer".
-use Prim.Native.Nat.{ℕ}
+use Prim.Native.Nat.{ℕ, _+_, _*_}
 use mathlib.Core.Path.{refl}
 use mathlib.Core.Bool.{true, false}
 use mathlib.Core.List.{List, [], _∷_}
@@ -10,16 +10,16 @@ use Rattle.semantics.specs.declared.search.Limit.{Limit}
 use Rattle.semantics.specs.declared.search.Limit.the-variants.{Absent, AtMost}
 use Rattle.semantics.specs.declared.search.SearchOrder.{SearchOrder}
 use Rattle.semantics.specs.declared.search.SearchOrder.the-variants.{BreadthFirst, DepthFirst}
-use Rattle.semantics.specs.Limits.{Bounds, base}
+use Rattle.semantics.specs.Limits.{Bounds, base, maxEdges, slotLength}
 use Rattle.semantics.specs.Answer.{ok}
 use Rattle.semantics.specs.Graph.{nodeId, fileId, Graph}
 use Rattle.semantics.specs.Recorded.{recorded}
 use Rattle.semantics.specs.Words.{zeros}
-use Rattle.semantics.specs.Database.{filesOnly}
+use Rattle.semantics.specs.Database.{knownOwners}
 use Rattle.semantics.specs.Calls.{stitchedCall}
 use Rattle.semantics.specs.Cases.Rows.{Row, _gives_, Agreed, refused, returned_expanded_complete_rejected_cycles_flags_paths_, noFlag, lengthFlag, countFlag, completeFlag}
 use Rattle.semantics.specs.Cases.Graphs.{imageA, imageB, imageD, imageE, imageF, live, imageOf, reference, removedEdge, goingOn}
-use Rattle.semantics.specs.Cases.Asked.{bounded, request, requestIn, stitchedReturned, stitchedRecorded, stitchedAreas, databaseOf, held, heldIn, oneFile, shown}
+use Rattle.semantics.specs.Cases.Asked.{bounded, request, requestIn, stitchedReturned, stitchedRecorded, stitchedAreas, databaseOf, held, heldIn, firstFiled, shown}
 
 -- with 8 slots of each area, the recorded paths
 joining : SearchOrder → Limit → Limit → Limit → List ℕ → List ℕ → List (List ℕ)
@@ -50,10 +50,10 @@ unfit = record { files = 1; nodes = N.Root ∷ N.JumpToScope ∷ N.Push (fileId 
 
 joiningOn : Graph → List ℕ → List (List ℕ)
 unfolding stitchedCall recorded shown
-joiningOn g words = shown base (stitchedCall base recorded filesOnly (ok g) words (request base BreadthFirst Absent Absent Absent 8 8))
+joiningOn g words = shown base (stitchedCall base recorded knownOwners (ok g) words (request base BreadthFirst Absent Absent Absent 8 8))
 
 pub stitches : List (Row (List (List ℕ)))
-unfolding joining joiningIn joiningUnder joiningOn stitchedReturned oneFile
+unfolding joining joiningIn joiningUnder joiningOn stitchedReturned firstFiled
 stitches =
     -- WHICH SLOTS: those that start at the path's end, whatever file and end they name; not dead ones; by ascending number
     (joining BreadthFirst Absent Absent Absent imageA (databaseOf 3 6 1 (held 1 2 9 (0 ∷ []) ∷ held 0 2 3 (0 ∷ []) ∷ held 1 3 9 (1 ∷ []) ∷ [])) gives returned 1 expanded 3 complete 1 rejected 0 cycles 0 flags noFlag paths (0 ∷ 1 ∷ []) ∷ [])
@@ -91,17 +91,17 @@ stitches =
     ∷ (stitchedReturned base (request base BreadthFirst Absent Absent Absent 8 8) imageB wordsB gives returned 1 expanded 6 complete 5 rejected 0 cycles 0 flags noFlag paths (1 ∷ 3 ∷ []) ∷ [])
     ∷ (stitchedReturned base (request base BreadthFirst Absent Absent (AtMost 2) 8 8) imageB wordsB gives returned 1 expanded 6 complete 5 rejected 0 cycles 0 flags completeFlag paths (1 ∷ 3 ∷ []) ∷ [])
     -- ORDER AND LIMITS
-    ∷ (joining BreadthFirst Absent (AtMost 3) Absent imageB (oneFile imageB) gives returned 4 expanded 3 complete 8 rejected 0 cycles 0 flags countFlag paths (0 ∷ 2 ∷ []) ∷ (0 ∷ 3 ∷ []) ∷ (1 ∷ 2 ∷ []) ∷ (1 ∷ 3 ∷ []) ∷ [])
-    ∷ (joining DepthFirst Absent (AtMost 3) Absent imageB (oneFile imageB) gives returned 4 expanded 3 complete 6 rejected 0 cycles 0 flags countFlag paths (0 ∷ 2 ∷ []) ∷ (0 ∷ 3 ∷ []) ∷ (1 ∷ 2 ∷ []) ∷ (1 ∷ 3 ∷ []) ∷ [])
-    ∷ (joining BreadthFirst Absent (AtMost 4) Absent imageA (oneFile imageA) gives returned 1 expanded 4 complete 2 rejected 2 cycles 0 flags noFlag paths (0 ∷ 1 ∷ []) ∷ [])
-    ∷ (joining BreadthFirst Absent (AtMost 0) Absent imageA (oneFile imageA) gives returned 0 expanded 0 complete 0 rejected 0 cycles 0 flags countFlag paths [])
-    ∷ (joining BreadthFirst Absent Absent (AtMost 1) imageA (oneFile imageA) gives returned 1 expanded 4 complete 2 rejected 2 cycles 0 flags completeFlag paths (0 ∷ 1 ∷ []) ∷ [])
+    ∷ (joining BreadthFirst Absent (AtMost 3) Absent imageB (firstFiled imageB) gives returned 4 expanded 3 complete 8 rejected 0 cycles 0 flags countFlag paths (0 ∷ 2 ∷ []) ∷ (0 ∷ 3 ∷ []) ∷ (1 ∷ 2 ∷ []) ∷ (1 ∷ 3 ∷ []) ∷ [])
+    ∷ (joining DepthFirst Absent (AtMost 3) Absent imageB (firstFiled imageB) gives returned 4 expanded 3 complete 6 rejected 0 cycles 0 flags countFlag paths (0 ∷ 2 ∷ []) ∷ (0 ∷ 3 ∷ []) ∷ (1 ∷ 2 ∷ []) ∷ (1 ∷ 3 ∷ []) ∷ [])
+    ∷ (joining BreadthFirst Absent (AtMost 4) Absent imageA (firstFiled imageA) gives returned 1 expanded 4 complete 2 rejected 2 cycles 0 flags noFlag paths (0 ∷ 1 ∷ []) ∷ [])
+    ∷ (joining BreadthFirst Absent (AtMost 0) Absent imageA (firstFiled imageA) gives returned 0 expanded 0 complete 0 rejected 0 cycles 0 flags countFlag paths [])
+    ∷ (joining BreadthFirst Absent Absent (AtMost 1) imageA (firstFiled imageA) gives returned 1 expanded 4 complete 2 rejected 2 cycles 0 flags completeFlag paths (0 ∷ 1 ∷ []) ∷ [])
     -- SLOTS: 31 and 32
-    ∷ (joiningIn 0 8 imageA (oneFile imageA) gives refused (31 ∷ []))
-    ∷ (joiningIn 1 8 imageA (oneFile imageA) gives refused (31 ∷ []))
-    ∷ (joiningIn 2 8 imageA (oneFile imageA) gives returned 1 expanded 4 complete 2 rejected 2 cycles 0 flags noFlag paths (0 ∷ 1 ∷ []) ∷ [])
-    ∷ (joiningIn 2 1 imageA (oneFile imageA) gives refused (32 ∷ []))
-    ∷ (joiningIn 2 2 imageA (oneFile imageA) gives returned 1 expanded 4 complete 2 rejected 2 cycles 0 flags noFlag paths (0 ∷ 1 ∷ []) ∷ [])
+    ∷ (joiningIn 0 8 imageA (firstFiled imageA) gives refused (31 ∷ []))
+    ∷ (joiningIn 1 8 imageA (firstFiled imageA) gives refused (31 ∷ []))
+    ∷ (joiningIn 2 8 imageA (firstFiled imageA) gives returned 1 expanded 4 complete 2 rejected 2 cycles 0 flags noFlag paths (0 ∷ 1 ∷ []) ∷ [])
+    ∷ (joiningIn 2 1 imageA (firstFiled imageA) gives refused (32 ∷ []))
+    ∷ (joiningIn 2 2 imageA (firstFiled imageA) gives returned 1 expanded 4 complete 2 rejected 2 cycles 0 flags noFlag paths (0 ∷ 1 ∷ []) ∷ [])
     -- THE BOUND of 2 edges, lowered: a path of 2 is none too long; tested on all edges before any is appended, so 30 also where the first would be rejected or
     -- unknown; behind the cycle test and the length
     ∷ (joiningUnder (bounded 2 9) Absent Absent imageA (databaseOf 2 6 1 (heldIn 2 1 2 3 (0 ∷ []) ∷ heldIn 2 1 3 4 (1 ∷ []) ∷ [])) gives returned 1 expanded 3 complete 1 rejected 0 cycles 0 flags noFlag paths (0 ∷ 1 ∷ []) ∷ [])
@@ -111,9 +111,9 @@ stitches =
     ∷ (joiningUnder (bounded 2 9) (AtMost 2) Absent imageA (databaseOf 2 6 1 (heldIn 2 1 2 3 (0 ∷ []) ∷ heldIn 2 1 3 4 (2 ∷ 1 ∷ []) ∷ [])) gives returned 0 expanded 2 complete 0 rejected 0 cycles 0 flags lengthFlag paths [])
     ∷ (joiningUnder (bounded 5 9) Absent Absent imageD (databaseOf 3 7 2 (heldIn 5 1 2 0 (0 ∷ 1 ∷ []) ∷ heldIn 5 2 0 1 (2 ∷ 3 ∷ []) ∷ heldIn 5 1 4 6 (4 ∷ []) ∷ [])) gives returned 1 expanded 4 complete 1 rejected 0 cycles 0 flags noFlag paths (0 ∷ 1 ∷ 2 ∷ 3 ∷ 4 ∷ []) ∷ [])
     -- 36, and the path count before it
-    ∷ (joiningUnder (bounded 127 3) Absent Absent imageA (oneFile imageA) gives refused (36 ∷ []))
-    ∷ (joiningUnder (bounded 127 4) Absent Absent imageA (oneFile imageA) gives returned 1 expanded 4 complete 2 rejected 2 cycles 0 flags noFlag paths (0 ∷ 1 ∷ []) ∷ [])
-    ∷ (joiningUnder (bounded 127 3) Absent (AtMost 3) imageA (oneFile imageA) gives returned 1 expanded 3 complete 2 rejected 2 cycles 0 flags countFlag paths (0 ∷ 1 ∷ []) ∷ [])
+    ∷ (joiningUnder (bounded maxEdges 3) Absent Absent imageA (firstFiled imageA) gives refused (36 ∷ []))
+    ∷ (joiningUnder (bounded maxEdges 4) Absent Absent imageA (firstFiled imageA) gives returned 1 expanded 4 complete 2 rejected 2 cycles 0 flags noFlag paths (0 ∷ 1 ∷ []) ∷ [])
+    ∷ (joiningUnder (bounded maxEdges 3) Absent (AtMost 3) imageA (firstFiled imageA) gives returned 1 expanded 3 complete 2 rejected 2 cycles 0 flags countFlag paths (0 ∷ 1 ∷ []) ∷ [])
     ∷ []
 
 pub stitch-cases : Agreed stitches
@@ -122,10 +122,10 @@ stitch-cases = refl
 
 -- EVERY WORD: the answer, the work area, the result area
 pub areas : List (Row (List (List ℕ)))
-unfolding stitchedAreas oneFile
+unfolding stitchedAreas firstFiled
 areas =
-    (stitchedAreas (requestIn 300 260) imageA (oneFile imageA) gives (0 ∷ 1 ∷ 4 ∷ 2 ∷ 2 ∷ 0 ∷ 0 ∷ 0 ∷ 0 ∷ []) ∷ (zeros 300) ∷ (2 ∷ 0 ∷ 1 ∷ zeros 257) ∷ [])
-    ∷ (stitchedAreas (requestIn 300 130) imageA (oneFile imageA) gives (32 ∷ []) ∷ (zeros 300) ∷ (zeros 130) ∷ [])
+    (stitchedAreas (requestIn 300 (2 * slotLength + 4)) imageA (firstFiled imageA) gives (0 ∷ 1 ∷ 4 ∷ 2 ∷ 2 ∷ 0 ∷ 0 ∷ 0 ∷ 0 ∷ []) ∷ (zeros 300) ∷ (2 ∷ 0 ∷ 1 ∷ zeros (2 * slotLength + 1)) ∷ [])
+    ∷ (stitchedAreas (requestIn 300 130) imageA (firstFiled imageA) gives (32 ∷ []) ∷ (zeros 300) ∷ (zeros 130) ∷ [])
     ∷ (stitchedAreas (requestIn 3 5) imageA (9 ∷ 8 ∷ 1 ∷ 0 ∷ []) gives (35 ∷ []) ∷ (0 ∷ 0 ∷ 0 ∷ []) ∷ (0 ∷ 0 ∷ 0 ∷ 0 ∷ 0 ∷ []) ∷ [])
     ∷ (stitchedAreas (requestIn 3 5) (take 76 imageA) [] gives (2 ∷ []) ∷ (0 ∷ 0 ∷ 0 ∷ []) ∷ (0 ∷ 0 ∷ 0 ∷ 0 ∷ 0 ∷ []) ∷ [])
     ∷ []

@@ -1,25 +1,24 @@
 -- What the check of a database says of its slots: each live one names a known owner and has an edge.
 -- Document 01, "Turned back", the rows of 35 and 34.
-use Prim.Native.Nat.{ℕ, zero, suc, _+_, _*_, _≤_, _<_}
+use Prim.Native.Nat.{ℕ, zero, suc, _≤_}
 use native.Mathlib.Omega.{arith}
-use mathlib.Core.Path.{_≡_, refl, sym, _∙_, ap, subst}
+use mathlib.Core.Path.{_≡_, refl, _∙_, ap}
 use mathlib.Core.Logic.{⊎-elim}
 use mathlib.Core.Bool.{Bool, true, false, true≢false}
-use mathlib.Core.List.{List, [], _∷_, map, List·Memᴰ, List·Memᴰ·not-nil, List·Memᴰ·cases-cons}
+use mathlib.Core.List.{List, [], _∷_, List·Memᴰ, List·Memᴰ·not-nil, List·Memᴰ·cases-cons}
 use lib.Dec.{leb, ltb, ltb→lt, leb→le}
 use lib.ListN.{length, getD, take, drop, length-drop}
 use lib.Seq.{length-take-le}
 use Rattle.semantics.specs.declared.refusal.DatabaseRefusal.the-variants.{Malformed, Outgrown}
-use Rattle.semantics.specs.Limits.{Bounds}
-use Rattle.semantics.specs.Answer.{ok, andThen}
+use Rattle.semantics.specs.Limits.{Bounds, recordWords}
+use Rattle.semantics.specs.Answer.{ok, andThen, okIf}
 use Rattle.semantics.specs.Answer.Laws.{refuse-ok}
 use Rattle.semantics.specs.Lists.{and}
 use Rattle.semantics.specs.Lists.Laws.{and-true, eq→T, mem-map}
 use Rattle.semantics.specs.Graph.{Graph}
-use Rattle.semantics.specs.PartialPaths.{Slot, dead, slot}
-use Rattle.semantics.specs.Words.{recordWords}
+use Rattle.semantics.specs.PartialPaths.{Slot, slot}
 use Rattle.semantics.specs.Demand.{OwnersIn}
-use Rattle.semantics.specs.Database.{usedIn, nodesIn, filesIn, passIf, every, sound, wellFormed, checkDatabase, capacity, decode, records, slotsIn, filesOnly}
+use Rattle.semantics.specs.Database.{usedIn, nodesIn, filesIn, every, sound, wellFormed, checkDatabase, capacity, decode, records, slotsIn, knownOwners}
 use Rattle.semantics.specs.Database.Laws.{AllLong, slots-long, whole-records}
 
 -- the words meet neither 35 nor 34
@@ -32,10 +31,10 @@ pub record Checked (bd : Bounds) (known : ℕ → ℕ → Bool) (g : Graph) (ws 
 
 module _ (bd : Bounds) (known : ℕ → ℕ → Bool) (g : Graph) (ws : List ℕ) where
   pub checked-words : (db : List Slot) → checkDatabase bd known g ws ≡ ok db → Checked bd known g ws
-  unfolding checkDatabase passIf wellFormed
+  unfolding checkDatabase okIf wellFormed
   checked-words db e = on1 (wellFormed bd known ws) refl e
     where
-      on2 : (b c : Bool) → wellFormed bd known ws ≡ b → and (leb (nodesIn ws) (length (g .nodes))) (leb (filesIn ws) (g .files)) ≡ c → b ≡ true → passIf c Outgrown (slotsIn bd ws) ≡ ok db → Checked bd known g ws
+      on2 : (b c : Bool) → wellFormed bd known ws ≡ b → and (leb (nodesIn ws) (length (g .nodes))) (leb (filesIn ws) (g .files)) ≡ c → b ≡ true → okIf c Outgrown (slotsIn bd ws) ≡ ok db → Checked bd known g ws
       on2 b true h k t x =
           let a = and-true (leb 3 (length ws)) _ (h ∙ t) in
           let c = and-true (leb (usedIn ws) (capacity bd ws)) _ (a .1) in
@@ -49,7 +48,7 @@ module _ (bd : Bounds) (known : ℕ → ℕ → Bool) (g : Graph) (ws : List ℕ
           }
       on2 b false h k t x = absurd (refuse-ok Outgrown db x)
 
-      on1 : (b : Bool) → wellFormed bd known ws ≡ b → andThen (passIf b Malformed ws) (λ x. passIf (and (leb (nodesIn ws) (length (g .nodes))) (leb (filesIn ws) (g .files))) Outgrown (slotsIn bd ws)) ≡ ok db → Checked bd known g ws
+      on1 : (b : Bool) → wellFormed bd known ws ≡ b → andThen (okIf b Malformed ws) (λ x. okIf (and (leb (nodesIn ws) (length (g .nodes))) (leb (filesIn ws) (g .files))) Outgrown (slotsIn bd ws)) ≡ ok db → Checked bd known g ws
       on1 true h k = on2 true (and (leb (nodesIn ws) (length (g .nodes))) (leb (filesIn ws) (g .files))) h refl refl k
       on1 false h k = absurd (refuse-ok Malformed db k)
 
@@ -96,5 +95,5 @@ module _ (bd : Bounds) (known : ℕ → ℕ → Bool) (g : Graph) (ws : List ℕ
   checked-edge f s t es m = (live f s t es m) .some-edge
 
 -- a live slot names a file of the graph
-pub checked-owners : (bd : Bounds) (g : Graph) (ws : List ℕ) → Checked bd filesOnly g ws → OwnersIn g (slotsIn bd ws)
-checked-owners bd g ws c f s t es m = let h = ltb→lt f (filesIn ws) (eq→T (ltb f (filesIn ws)) ((live bd filesOnly g ws c f s t es m) .owner)) in omega (arith, h, c .files)
+pub checked-owners : (bd : Bounds) (g : Graph) (ws : List ℕ) → Checked bd knownOwners g ws → OwnersIn g (slotsIn bd ws)
+checked-owners bd g ws c f s t es m = let h = ltb→lt f (filesIn ws) (eq→T (ltb f (filesIn ws)) ((live bd knownOwners g ws c f s t es m) .owner)) in omega (arith, h, c .files)

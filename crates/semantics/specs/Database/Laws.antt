@@ -5,22 +5,22 @@ use native.Mathlib.Nat.{add-zero, zero-add, suc-add, mul-suc, mul-le-mul-left, l
 use native.Mathlib.Omega.{arith}
 use mathlib.Core.Path.{_≡_, refl, sym, _∙_, ap}
 use mathlib.Core.Bool.{Bool, true, false, not}
-use mathlib.Core.List.{List, [], _∷_, _++_, map, append-nil, append-assoc, List·Memᴰ, List·Memᴰ·head, List·Memᴰ·tail, map-append}
+use mathlib.Core.List.{List, [], _∷_, _++_, map, append-nil, append-assoc, List·Memᴰ, List·Memᴰ·head, List·Memᴰ·tail, map-append, flatten}
 use lib.Dec.{eqb, leb, ltb, leb→le, nltb→le}
 use lib.ListN.{length, length-append, take, drop, length-replicate, length-drop}
 use lib.Seq.{length-take-le, take-at, drop-at, take-take, take-append-seam}
 use Rattle.semantics.specs.declared.refusal.DatabaseRefusal.the-variants.{Malformed, Outgrown}
-use Rattle.semantics.specs.Limits.{Bounds}
-use Rattle.semantics.specs.Answer.{ok, andThen}
+use Rattle.semantics.specs.Limits.{Bounds, recordWords}
+use Rattle.semantics.specs.Answer.{ok, andThen, okIf}
 use Rattle.semantics.specs.Answer.Laws.{ok-inj, refuse-ok}
-use Rattle.semantics.specs.Lists.{and}
+use Rattle.semantics.specs.Lists.{and, pick}
 use Rattle.semantics.specs.Lists.Laws.{and-true, eq→T}
 use Rattle.semantics.specs.Graph.{Graph}
 use Rattle.semantics.specs.Enumeration.{State}
 use Rattle.semantics.specs.PartialPaths.{Route, Slot, dead, slot, slotOf, clear, deadIf, replaced}
-use Rattle.semantics.specs.Words.{zeros, wholeSlots, slotsOf, recordWords}
+use Rattle.semantics.specs.Words.{zeros, wholeSlots, slotsOf}
 use Rattle.semantics.specs.Words.Laws.{whole-fits, length-slots}
-use Rattle.semantics.specs.Database.{usedIn, nodesIn, filesIn, passIf, wellFormed, checkDatabase, chosen, capacity, decode, encodeSlot, records, slotsIn, zeroIf, clearRecord, flatten, replaceWords, freshWords}
+use Rattle.semantics.specs.Database.{usedIn, nodesIn, filesIn, wellFormed, checkDatabase, capacity, decode, encodeSlot, records, slotsIn, zeroIf, clearRecord, replaceWords, freshWords}
 
 abbrev pub AllLong : ℕ → List (List ℕ) → Type 0
 AllLong L [] = Unit {0}
@@ -124,10 +124,10 @@ slots-replaced bd g f s ws h k =
 
 -- a database within its capacity has all its records whole
 pub whole-records : (bd : Bounds) (ws : List ℕ) → usedIn ws ≤ capacity bd ws → recordWords bd * usedIn ws ≤ length (drop 3 ws)
-unfolding capacity chosen
+unfolding capacity
 whole-records bd ws h = on (ltb (wholeSlots (recordWords bd) (length ws - 3)) 4096) refl h
   where
-    on : (b : Bool) → ltb (wholeSlots (recordWords bd) (length ws - 3)) 4096 ≡ b → usedIn ws ≤ chosen b (wholeSlots (recordWords bd) (length ws - 3)) 4096 → recordWords bd * usedIn ws ≤ length (drop 3 ws)
+    on : (b : Bool) → ltb (wholeSlots (recordWords bd) (length ws - 3)) 4096 ≡ b → usedIn ws ≤ pick b (wholeSlots (recordWords bd) (length ws - 3)) 4096 → recordWords bd * usedIn ws ≤ length (drop 3 ws)
     on true e k = simp length-drop (le-trans (mul-le-mul-left (recordWords bd) k) (whole-fits (recordWords bd) (length ws - 3)))
     on false e k = simp length-drop (le-trans (mul-le-mul-left (recordWords bd) (le-trans k (least e))) (whole-fits (recordWords bd) (length ws - 3)))
       where
@@ -136,23 +136,23 @@ whole-records bd ws h = on (ltb (wholeSlots (recordWords bd) (length ws - 3)) 40
 
 -- a database that is not refused is searched over its own slots
 pub checked : (bd : Bounds) (known : ℕ → ℕ → Bool) (g : Graph) (words : List ℕ) (db : List Slot) → checkDatabase bd known g words ≡ ok db → slotsIn bd words ≡ db
-unfolding checkDatabase passIf
+unfolding checkDatabase okIf
 checked bd known g words db e = on1 (wellFormed bd known words) e
   where
-    on2 : (b : Bool) → passIf b Outgrown (slotsIn bd words) ≡ ok db → slotsIn bd words ≡ db
+    on2 : (b : Bool) → okIf b Outgrown (slotsIn bd words) ≡ ok db → slotsIn bd words ≡ db
     on2 true k = ok-inj (slotsIn bd words) db k
     on2 false k = absurd (refuse-ok Outgrown db k)
 
-    on1 : (b : Bool) → andThen (passIf b Malformed words) (λ x. passIf (and (leb (nodesIn words) (length (g .nodes))) (leb (filesIn words) (g .files))) Outgrown (slotsIn bd words)) ≡ ok db → slotsIn bd words ≡ db
+    on1 : (b : Bool) → andThen (okIf b Malformed words) (λ x. okIf (and (leb (nodesIn words) (length (g .nodes))) (leb (filesIn words) (g .files))) Outgrown (slotsIn bd words)) ≡ ok db → slotsIn bd words ≡ db
     on1 true k = on2 (and (leb (nodesIn words) (length (g .nodes))) (leb (filesIn words) (g .files))) k
     on1 false k = absurd (refuse-ok Malformed db k)
 
 -- what the words tell when they are not refused
 pub checked-used : (bd : Bounds) (known : ℕ → ℕ → Bool) (g : Graph) (words : List ℕ) (db : List Slot) → checkDatabase bd known g words ≡ ok db → usedIn words ≤ capacity bd words
-unfolding checkDatabase passIf wellFormed
+unfolding checkDatabase okIf wellFormed
 checked-used bd known g words db e = on1 (wellFormed bd known words) refl e
   where
-    on1 : (b : Bool) → wellFormed bd known words ≡ b → andThen (passIf b Malformed words) (λ x. passIf (and (leb (nodesIn words) (length (g .nodes))) (leb (filesIn words) (g .files))) Outgrown (slotsIn bd words)) ≡ ok db → usedIn words ≤ capacity bd words
+    on1 : (b : Bool) → wellFormed bd known words ≡ b → andThen (okIf b Malformed words) (λ x. okIf (and (leb (nodesIn words) (length (g .nodes))) (leb (filesIn words) (g .files))) Outgrown (slotsIn bd words)) ≡ ok db → usedIn words ≤ capacity bd words
     on1 true h k =
         let a = and-true (leb 3 (length words)) _ h in
         let c = and-true (leb (usedIn words) (capacity bd words)) _ (a .1) in

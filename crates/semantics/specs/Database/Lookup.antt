@@ -11,9 +11,8 @@ use lib.ListN.{length, getD, take, drop, List·getD-map}
 use lib.Seq.{take-take, drop-drop}
 use Rattle.semantics.specs.Lists.{and}
 use Rattle.semantics.specs.Lists.Laws.{T→eq, eq→T, and-true}
-use Rattle.semantics.specs.Limits.{Bounds}
+use Rattle.semantics.specs.Limits.{Bounds, recordWords}
 use Rattle.semantics.specs.PartialPaths.{Slot, dead, slot}
-use Rattle.semantics.specs.Words.{recordWords}
 use Rattle.semantics.specs.Words.Laws.{length-slots, getD-slots, drop-take}
 use Rattle.semantics.specs.Database.{usedIn, nodesIn, filesIn, capacity, decode, records, slotsIn, sound, every, wellFormed, emptyPart, edgesPart, partIf, recordPlace, lookupPart, wordsOf}
 

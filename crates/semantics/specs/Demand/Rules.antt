@@ -4,7 +4,7 @@
 -- with both stacks empty".
 use Prim.Native.Nat.{ℕ, _≤_}
 use native.Mathlib.Omega.{arith}
-use mathlib.Core.Path.{_≡_, refl, sym, _∙_, ap, subst}
+use mathlib.Core.Path.{_≡_, sym, _∙_, ap, subst}
 use mathlib.Core.Bool.{true, false}
 use mathlib.Core.List.{List, [], _∷_, List·Memᴰ}
 use lib.ListN.{length}
@@ -16,7 +16,7 @@ use Rattle.semantics.specs.Answer.{ok, andThen}
 use Rattle.semantics.specs.Answer.Laws.{ok-inj, andThen-ok}
 use Rattle.semantics.specs.Graph.{View, Lawful, isReference, isDefinition}
 use Rattle.semantics.specs.Rules.{with, Takes}
-use Rattle.semantics.specs.Path.{Stacks, Path, fromReference, append, appendUnder, appendAll, isComplete}
+use Rattle.semantics.specs.Path.{Stacks, Path, fromReference, appendUnder, appendAll}
 use Rattle.semantics.specs.Path.Laws.{append-ok, appendUnder-ok, begun, replay-ok, complete-is, is-complete}
 use Rattle.semantics.specs.Path.Takes.{takes-replay, replay-takes}
 use Rattle.semantics.specs.Enumeration.{Setting, State}

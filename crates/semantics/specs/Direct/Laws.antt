@@ -22,12 +22,12 @@ use Rattle.semantics.specs.Answer.Laws.{ok-inj, andThen-ok, wrap-ok}
 use Rattle.semantics.specs.Graph.{View, Lawful}
 use Rattle.semantics.specs.Path.{Path, append, appendUnder, appendAll, replay, isComplete, fromReference}
 use Rattle.semantics.specs.Path.Laws.{append-ok, begun, begun-incomplete, appendUnder-ok, appendUnder-is, replay-ok, replay-snoc, appendAll-edges}
-use Rattle.semantics.specs.Enumeration.{go, Setting, State, enumerate}
-use Rattle.semantics.specs.Enumeration.Laws.{Leads, here, on, enumerate-full, enumerate-sound}
+use Rattle.semantics.specs.Enumeration.{go, Setting, State, enumerate, tested}
+use Rattle.semantics.specs.Enumeration.Laws.{Leads, here, on, enumerate-full, enumerate-sound, tested-go}
 use Rattle.semantics.specs.Enumeration.Statistics.{Balanced, enumerate-balanced}
 use Rattle.semantics.specs.Recorded.{edgeLists, distinct, recorded}
 use Rattle.semantics.specs.Recorded.Laws.{Deduped, distinct-is, mem-lists}
-use Rattle.semantics.specs.Direct.{extended, ifRoom, ifShort, unlessCycle, judge, tries, direct}
+use Rattle.semantics.specs.Direct.{extended, judge, tries, direct}
 use Rattle.semantics.specs.Demand.{Taken, Valid, Once}
 
 module _ {R : Type 0} (tooLong : R) (bd : Bounds) (lim : Limit) (g : View) where
@@ -40,27 +40,17 @@ module _ {R : Type 0} (tooLong : R) (bd : Bounds) (lim : Limit) (g : View) where
     pub complete : b ≡ isComplete g q
 
   judge-go : (p q : Path) (e : ℕ) (b : Bool) → judge tooLong bd lim g p e ≡ go b q → Passed p q e b
-  unfolding judge unlessCycle ifShort ifRoom extended
-  judge-go p q e b h = on1 (has e (p .edges)) refl h
+  unfolding judge extended
+  judge-go p q e b h =
+      let t = tested-go (has e (p .edges)) (within (suc (length (p .edges))) lim) (ltb (length (p .edges)) (bd .edges)) tooLong (extended g (append g p e)) b q h in
+      on t (append g p e) refl (t .3)
     where
-      on4 : has e (p .edges) ≡ false → within (suc (length (p .edges))) lim ≡ true → ltb (length (p .edges)) (bd .edges) ≡ true → (a : Answer PathRefusal Path) → append g p e ≡ a → extended {R = R} g a ≡ go b q → Passed p q e b
-      on4 f w l (ok x) a k = record { fresh = f; short = w; room = l; appended = let z : x ≡ q = cc in a ∙ ap ok z; complete = cc }
-      on4 f w l (refuse r) a k = absurd (let z : _≡_ {A = Bool} true false = cc in true≢false z)
-
-      on3 : has e (p .edges) ≡ false → within (suc (length (p .edges))) lim ≡ true → (x : Bool) → ltb (length (p .edges)) (bd .edges) ≡ x → ifRoom x tooLong g p e ≡ go b q → Passed p q e b
-      on3 f w true l k = on4 f w l (append g p e) refl k
-      on3 f w false l k = absurd (let z : _≡_ {A = Bool} true false = cc in true≢false z)
-
-      on2 : has e (p .edges) ≡ false → (x : Bool) → within (suc (length (p .edges))) lim ≡ x → ifShort x tooLong bd g p e ≡ go b q → Passed p q e b
-      on2 f true w k = on3 f w (ltb (length (p .edges)) (bd .edges)) refl k
-      on2 f false w k = absurd (let z : _≡_ {A = Bool} true false = cc in true≢false z)
-
-      on1 : (x : Bool) → has e (p .edges) ≡ x → unlessCycle x tooLong bd lim g p e ≡ go b q → Passed p q e b
-      on1 true f k = absurd (let z : _≡_ {A = Bool} true false = cc in true≢false z)
-      on1 false f k = on2 f (within (suc (length (p .edges))) lim) refl k
+      on : (has e (p .edges) ≡ false) × (within (suc (length (p .edges))) lim ≡ true) × (ltb (length (p .edges)) (bd .edges) ≡ true) × (extended {R = R} g (append g p e) ≡ go b q) → (a : Answer PathRefusal Path) → append g p e ≡ a → extended {R = R} g a ≡ go b q → Passed p q e b
+      on t (ok x) a k = record { fresh = t .0; short = t .1; room = t .2; appended = let z : x ≡ q = cc in a ∙ ap ok z; complete = cc }
+      on t (refuse r) a k = absurd (let z : _≡_ {A = Bool} true false = cc in true≢false z)
 
   pub judge-passed : (p q : Path) (e : ℕ) → has e (p .edges) ≡ false → within (suc (length (p .edges))) lim ≡ true → ltb (length (p .edges)) (bd .edges) ≡ true → append g p e ≡ ok q → judge tooLong bd lim g p e ≡ go (isComplete g q) q
-  unfolding judge unlessCycle ifShort ifRoom extended
+  unfolding judge tested extended
   judge-passed p q e f w l a = rw (f, w, l, a)
 
 module _ {R : Type 0} (tooLong : R) (bd : Bounds) (lim : Limit) (g : View) (lawful : Lawful g) (r : ℕ) where

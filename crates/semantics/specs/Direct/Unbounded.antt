@@ -20,9 +20,9 @@ use Rattle.semantics.specs.Answer.Laws.{ok-inj, andThen-ok}
 use Rattle.semantics.specs.Graph.{View, Lawful}
 use Rattle.semantics.specs.Path.{Path, append, appendUnder, appendAll, replay, isComplete, fromReference}
 use Rattle.semantics.specs.Path.Laws.{append-ok, appendUnder-is, begun, replay-of}
-use Rattle.semantics.specs.Enumeration.{stop, go, Setting, State}
+use Rattle.semantics.specs.Enumeration.{stop, go, Setting, State, tested}
 use Rattle.semantics.specs.Enumeration.Laws.{Reach, itself, reach-then, enumerate-stopless}
-use Rattle.semantics.specs.Direct.{judge, unlessCycle, ifShort, ifRoom, tries, direct}
+use Rattle.semantics.specs.Direct.{judge, tries, direct}
 use Rattle.semantics.specs.Direct.Laws.{judge-passed, direct-ok}
 
 -- the edges appended in order, with no bound
@@ -32,7 +32,7 @@ appendEach g p (e ∷ es) = andThen (append g p e) (λ q. appendEach g q es)
 
 module _ (bd : Bounds) (lim : Limit) (c : Setting SearchRefusal) (g : View) (lawful : Lawful g) (r : ℕ) (u : State Path) (h : direct bd lim c g r ≡ ok u) (n : u .stats .countLimited ≡ false) where
   judge-stop : (p : Path) (e : ℕ) → has e (p .edges) ≡ false → within (suc (length (p .edges))) lim ≡ true → ltb (length (p .edges)) (bd .edges) ≡ false → judge Search.TooLong bd lim g p e ≡ stop Search.TooLong
-  unfolding judge unlessCycle ifShort ifRoom
+  unfolding judge tested
   judge-stop p e f w l = rw (f, w, l)
 
   bounded : (p₀ : Path) → fromReference g r ≡ ok p₀ → (es : List ℕ) (p q : Path) → Reach (tries Search.TooLong bd lim g) p₀ p → appendEach g p es ≡ ok q → Distinct (p .edges ++ es) → within (length (p .edges ++ es)) lim ≡ true → appendAll bd g p es ≡ ok q

@@ -12,16 +12,25 @@ use Rattle.semantics.specs.declared.search.SearchOrder.{SearchOrder}
 use Rattle.semantics.specs.declared.search.SearchOrder.the-variants.{BreadthFirst, DepthFirst}
 use Rattle.semantics.specs.declared.search.SearchStats.{SearchStats}
 use Rattle.semantics.specs.Limits.{below}
-use Rattle.semantics.specs.Answer.{Answer, ok}
+use Rattle.semantics.specs.Answer.{Answer, ok, okIf}
 use Rattle.semantics.specs.Answer.Laws.{ok-inj, refuse-ok, andThen-ok}
-use Rattle.semantics.specs.Enumeration.{Try, cut, overlong, reject, stop, go, Area, unlimited, slots, Setting, State, Turn, over, expand, one, each, merge, turn, run, enumerate, blank, withStats, withTally, judged, addLooked, placeIf, place, pushItem, keepIf, keep, addComplete, admit, popped, final, follow, seed}
+use Rattle.semantics.specs.Enumeration.{Try, cut, overlong, reject, stop, go, tested, Area, unlimited, slots, Setting, State, Turn, over, expand, one, each, merge, turn, run, enumerate, blank, withStats, withTally, judged, addLooked, place, pushItem, keepIf, keep, addComplete, admit, popped, final, follow, seed}
+
+-- what goes on has passed the tests
+module _ {R W : Type 0} where
+  pub tested-go : (cycle short room : Bool) (tooLong : R) (next : Try R W) (b : Bool) (w : W) → tested cycle short room tooLong next ≡ go b w → (cycle ≡ false) × (short ≡ true) × (room ≡ true) × (next ≡ go b w)
+  unfolding tested
+  tested-go true short room tooLong next b w e = absurd (let z : _≡_ {A = Bool} true false = cc in true≢false z)
+  tested-go false false room tooLong next b w e = absurd (let z : _≡_ {A = Bool} true false = cc in true≢false z)
+  tested-go false true false tooLong next b w e = absurd (let z : _≡_ {A = Bool} true false = cc in true≢false z)
+  tested-go false true true tooLong next b w e = (refl, refl, refl, e)
 
 pub place-ok {ℓ} : {R : Type 0} {A : Type ℓ} (a : Area R) (n : ℕ) (x u : A) → place a n x ≡ ok u → x ≡ u
-unfolding place placeIf
+unfolding place okIf
 place-ok unlimited n x u e = ok-inj x u e
 place-ok (slots size r) n x u e = on (ltb n size) e
   where
-    on : (b : Bool) → placeIf b r x ≡ ok u → x ≡ u
+    on : (b : Bool) → okIf b r x ≡ ok u → x ≡ u
     on true k = ok-inj x u k
     on false k = absurd (refuse-ok r u k)
 

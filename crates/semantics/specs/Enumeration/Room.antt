@@ -11,22 +11,22 @@ use borrow.Author.Tests.{le-ltb, ltb-false}
 use Rattle.semantics.specs.declared.search.SearchOrder.{SearchOrder}
 use Rattle.semantics.specs.declared.search.SearchOrder.the-variants.{BreadthFirst, DepthFirst}
 use Rattle.semantics.specs.Limits.{below}
-use Rattle.semantics.specs.Answer.{Answer, ok, refuse}
+use Rattle.semantics.specs.Answer.{Answer, ok, refuse, okIf}
 use Rattle.semantics.specs.Answer.Laws.{ok-inj, refuse-ok, ok-refuse, andThen-ok}
-use Rattle.semantics.specs.Enumeration.{Try, cut, overlong, reject, stop, go, slots, Setting, State, Turn, over, expand, one, each, merge, turn, run, enumerate, blank, withStats, withTally, withPending, withKept, judged, addLooked, placeIf, place, pushItem, keepIf, keep, addComplete, admit, popped, final, follow, seed}
+use Rattle.semantics.specs.Enumeration.{Try, cut, overlong, reject, stop, go, slots, Setting, State, Turn, over, expand, one, each, merge, turn, run, enumerate, blank, withStats, withTally, withPending, withKept, judged, addLooked, place, pushItem, keepIf, keep, addComplete, admit, popped, final, follow, seed}
 use Rattle.semantics.specs.Enumeration.Laws.{place-ok}
 
 -- with n of the slots taken, one more is refused exactly when there are no more than n
 module _ {ℓ} {R : Type 0} {A : Type ℓ} (size n : ℕ) (r : R) (x : A) where
   pub place-full : size ≤ n → place (slots size r) n x ≡ refuse r
-  unfolding place placeIf
+  unfolding place okIf
   place-full h = rw (le-ltb n size h)
 
   pub place-refused : (q : R) → place (slots size r) n x ≡ refuse q → size ≤ n
-  unfolding place placeIf
+  unfolding place okIf
   place-refused q e = on (ltb n size) refl e
     where
-      on : (b : Bool) → ltb n size ≡ b → placeIf b r x ≡ refuse q → size ≤ n
+      on : (b : Bool) → ltb n size ≡ b → okIf b r x ≡ refuse q → size ≤ n
       on true h k = absurd (ok-refuse q x k)
       on false h k = ltb-false n size h
 
@@ -41,10 +41,10 @@ module _ {R W : Type 0} (size : ℕ) (r : R) (c : Setting R) (area : c .waiting 
   push-refused q e = place-refused size (length (s .rest) + length (s .pending)) r (withPending w s) q (rw area at e)
 
 place-below {ℓ} : {R : Type 0} {A : Type ℓ} (size n : ℕ) (r : R) (x u : A) → place (slots size r) n x ≡ ok u → n < size
-unfolding place placeIf
+unfolding place okIf
 place-below size n r x u e = on (ltb n size) refl e
   where
-    on : (b : Bool) → ltb n size ≡ b → placeIf b r x ≡ ok u → n < size
+    on : (b : Bool) → ltb n size ≡ b → okIf b r x ≡ ok u → n < size
     on true h k = ltb→lt n size (subst T (sym h) tt)
     on false h k = absurd (refuse-ok r u k)
 

@@ -10,8 +10,9 @@ use Rattle.semantics.specs.declared.search.SearchOrder.{SearchOrder}
 use Rattle.semantics.specs.declared.search.SearchOrder.the-variants.{BreadthFirst, DepthFirst}
 use Rattle.semantics.specs.declared.search.SearchStats.{SearchStats}
 use Rattle.semantics.specs.Limits.{below}
-use Rattle.semantics.specs.Answer.{Answer, ok, refuse, andThen}
-use Rattle.semantics.specs.Enumeration.{Try, cut, overlong, reject, stop, go, Area, unlimited, slots, Setting, State, Tally, Turn, over, expand, one, each, merge, turn, run, enumerate, blank, withStats, withTally, withPending, withKept, judged, addLooked, addOverlong, addPushed, placeIf, place, pushItem, keepIf, keep, addCycle, addRejected, addExpanded, addComplete, flagLength, flagCount, flagComplete, admit, popped, final, follow, seed}
+use Rattle.semantics.specs.Answer.{Answer, ok, refuse, andThen, okIf}
+use Rattle.semantics.specs.Enumeration.{Try, cut, overlong, reject, stop, go, Area, unlimited, slots, Setting, State, Tally, Turn, over, expand, one, each, merge, turn, run, enumerate, blank, withStats}
+use Rattle.semantics.specs.Enumeration.{withTally, withPending, withKept, judged, addLooked, addOverlong, addPushed, place, pushItem, keepIf, keep, addCycle, addRejected, addExpanded, addComplete, flagLength, flagCount, flagComplete, admit, popped, final, follow, seed}
 
 module _ {W X : Type 0} (L : W → X → Type 0) where
   pub data All2 : List W → List X → Type 0 where
@@ -74,11 +75,11 @@ module _ {R W X : Type 0} (L : W → X → Type 0) where
   then-rel k l (refuses r) f = refuses r
 
   place-rel : (a : Area R) (n m : ℕ) (s : State W) (t : State X) → n ≡ m → StateRel L s t → AnswerRel (place a n s) (place a m t)
-  unfolding place placeIf
+  unfolding place okIf
   place-rel unlimited n m s t e h = oks h
-  place-rel (slots size r) n m s t e h = subst (λ k. AnswerRel (placeIf (ltb k size) r s) (placeIf (ltb m size) r t)) (sym e) (on (ltb m size))
+  place-rel (slots size r) n m s t e h = subst (λ k. AnswerRel (okIf (ltb k size) r s) (okIf (ltb m size) r t)) (sym e) (on (ltb m size))
     where
-      on : (b : Bool) → AnswerRel (placeIf b r s) (placeIf b r t)
+      on : (b : Bool) → AnswerRel (okIf b r s) (okIf b r t)
       on true = oks h
       on false = refuses r
 

@@ -19,7 +19,7 @@ use Rattle.semantics.specs.declared.graph.Edge.the-variants as E
 use Rattle.semantics.specs.declared.search.Limit.{Limit}
 use Rattle.semantics.specs.declared.search.Limit.the-variants.{Absent}
 use Rattle.semantics.specs.declared.refusal.PartialPathRefusal.{PartialPathRefusal}
-use Rattle.semantics.specs.declared.refusal.PartialPathRefusal.the-variants.{UnknownFile}
+use Rattle.semantics.specs.declared.refusal.PartialPathRefusal.the-variants.{UnknownFile, TooLong}
 use Rattle.semantics.specs.Lists.{has, or, and, select, Distinct}
 use Rattle.semantics.specs.Lists.Laws.{T→eq, eq→T, eqb-true, eqb-same, or-true, and-true, distinct-snoc, distinct-split, map-mem, mem-map, consIf-tail, consIf-cases, select-in, in-select, length-snoc}
 use Rattle.semantics.specs.Limits.{Bounds, within}
@@ -28,9 +28,9 @@ use Rattle.semantics.specs.Answer.{ok}
 use Rattle.semantics.specs.Answer.Laws.{refuse-ok}
 use Rattle.semantics.specs.Graph.{nodeId, fileId, Graph, View, viewOf, fileOf, isFile, isStart, isEndpoint, Lawful}
 use Rattle.semantics.specs.Graph.Laws.{viewOf-lawful}
-use Rattle.semantics.specs.Enumeration.{go, Setting, State}
-use Rattle.semantics.specs.Enumeration.Laws.{Leads, here, on, enumerate-full, enumerate-sound, enumerate-unlimited}
-use Rattle.semantics.specs.PartialPaths.{Route, Slot, dead, slot, isOfFile, belongs, targetOf, longer, ifRoom, ifShort, unlessCycle, judgeRoute, routeTries, startsFrom, routeAt, startRoutes, partials, fileRoutes, ifKnown, filePartials, clear, deadIf, slotOf, replaced}
+use Rattle.semantics.specs.Enumeration.{go, Setting, State, tested}
+use Rattle.semantics.specs.Enumeration.Laws.{Leads, here, on, enumerate-full, enumerate-sound, enumerate-unlimited, tested-go}
+use Rattle.semantics.specs.PartialPaths.{Route, Slot, dead, slot, isOfFile, belongs, targetOf, longer, reached, judgeRoute, routeTries, startsFrom, routeAt, startRoutes, partials, fileRoutes, ifKnown, filePartials, clear, deadIf, slotOf, replaced}
 use Rattle.semantics.specs.Demand.{Owners, fileOwners, Walk, stay, step, Partial, Holds, Built, given, after}
 
 pub walk-snoc : (g : View) (mine : ℕ → Bool) (e : ℕ) (t : NodeId) (p : ℤ) {n m : ℕ} {es : List ℕ} → Walk g mine n es m → g .edge e ≡ E.Live (nodeId m) t p → mine e ≡ true → Walk g mine n (es ++ (e ∷ [])) (t .0)
@@ -52,24 +52,15 @@ module _ (bd : Bounds) (lim : Limit) (g : View) (lawful : Lawful g) where
     pub endpoint : b ≡ isEndpoint (g .node (targetOf (g .edge e)))
 
   judge-go : (r q : Route) (e : ℕ) (b : Bool) → judgeRoute bd lim g r e ≡ go b q → Passed r q e b
-  unfolding judgeRoute unlessCycle ifShort ifRoom
-  judge-go r q e b h = on1 (has e (r .edges)) refl h
-    where
-      on3 : has e (r .edges) ≡ false → within (suc (length (r .edges))) lim ≡ true → (x : Bool) → ltb (length (r .edges)) (bd .edges) ≡ x → ifRoom x g r e ≡ go b q → Passed r q e b
-      on3 f w true l k = record { fresh = f; short = w; room = l; made = cc; endpoint = cc }
-      on3 f w false l k = absurd (let z : _≡_ {A = Bool} true false = cc in true≢false z)
-
-      on2 : has e (r .edges) ≡ false → (x : Bool) → within (suc (length (r .edges))) lim ≡ x → ifShort x bd g r e ≡ go b q → Passed r q e b
-      on2 f true w k = on3 f w (ltb (length (r .edges)) (bd .edges)) refl k
-      on2 f false w k = absurd (let z : _≡_ {A = Bool} true false = cc in true≢false z)
-
-      on1 : (x : Bool) → has e (r .edges) ≡ x → unlessCycle x bd lim g r e ≡ go b q → Passed r q e b
-      on1 true f k = absurd (let z : _≡_ {A = Bool} true false = cc in true≢false z)
-      on1 false f k = on2 f (within (suc (length (r .edges))) lim) refl k
+  unfolding judgeRoute reached
+  judge-go r q e b h =
+      let t = tested-go (has e (r .edges)) (within (suc (length (r .edges))) lim) (ltb (length (r .edges)) (bd .edges)) TooLong (reached g r e) b q h in
+      let k = t .3 in
+      record { fresh = t .0; short = t .1; room = t .2; made = cc; endpoint = cc }
 
   judge-passed : (r : Route) (e : ℕ) → has e (r .edges) ≡ false → within (suc (length (r .edges))) lim ≡ true → ltb (length (r .edges)) (bd .edges) ≡ true
       → judgeRoute bd lim g r e ≡ go (isEndpoint (g .node (targetOf (g .edge e)))) (longer r e (targetOf (g .edge e)))
-  unfolding judgeRoute unlessCycle ifShort ifRoom
+  unfolding judgeRoute tested reached
   judge-passed r e f w l = rw (f, w, l)
 
   first-try : (mine : ℕ → Bool) (e : ℕ) (t : NodeId) (p : ℤ) (es : List ℕ) (r : Route) → g .edge e ≡ E.Live (nodeId (r .current)) t p → mine e ≡ true → Distinct (r .edges ++ (e ∷ es)) → length (r .edges ++ (e ∷ es)) ≤ bd .edges → within (length (r .edges ++ (e ∷ es))) lim ≡ true

@@ -1,11 +1,9 @@
 -- A list is replayed exactly when the rules take it and it is within the bound, to the same end and stacks.
 -- Document 01, "Partial paths": "path rules take a list from a reference when its edges, appended in order under "Path", meet no refusal".
-use Prim.Native.Nat.{ℕ, suc, _+_, _<_, _≤_}
+use Prim.Native.Nat.{ℕ, _<_, _≤_}
 use native.Mathlib.Omega.{arith}
 use mathlib.Core.Path.{_≡_, refl, sym, _∙_, ap, subst}
-use mathlib.Core.Bool.{true}
 use mathlib.Core.List.{List, [], _∷_, _++_, append-nil, append-assoc}
-use lib.Dec.{ltb}
 use lib.ListN.{length, length-append}
 use borrow.Author.Tests.{lt-ltb}
 use Rattle.semantics.specs.Limits.{Bounds}
@@ -14,8 +12,8 @@ use Rattle.semantics.specs.Answer.Laws.{ok-inj, andThen-ok}
 use Rattle.semantics.specs.Graph.{View}
 use Rattle.semantics.specs.declared.refusal.ReplayRefusal.the-variants as Replay
 use Rattle.semantics.specs.declared.refusal.PathRefusal.{PathRefusal}
-use Rattle.semantics.specs.Path.{Stacks, Path, fromReference, append, appendUnder, appendAll, replay}
-use Rattle.semantics.specs.Path.Laws.{append-ok, appendUnder-ok, appendUnder-is, appendAll-edges, appendAll-bound, begun, replay-ok, replay-of, replay-snoc}
+use Rattle.semantics.specs.Path.{Stacks, Path, appendUnder, appendAll, replay}
+use Rattle.semantics.specs.Path.Laws.{appendUnder-ok, appendUnder-is, appendAll-edges, appendAll-bound, begun, replay-ok, replay-of, replay-snoc}
 use Rattle.semantics.specs.Path.Rules.{steps-append, append-steps, begins-start, start-begins}
 use Rattle.semantics.specs.Rules.{Steps, Takes, nothing, one-more}
 

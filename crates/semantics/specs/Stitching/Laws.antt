@@ -30,13 +30,13 @@ use Rattle.semantics.specs.Graph.{nodeId, View, fileOf, isReference, isD
 use Rattle.semantics.specs.Graph.Laws.{exported-start, reference-start, definition-endpoint}
 use Rattle.semantics.specs.Path.{Path, appendUnder, appendAll, isComplete, fromReference}
 use Rattle.semantics.specs.Path.Laws.{append-ok, begun, begun-incomplete, appendUnder-ok, appendAll-append, appendAll-edges, appendAll-bound, replay-ok, replay-of, replay-append, Arrival, at-root, at-jump, in-file, arrives}
-use Rattle.semantics.specs.Enumeration.{Try, go, Setting, State, enumerate}
-use Rattle.semantics.specs.Enumeration.Laws.{Leads, here, on, enumerate-full, enumerate-sound}
+use Rattle.semantics.specs.Enumeration.{Try, go, Setting, State, enumerate, tested}
+use Rattle.semantics.specs.Enumeration.Laws.{Leads, here, on, enumerate-full, enumerate-sound, tested-go}
 use Rattle.semantics.specs.Recorded.{edgeLists, distinct, recorded}
 use Rattle.semantics.specs.Recorded.Laws.{Deduped, distinct-is, mem-lists}
 use Rattle.semantics.specs.PartialPaths.{Slot, dead, slot}
 use Rattle.semantics.specs.PartialPaths.Laws.{walk-snoc, walk-cons}
-use Rattle.semantics.specs.Stitching.{ended, extended, ifRoom, ifShort, unlessCycle, judgeSlot, slotTries, stitched}
+use Rattle.semantics.specs.Stitching.{ended, extended, joined, judgeSlot, slotTries, stitched}
 use Rattle.semantics.specs.Demand.{Owners, Owned, Suited, Once, Taken, Valid, Walk, stay, step, Partial, Holds}
 
 abbrev pub AllOwned : Owners → List ℕ → Type 0
@@ -60,8 +60,10 @@ module _ (bd : Bounds) (lim : Limit) (g : View) where
     pub complete : b ≡ isComplete g q
 
   pub judge-go : (p q : Path) (es : List ℕ) (b : Bool) → judgeSlot bd lim g p es ≡ go b q → Passed p q es b
-  unfolding judgeSlot unlessCycle ifShort ifRoom extended ended
-  judge-go p q es b h = on1 (shares es (p .edges)) refl h
+  unfolding judgeSlot joined extended ended
+  judge-go p q es b h =
+      let t = tested-go (shares es (p .edges)) (within (length (p .edges) + length es) lim) (leb (length (p .edges) + length es) (bd .edges)) Search.TooLong (extended g (appendAll bd g p es)) b q h in
+      on (t .0) (t .1) (appendAll bd g p es) refl (t .3)
     where
       dead : (r : PathRefusal) → ended (Replay.Path r) ≡ go b q → ⊥
       dead (P.UnknownNode n) e = let z : _≡_ {A = Bool} true false = cc in true≢false z
@@ -79,28 +81,16 @@ module _ (bd : Bounds) (lim : Limit) (g : View) where
       never (Replay.Path r) e = dead r e
       never Replay.TooLong e = let z : _≡_ {A = Bool} true false = cc in true≢false z
 
-      on4 : shares es (p .edges) ≡ false → within (length (p .edges) + length es) lim ≡ true → (a : Answer ReplayRefusal Path) → appendAll bd g p es ≡ a → extended g a ≡ go b q → Passed p q es b
-      on4 f s (ok x) a k =
+      on : shares es (p .edges) ≡ false → within (length (p .edges) + length es) lim ≡ true → (a : Answer ReplayRefusal Path) → appendAll bd g p es ≡ a → extended g a ≡ go b q → Passed p q es b
+      on f s (ok x) a k =
           let z : x ≡ q = cc in
           let c : b ≡ isComplete g x = cc in
           record { apart = f; short = s; appended = a ∙ ap ok z; complete = c ∙ ap (isComplete g) z }
-      on4 f s (refuse r) a k = absurd (never r k)
-
-      on3 : shares es (p .edges) ≡ false → within (length (p .edges) + length es) lim ≡ true → (x : Bool) → ifRoom x bd g p es ≡ go b q → Passed p q es b
-      on3 f s true k = on4 f s (appendAll bd g p es) refl k
-      on3 f s false k = absurd (let z : _≡_ {A = Bool} true false = cc in true≢false z)
-
-      on2 : shares es (p .edges) ≡ false → (x : Bool) → within (length (p .edges) + length es) lim ≡ x → ifShort x bd g p es ≡ go b q → Passed p q es b
-      on2 f true s k = on3 f s (leb (length (p .edges) + length es) (bd .edges)) k
-      on2 f false s k = absurd (let z : _≡_ {A = Bool} true false = cc in true≢false z)
-
-      on1 : (x : Bool) → shares es (p .edges) ≡ x → unlessCycle x bd lim g p es ≡ go b q → Passed p q es b
-      on1 true f k = absurd (let z : _≡_ {A = Bool} true false = cc in true≢false z)
-      on1 false f k = on2 f (within (length (p .edges) + length es) lim) refl k
+      on f s (refuse r) a k = absurd (never r k)
 
   judge-passed : (p q : Path) (es : List ℕ) → shares es (p .edges) ≡ false → within (length (p .edges) + length es) lim ≡ true → leb (length (p .edges) + length es) (bd .edges) ≡ true → appendAll bd g p es ≡ ok q
       → judgeSlot bd lim g p es ≡ go (isComplete g q) q
-  unfolding judgeSlot unlessCycle ifShort ifRoom extended
+  unfolding judgeSlot joined tested extended
   judge-passed p q es f s l a = rw (f, s, l, a)
 
   pub record Tried (db : List Slot) (p : Path) (x : Try SearchRefusal Path) : Type 0 where

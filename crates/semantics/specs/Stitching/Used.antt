@@ -21,7 +21,7 @@ use Rattle.semantics.specs.Path.Laws.{appendAll-edges}
 use Rattle.semantics.specs.Enumeration.{Try, cut, overlong, reject, stop, go, Setting, State, enumerate}
 use Rattle.semantics.specs.Enumeration.Simulation.{All2, nil, cons, TryRel, cuts, overlongs, rejects, stops, goes, TriesRel, done, next, AnswerRel, oks, refuses, enumerate-rel}
 use Rattle.semantics.specs.PartialPaths.{Slot, dead, slot}
-use Rattle.semantics.specs.Stitching.{unlessCycle, judgeSlot, slotTries, stitched}
+use Rattle.semantics.specs.Stitching.{joined, judgeSlot, slotTries, stitched}
 use Rattle.semantics.specs.Database.{slotsIn}
 use Rattle.semantics.specs.Database.Checked.{Checked, checked-edge}
 use Rattle.semantics.specs.Stitching.Laws.{judge-go}
@@ -39,7 +39,7 @@ numbered used i (go b q) = go b (record { path = q; used = used ++ (i ∷ []) })
 
 usedTry : Bounds → Limit → View → Work → ℕ → List ℕ → Try SearchRefusal Work
 unfolding numbered
-usedTry bd lim g w i es = numbered (w .used) i (unlessCycle (or (has i (w .used)) (shares es (w .path .edges))) bd lim g (w .path) es)
+usedTry bd lim g w i es = numbered (w .used) i (joined (or (has i (w .used)) (shares es (w .path .edges))) bd lim g (w .path) es)
 
 -- the live slots by ascending number, counted from i on
 pub usedTries : Bounds → Limit → View → ℕ → List Slot → Work → List (Try SearchRefusal Work)
@@ -100,8 +100,8 @@ module _ (bd : Bounds) (lim : Limit) (g : View) (db : List Slot) (edged : (i f s
   judge-same : (w : Work) (i f s t : ℕ) (es : List ℕ) → ((j : ℕ) → has j (w .used) ≡ true → shares (edgesAt j) (w .path .edges) ≡ true) → getD db i dead ≡ slot f s t es → TryRel Same (usedTry bd lim g w i es) (judgeSlot bd lim g (w .path) es)
   unfolding usedTry judgeSlot
   judge-same w i f s t es u e =
-      subst (λ b. TryRel Same (numbered (w .used) i (unlessCycle b bd lim g (w .path) es)) (unlessCycle (shares es (w .path .edges)) bd lim g (w .path) es)) (sym (cut-same w i f s t es u e))
-      (numbered-same (w .used) i (unlessCycle (shares es (w .path .edges)) bd lim g (w .path) es) (λ b q k. used-after w q i f s t es u e ((judge-go bd lim g (w .path) q es b k) .appended)))
+      subst (λ b. TryRel Same (numbered (w .used) i (joined b bd lim g (w .path) es)) (joined (shares es (w .path .edges)) bd lim g (w .path) es)) (sym (cut-same w i f s t es u e))
+      (numbered-same (w .used) i (joined (shares es (w .path .edges)) bd lim g (w .path) es) (λ b q k. used-after w q i f s t es u e ((judge-go bd lim g (w .path) q es b k) .appended)))
 
   consIf-rel : (b : Bool) {x : Try SearchRefusal Work} {y : Try SearchRefusal Path} {xs : List (Try SearchRefusal Work)} {ys : List (Try SearchRefusal Path)} → TryRel Same x y → TriesRel Same xs ys → TriesRel Same (consIf b x xs) (consIf b y ys)
   consIf-rel true r q = next r q

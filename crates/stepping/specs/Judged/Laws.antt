@@ -11,23 +11,25 @@ use lib.Dec.{T, eqb, ltb, ltb→lt, nltb→le}
 use lib.IntN.{ℤ}
 use lib.ListN.{length, getD, length-append, List·getD-append}
 use lib.Seq.{getD-append-seam}
+use Rattle.semantics.specs.Limits.{stepLength}
+use Rattle.semantics.specs.ReplayedPaths.{stepAt, scopesFrom, scopesOf, symbolsFrom, symbolsOf}
 use Rattle.semantics.specs.declared.graph.NodeId.{NodeId}
 use Rattle.semantics.specs.declared.graph.Node.{Node}
 use Rattle.semantics.specs.declared.graph.Node.the-variants as N
 use Rattle.semantics.specs.declared.graph.Edge.{Edge}
 use Rattle.semantics.specs.declared.graph.Edge.the-variants as E
 use Rattle.semantics.specs.declared.refusal.PathRefusal.{PathRefusal}
-use Rattle.semantics.specs.declared.refusal.PathRefusal.the-variants.{UnknownNode, NotReference, IncorrectSource, EmptySymbolStack, IncorrectPoppedSymbol, UnexpectedAttachedScopes, MissingAttachedScopes, EmptyScopeStack, UnknownAttachedScope}
+use Rattle.semantics.specs.declared.refusal.PathRefusal.the-variants.{UnknownNode, NotReference, IncorrectSource, UnknownAttachedScope}
 use Rattle.semantics.specs.Lists.{and, pick}
 use Rattle.semantics.specs.Answer.{Answer, ok, refuse, andThen}
 use Rattle.semantics.specs.Graph.{nodeId, View, traits, isReference, isDefinition, isExported}
 use Rattle.semantics.specs.Path.{Stacks, Path, noStacks, apply, pushAttached, append, appendEdge, appendFrom, fromReference, startUnless, startReference, isEmpty, isComplete}
-use Rattle.stepping.specs.declared.step.Step.{Step}
+use Rattle.semantics.specs.declared.replayed.Step.{Step}
 use Rattle.stepping.specs.declared.step.Effect.{Effect}
 use Rattle.stepping.specs.declared.step.Effect.the-variants.{Done, Refused}
-use Rattle.stepping.specs.Steps.{plainStep, pushScopedOf, askedScope, appliedOf, remadeOf, scopesFrom, scopesOf, symbolsFrom, symbolsOf, stacksOf, Low, makerOf, grown}
+use Rattle.stepping.specs.Steps.{plainStep, pushScopedOf, askedScope, appliedOf, remadeOf, stacksOf, Low, makerOf, grown}
 use Rattle.stepping.specs.Steps.Laws.{push-stacks, push-scoped-stacks, scopes-kept, symbols-kept, pathBehind, outcome, extend-is, low-more, refused-done, unless-done, applied-remade, applied-there}
-use Rattle.stepping.specs.StepWords.{stepAt, makerIn, withStep}
+use Rattle.stepping.specs.StepWords.{makerIn, withStep}
 use Rattle.stepping.specs.StepWords.Laws.{step-same, step-other}
 use Rattle.stepping.specs.Judged.{noStep, reached, begunOf, judgedOf, followed, remadeIn, Stepped, completeStep}
 
@@ -84,7 +86,7 @@ module _ (f : ℕ → Step) (k : ℕ) (low : (j : ℕ) → j < k + 1 → Low (f 
   applied-low x n s h = subst New (sym (applied-remade x n t e (k + 1) (f k) (makerOf f (f k .symbols)) (makerOf f (f k .scopes)) s h)) (remade-low n)
 
 -- THE WORDS WITH ONE STEP MORE STAND FOR THE LONGER PATH
-module _ (ws : List ℕ) (m : ℕ) (s : Step) (room : 8 * m + 8 ≤ length ws) where
+module _ (ws : List ℕ) (m : ℕ) (s : Step) (room : stepLength * m + stepLength ≤ length ws) where
   -- below and at the new step they are the steps with one more
   written : (j : ℕ) → j < m + 1 → stepAt (withStep ws m s) j ≡ grown (stepAt ws) m s j
   unfolding grown
@@ -109,7 +111,7 @@ module _ (ws : List ℕ) (m : ℕ) (s : Step) (room : 8 * m + 8 ≤ length ws) w
         c ∙ ap (stacksOf g) (sym (step-same ws m s room))
 
 -- a longer path with these parts
-pub stepped-more : (ws : List ℕ) (k : ℕ) (p q : Path) (s : Step) → 8 * (k + 1) + 8 ≤ length ws → Stepped ws k p → Low s (k + 1) → s .end ≡ q .end → q .edges ≡ p .edges ++ (s .edge ∷ []) → q .stacks ≡ stacksOf (grown (stepAt ws) (k + 1) s) s → Stepped (withStep ws (k + 1) s) (k + 1) q
+pub stepped-more : (ws : List ℕ) (k : ℕ) (p q : Path) (s : Step) → stepLength * (k + 1) + stepLength ≤ length ws → Stepped ws k p → Low s (k + 1) → s .end ≡ q .end → q .edges ≡ p .edges ++ (s .edge ∷ []) → q .stacks ≡ stacksOf (grown (stepAt ws) (k + 1) s) s → Stepped (withStep ws (k + 1) s) (k + 1) q
 stepped-more ws k p q s room st new end edges stacks = record {
   low = written-low ws (k + 1) s room (st .low) new;
   count = ap length edges ∙ length-append (p .edges) (s .edge ∷ []) ∙ ap (λ n. n + 1) (st .count);
@@ -150,12 +152,12 @@ judged-made nodes ws k e (E.Live a t p) s h =
       target = t;
       precedence = p;
       live = refl;
-      there = λ z. applied-there b (nodes (t .0)) (t .0) e (k + 1) last top over s r z;
+      there = λ z. applied-there b (t .0) e (k + 1) last top over s r z;
       step = applied-remade b (nodes (t .0)) (t .0) e (k + 1) last top over s r;
     }
 
 -- JUDGING, AS A WHOLE
-module _ (g : View) (ws : List ℕ) (k : ℕ) (p : Path) (st : Stepped ws k p) (room : 8 * (k + 1) + 8 ≤ length ws) (e : ℕ) where
+module _ (g : View) (ws : List ℕ) (k : ℕ) (p : Path) (st : Stepped ws k p) (room : stepLength * (k + 1) + stepLength ≤ length ws) (e : ℕ) where
   pub record Grown (s : Step) : Type 0 where
     pub path : Path
     pub appended : append g p e ≡ ok path
@@ -268,7 +270,7 @@ judged-low nodes ws k e (E.Live a t p) s low h = on (eqb (a .0) (stepAt ws k .en
     on false r = absurd (let z : _≡_ {A = ℕ} 0 1 = cc in omega arith)
 
 -- THE REFERENCE AS STEP 0
-module _ (g : View) (ws : List ℕ) (room : 8 ≤ length ws) (r : ℕ) where
+module _ (g : View) (ws : List ℕ) (room : stepLength ≤ length ws) (r : ℕ) where
   abbrev beginning : Stacks → Path
   beginning S = record { start = r; end = r; edges = []; steps = []; stacks = S }
 

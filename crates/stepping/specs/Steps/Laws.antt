@@ -9,6 +9,7 @@ use mathlib.Core.List.{List, [], _∷_, _++_}
 use lib.Dec.{eqb, ltb, T}
 use lib.IntN.{ℤ}
 use borrow.Author.Tests.{lt-ltb, le-ltb, ne-eqb}
+use Rattle.semantics.specs.ReplayedPaths.{scopesFrom, scopesOf, attachedOf, symbolsFrom, symbolsOf}
 use Rattle.semantics.specs.declared.graph.FileId.{FileId}
 use Rattle.semantics.specs.declared.graph.NodeId.{NodeId}
 use Rattle.semantics.specs.declared.graph.Node.{Node}
@@ -20,12 +21,12 @@ use Rattle.semantics.specs.Answer.{Answer, ok, refuse, andThen}
 use Rattle.semantics.specs.Graph.{nodeId, View, isExported}
 use Rattle.semantics.specs.Path.{Symbol, Stacks, along, jumped, Path, withoutScopes, withScopes, popEqual, popTop, pushAttached, apply, jumpTo, jumpTop, land, extend}
 use Rattle.semantics.specs.Path as Model
-use Rattle.storage.specs.Rows.{KIND, cell, nodeRow, isPlain}
-use Rattle.storage.specs.Rows.Laws.{by-kind}
-use Rattle.stepping.specs.declared.step.Step.{Step}
+use Rattle.storage.specs.Index.{KIND, cell, nodeRow, isPlain}
+use Rattle.storage.specs.Index.Laws.{by-kind}
+use Rattle.semantics.specs.declared.replayed.Step.{Step}
 use Rattle.stepping.specs.declared.step.Effect.{Effect}
 use Rattle.stepping.specs.declared.step.Effect.the-variants.{Done, Refused}
-use Rattle.stepping.specs.Steps.{plainStep, popOf, popScopedOf, jumpOf, pushScopedOf, askedScope, appliedOf, remadeOf, scopesFrom, scopesOf, attachedOf, symbolsFrom, symbolsOf, stacksOf, Low, makerOf, grown}
+use Rattle.stepping.specs.Steps.{plainStep, popOf, popScopedOf, jumpOf, pushScopedOf, askedScope, appliedOf, remadeOf, stacksOf, Low, makerOf, grown}
 
 module _ (f : ℕ → Step) (k : ℕ) (low : (j : ℕ) → j < k → Low (f j) j) where
   -- more fuel than the cell's number changes nothing
@@ -239,11 +240,11 @@ module _ (g : View) (f : ℕ → Step) (k : ℕ) (low : (j : ℕ) → j < k + 1 
   settles a b x y = ap stands (sym (plain-stacks f (k + 1) low (plainStep e t a b) x y))
 
   -- the maker of a cell that is there
-  maker-is : (c n : ℕ) → n ≡ suc c → makerOf f n ≡ f c
-  maker-is c n h = let q : n - 1 ≡ c = omega (arith, h) in ap f q
+  maker-is : (c : ℕ) {n : ℕ} → n ≡ suc c → makerOf f n ≡ f c
+  maker-is c {n} h = let q : n - 1 ≡ c = omega (arith, h) in ap f q
 
-  some-cell : (c n : ℕ) → n ≡ suc c → eqb n 0 ≡ false
-  some-cell c n h = ne-eqb n 0 (λ z. omega (arith, h, z))
+  some-cell : (c : ℕ) {n : ℕ} → n ≡ suc c → eqb n 0 ≡ false
+  some-cell c {n} h = ne-eqb n 0 (λ z. omega (arith, h, z))
 
   -- POP
   pop-cell : (i : FileId) (x c : ℕ) (d : Bool) → last .symbols ≡ suc c → (b : Bool) (a : ℕ) → f c .attached ≡ a
@@ -251,7 +252,7 @@ module _ (g : View) (f : ℕ → Step) (k : ℕ) (low : (j : ℕ) → j < k + 1 
       ≡ outcome f k (N.Pop i x d) p e pr (pick b (pick (eqb a 0) (Done (plainStep e t (f c .below) (last .scopes))) (Refused (UnexpectedAttachedScopes (nodeId t)))) (Refused (IncorrectPoppedSymbol (nodeId t))))
   unfolding popEqual withoutScopes
   pop-cell i x c d h true zero q = let m = low c (omega (arith, h, tops .symbols)) in settles (f c .below) (last .scopes) (omega (arith, m .below, h, tops .symbols)) (omega (arith, tops .scopes))
-  pop-cell i x c d h true (suc a) q = rw (some-cell a (suc a) refl)
+  pop-cell i x c d h true (suc a) q = rw (some-cell a {n = suc a} refl)
   pop-cell i x c d h false a q = refl
 
   pop-is : (i : FileId) (x : ℕ) (d : Bool) (n : ℕ) → last .symbols ≡ n → rules (N.Pop i x d) ≡ outcome f k (N.Pop i x d) p e pr (effect (N.Pop i x d))
@@ -262,8 +263,8 @@ module _ (g : View) (f : ℕ → Step) (k : ℕ) (low : (j : ℕ) → j < k + 1 
   pop-is i x d (suc c) h =
       ap (λ (X : List Symbol). andThen (popTop t x (withoutScopes t (stacksOf f last)) X) stands) (top-is c h)
       ∙ pop-cell i x c d h (eqb (f c .symbol) x) (f c .attached) refl
-      ∙ ap (λ (y : Step). outcome f k (N.Pop i x d) p e pr (pick (eqb (y .symbol) x) (pick (eqb (y .attached) 0) (Done (plainStep e t (y .below) (last .scopes))) (Refused (UnexpectedAttachedScopes (nodeId t)))) (Refused (IncorrectPoppedSymbol (nodeId t))))) (sym (maker-is c (last .symbols) h))
-      ∙ ap (λ (b : Bool). outcome f k (N.Pop i x d) p e pr (pick b (Refused (EmptySymbolStack (nodeId t))) (pick (eqb (makerOf f (last .symbols) .symbol) x) (pick (eqb (makerOf f (last .symbols) .attached) 0) (Done (plainStep e t (makerOf f (last .symbols) .below) (last .scopes))) (Refused (UnexpectedAttachedScopes (nodeId t)))) (Refused (IncorrectPoppedSymbol (nodeId t)))))) (sym (some-cell c (last .symbols) h))
+      ∙ ap (λ (y : Step). outcome f k (N.Pop i x d) p e pr (pick (eqb (y .symbol) x) (pick (eqb (y .attached) 0) (Done (plainStep e t (y .below) (last .scopes))) (Refused (UnexpectedAttachedScopes (nodeId t)))) (Refused (IncorrectPoppedSymbol (nodeId t))))) (sym (maker-is c h))
+      ∙ ap (λ (b : Bool). outcome f k (N.Pop i x d) p e pr (pick b (Refused (EmptySymbolStack (nodeId t))) (pick (eqb (makerOf f (last .symbols) .symbol) x) (pick (eqb (makerOf f (last .symbols) .attached) 0) (Done (plainStep e t (makerOf f (last .symbols) .below) (last .scopes))) (Refused (UnexpectedAttachedScopes (nodeId t)))) (Refused (IncorrectPoppedSymbol (nodeId t)))))) (sym (some-cell c h))
 
   -- POP-SCOPED
   pop-scoped-cell : (i : FileId) (x c : ℕ) (d : Bool) → last .symbols ≡ suc c → (b : Bool) (a : ℕ) → f c .attached ≡ a
@@ -271,19 +272,30 @@ module _ (g : View) (f : ℕ → Step) (k : ℕ) (low : (j : ℕ) → j < k + 1 
       ≡ outcome f k (N.PopScoped i x d) p e pr (pick b (pick (eqb a 0) (Refused (MissingAttachedScopes (nodeId t))) (Done (plainStep e t (f c .below) a))) (Refused (IncorrectPoppedSymbol (nodeId t))))
   unfolding popEqual withScopes
   pop-scoped-cell i x c d h true zero q = refl
-  pop-scoped-cell i x c d h true (suc a) q = let m = low c (omega (arith, h, tops .symbols)) in rw (some-cell a (suc a) refl) (settles (f c .below) (suc a) (omega (arith, m .below, h, tops .symbols)) (omega (arith, m .attached, q, h, tops .symbols)))
+  pop-scoped-cell i x c d h true (suc a) q = let m = low c (omega (arith, h, tops .symbols)) in rw (some-cell a {n = suc a} refl) (settles (f c .below) (suc a) (omega (arith, m .below, h, tops .symbols)) (omega (arith, m .attached, q, h, tops .symbols)))
   pop-scoped-cell i x c d h false a q = refl
 
   pop-scoped-is : (i : FileId) (x : ℕ) (d : Bool) (n : ℕ) → last .symbols ≡ n → rules (N.PopScoped i x d) ≡ outcome f k (N.PopScoped i x d) p e pr (effect (N.PopScoped i x d))
   unfolding apply popTop land appliedOf popScopedOf symbolsFrom
   pop-scoped-is i x d zero h =
       ap (λ (X : List Symbol). andThen (popTop t x (withScopes t (stacksOf f last)) X) stands) (ap (symbolsOf f) h)
-      ∙ ap (λ (m : ℕ). outcome f k (N.PopScoped i x d) p e pr (pick (eqb m 0) (Refused (EmptySymbolStack (nodeId t))) (pick (eqb (makerOf f (last .symbols) .symbol) x) (pick (eqb (makerOf f (last .symbols) .attached) 0) (Refused (MissingAttachedScopes (nodeId t))) (Done (plainStep e t (makerOf f (last .symbols) .below) (makerOf f (last .symbols) .attached)))) (Refused (IncorrectPoppedSymbol (nodeId t)))))) (sym h)
+      ∙ ap (λ (m : ℕ).
+      outcome f k (N.PopScoped i x d) p e pr (pick (eqb m 0) (Refused (EmptySymbolStack (nodeId t)))
+      (pick (eqb (makerOf f (last .symbols) .symbol) x) (pick (eqb (makerOf f (last .symbols) .attached) 0)
+      (Refused (MissingAttachedScopes (nodeId t))) (Done (plainStep e t (makerOf f (last .symbols) .below) (makerOf f (last .symbols) .attached))))
+      (Refused (IncorrectPoppedSymbol (nodeId t)))))) (sym h)
   pop-scoped-is i x d (suc c) h =
       ap (λ (X : List Symbol). andThen (popTop t x (withScopes t (stacksOf f last)) X) stands) (top-is c h)
       ∙ pop-scoped-cell i x c d h (eqb (f c .symbol) x) (f c .attached) refl
-      ∙ ap (λ (y : Step). outcome f k (N.PopScoped i x d) p e pr (pick (eqb (y .symbol) x) (pick (eqb (y .attached) 0) (Refused (MissingAttachedScopes (nodeId t))) (Done (plainStep e t (y .below) (y .attached)))) (Refused (IncorrectPoppedSymbol (nodeId t))))) (sym (maker-is c (last .symbols) h))
-      ∙ ap (λ (b : Bool). outcome f k (N.PopScoped i x d) p e pr (pick b (Refused (EmptySymbolStack (nodeId t))) (pick (eqb (makerOf f (last .symbols) .symbol) x) (pick (eqb (makerOf f (last .symbols) .attached) 0) (Refused (MissingAttachedScopes (nodeId t))) (Done (plainStep e t (makerOf f (last .symbols) .below) (makerOf f (last .symbols) .attached)))) (Refused (IncorrectPoppedSymbol (nodeId t)))))) (sym (some-cell c (last .symbols) h))
+      ∙ ap (λ (y : Step).
+      outcome f k (N.PopScoped i x d) p e pr (pick (eqb (y .symbol) x)
+      (pick (eqb (y .attached) 0) (Refused (MissingAttachedScopes (nodeId t))) (Done (plainStep e t (y .below) (y .attached))))
+      (Refused (IncorrectPoppedSymbol (nodeId t))))) (sym (maker-is c h))
+      ∙ ap (λ (b : Bool).
+      outcome f k (N.PopScoped i x d) p e pr (pick b (Refused (EmptySymbolStack (nodeId t)))
+      (pick (eqb (makerOf f (last .symbols) .symbol) x) (pick (eqb (makerOf f (last .symbols) .attached) 0)
+      (Refused (MissingAttachedScopes (nodeId t))) (Done (plainStep e t (makerOf f (last .symbols) .below) (makerOf f (last .symbols) .attached))))
+      (Refused (IncorrectPoppedSymbol (nodeId t)))))) (sym (some-cell c h))
 
   -- JUMP
   jump-cell : (c : ℕ) → last .scopes ≡ suc c → (b : Bool)
@@ -304,8 +316,8 @@ module _ (g : View) (f : ℕ → Step) (k : ℕ) (low : (j : ℕ) → j < k + 1 
   jump-is (suc c) h =
       ap (λ (Y : List ℕ). jumpTop g t Y (behind (stacksOf f last))) (over-is c h)
       ∙ jump-cell c h (isExported (g .node (f c .scope)))
-      ∙ ap (λ (y : Step). outcome f k N.JumpToScope p e pr (pick (isExported (g .node (y .scope))) (Done (plainStep e (y .scope) (last .symbols) (y .scopes))) (Refused (UnknownAttachedScope (nodeId (y .scope)))))) (sym (maker-is c (last .scopes) h))
-      ∙ ap (λ (b : Bool). outcome f k N.JumpToScope p e pr (pick b (Refused (EmptyScopeStack (nodeId t))) (pick (isExported (g .node (makerOf f (last .scopes) .scope))) (Done (plainStep e (makerOf f (last .scopes) .scope) (last .symbols) (makerOf f (last .scopes) .scopes))) (Refused (UnknownAttachedScope (nodeId (makerOf f (last .scopes) .scope))))))) (sym (some-cell c (last .scopes) h))
+      ∙ ap (λ (y : Step). outcome f k N.JumpToScope p e pr (pick (isExported (g .node (y .scope))) (Done (plainStep e (y .scope) (last .symbols) (y .scopes))) (Refused (UnknownAttachedScope (nodeId (y .scope)))))) (sym (maker-is c h))
+      ∙ ap (λ (b : Bool). outcome f k N.JumpToScope p e pr (pick b (Refused (EmptyScopeStack (nodeId t))) (pick (isExported (g .node (makerOf f (last .scopes) .scope))) (Done (plainStep e (makerOf f (last .scopes) .scope) (last .symbols) (makerOf f (last .scopes) .scopes))) (Refused (UnknownAttachedScope (nodeId (makerOf f (last .scopes) .scope))))))) (sym (some-cell c h))
 
   -- PUSH-SCOPED
   push-scoped-is : (i : FileId) (x : ℕ) (a : NodeId) (r b : Bool)
@@ -359,9 +371,9 @@ applied-remade x (N.PushScoped f y a r) t e k last top over s h = done-inj _ s (
 applied-remade x (N.PopScoped f y d) t e k last top over s h = done-inj _ s (if-done (eqb (top .attached) 0) _ _ s (unless-done (eqb (top .symbol) y) _ _ s (if-done (eqb (last .symbols) 0) _ _ s h)))
 applied-remade x (N.DropScopes f) t e k last top over s h = done-inj _ s h
 
-pub applied-there : (x : Bool) (n : Node) (t e k : ℕ) (last top over s : Step) → appliedOf x n t e k last top over ≡ Done s → n ≡ N.Removed → ⊥
+pub applied-there : (x : Bool) {n : Node} (t e k : ℕ) (last top over s : Step) → appliedOf x n t e k last top over ≡ Done s → n ≡ N.Removed → ⊥
 unfolding appliedOf
-applied-there x n t e k last top over s h z = refused-done (UnknownNode (nodeId t)) s (ap (λ (m : Node). appliedOf x m t e k last top over) (sym z) ∙ h)
+applied-there x t e k last top over s h z = refused-done (UnknownNode (nodeId t)) s (ap (λ (m : Node). appliedOf x m t e k last top over) (sym z) ∙ h)
 
 -- a plain node leaves both tops as they are
 pub plain-remade : (n : Node) (t e k : ℕ) (last top over : Step) → isPlain n ≡ true → remadeOf n t e k last top over ≡ plainStep e t (last .symbols) (last .scopes)

@@ -5,6 +5,7 @@ use native.Mathlib.Omega.{arith}
 use mathlib.Core.Path.{_≡_, refl, sym, ap, subst, _∙_}
 use mathlib.Core.List.{List, map}
 use lib.ListN.{length, take, drop}
+use Rattle.semantics.specs.ReplayedPaths.{stepAt}
 use Rattle.semantics.specs.declared.refusal.SearchRefusal.{SearchRefusal}
 use Rattle.semantics.specs.Limits.{base}
 use Rattle.semantics.specs.Answer.{Answer, ok, refuse}
@@ -14,7 +15,6 @@ use Rattle.semantics.specs.Enumeration.{State, Try, one, each}
 use Rattle.semantics.specs.Enumeration.Statistics.{one-moved}
 use Rattle.semantics.specs.Stitching.{judgeSlot}
 use Rattle.semantics.specs.Database.{slotsIn}
-use Rattle.stepping.specs.StepWords.{stepAt}
 use Rattle.search_state.specs.declared.search.Search as S
 use Rattle.search_state.specs.declared.search.Going.{Going}
 use Rattle.search_state.specs.declared.search.Going.the-variants.{On, Refused}
@@ -30,10 +30,10 @@ use Rattle.stitching_trial.specs.Trials.{KeptTo}
 use Rattle.search_state.specs.Items.{Clear}
 use Rattle.search_state.specs.Searches.{Clears}
 use Rattle.search_state.specs.Runs.{each-one, each-stop}
-use Rattle.stitching.specs.Requests.{triesIn}
+use Rattle.stitching.specs.StitchedAnswers.{triesIn}
 use Rattle.stitching.specs.Expansions.{Given, Tried, Expanded}
 
-module _ (words links : List ℕ) (linked : Linked words links) (most : ℕ) (index steps₀ item₀ : List ℕ) (k : ℕ) (s : S.Search) (ws₀ rs₀ : List ℕ) (v : Given most index steps₀ item₀ k s ws₀ rs₀) where
+module _ {words links : List ℕ} (linked : Linked words links) (most : ℕ) (index steps₀ item₀ : List ℕ) (k : ℕ) (s : S.Search) (ws₀ rs₀ : List ℕ) (v : Given most index steps₀ item₀ k s ws₀ rs₀) where
   abbrev judgeOf : ℕ → Try SearchRefusal Path
   judgeOf i = judgeSlot base (frameOf s .limits .length) (viewOf (v .graph)) (v .path) (edgeWords base i words)
 
@@ -56,27 +56,27 @@ module _ (words links : List ℕ) (linked : Linked words links) (most : ℕ) (in
     pub looked : state .tally .looked + length rest ≤ most + 4096
     pub same : each (settingOf (frameOf s)) state (map judgeOf rest) ≡ wholeOf
 
-  pub mid-start : (n : ℕ) → n ≡ stepAt steps₀ k .end → (link : ℕ) → link ≡ firstLink links n → Mid s steps₀ item₀ ws₀ rs₀ link
-  mid-start n e link q =
+  pub mid-start : {n : ℕ} → n ≡ stepAt steps₀ k .end → {link : ℕ} → link ≡ firstLink links n → Mid s steps₀ item₀ ws₀ rs₀ link
+  mid-start e q =
       let is = startingAt (v .path .end) 0 (slotsIn base words) in
-      let u = readable-used words (linked .readable) in
+      let u = readable-used (linked .readable) in
       let h : length is ≤ RECORDS = let l = starting-length (v .path .end) 0 (slotsIn base words) in let c = count-slots base words in omega (arith, l, c, u) in
       record {
         state = v .model;
         frame = refl;
         stood = v .rep;
-        held = v .held;
+        held = v .carries .1;
         clear = v .clear;
         kept = λ j p l t. t;
         rest = is;
         passes = subst (λ (x : ℕ). Passes links x is) (sym (q ∙ ap (firstLink links) (e ∙ v .stepped .end))) (linked .passes (v .path .end));
-        tryable = starting-tryable words (linked .readable) (v .path .end);
+        tryable = starting-tryable (linked .readable) (v .path .end);
         fewer = h;
         looked = omega (arith, v .small, h);
-        same = ap (each (settingOf (frameOf s)) (v .model)) (sym (tries-are words (linked .readable) (frameOf s .limits .length) (viewOf (v .graph)) (v .path)));
+        same = ap (each (settingOf (frameOf s)) (v .model)) (sym (tries-are (linked .readable) (frameOf s .limits .length) (viewOf (v .graph)) (v .path)));
       }
 
-  module _ (on : S.Search) (steps item ws rs : List ℕ) (link : ℕ) (long : length steps ≡ length steps₀) (slot : length item ≡ length item₀) (mid : Mid on steps item ws rs link) where
+  module _ {on : S.Search} {steps item ws rs : List ℕ} {link : ℕ} (long : length steps ≡ length steps₀) (slot : length item ≡ length item₀) (mid : Mid on steps item ws rs link) where
     -- what the next partial path is given
     pub mid-given : (n : ℕ) → most + 4096 ≤ n → Given n index steps item k on ws rs
     mid-given n h = record {
@@ -87,8 +87,7 @@ module _ (words links : List ℕ) (linked : Linked words links) (most : ℕ) (in
       count = v .count;
       stepped = mid .kept k (v .path) (omega arith) (v .stepped);
       long = omega (arith, long, v .long);
-      slot = slot ∙ v .slot;
-      held = mid .held;
+      carries = (slot ∙ v .carries .0, mid .held);
       clear = mid .clear;
       good = v .good;
       model = mid .state;
@@ -103,7 +102,7 @@ module _ (words links : List ℕ) (linked : Linked words links) (most : ℕ) (in
     pub mid-less : 0 < link → left links (nextLink links (link - 1)) < left links link
     mid-less h = left-less links link (mid .rest) h (mid .passes) (mid .fewer)
 
-    module _ (h : 0 < link) (n : ℕ) (f : most + 4096 ≤ n) (a : Going) (steps′ item′ ws′ rs′ : List ℕ) (t : Tried words n index steps item k on ws rs (mid-given n f) (link - 1) a steps′ item′ ws′ rs′) where
+    module _ (h : 0 < link) {n : ℕ} (f : most + 4096 ≤ n) {a : Going} {steps′ item′ ws′ rs′ : List ℕ} (t : Tried words n index steps item k on ws rs (mid-given n f) (link - 1) a steps′ item′ ws′ rs′) where
       told : Tells (viewOf (v .graph)) (v .reference) (frameOf s) a ws′ rs′ (one (settingOf (frameOf s)) (mid .state) (judgeOf (link - 1)))
       unfolding mid-given
       told = subst (λ (x : Frame). Tells (viewOf (v .graph)) (v .reference) x a ws′ rs′ (one (settingOf x) (mid .state) (judgeSlot base (x .limits .length) (viewOf (v .graph)) (v .path) (edgeWords base (link - 1) words)))) (mid .frame) (t .tells)
@@ -111,9 +110,9 @@ module _ (words links : List ℕ) (linked : Linked words links) (most : ℕ) (in
       kept-on : KeptTo k steps₀ steps′
       kept-on j p l z = t .kept j p l (mid .kept j p l z)
 
-      pub mid-again : (next : S.Search) → a ≡ On next → (link′ : ℕ) → link′ ≡ nextLink links (link - 1) → Mid next steps′ item′ ws′ rs′ link′
+      pub mid-again : (next : S.Search) → a ≡ On next → {link′ : ℕ} → link′ ≡ nextLink links (link - 1) → Mid next steps′ item′ ws′ rs′ link′
       unfolding mid-given
-      mid-again next e link′ q =
+      mid-again next e q =
           let u = tells-on (viewOf (v .graph)) (v .reference) (frameOf s) a ws′ rs′ (one (settingOf (frameOf s)) (mid .state) (judgeOf (link - 1))) next told e in
           let r = passes-next links link (mid .rest) h (mid .passes) in
           let l : length (mid .rest) ≡ suc (length (r .0)) = ap length (r .1) in

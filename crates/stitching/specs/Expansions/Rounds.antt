@@ -18,22 +18,22 @@ use Rattle.database.specs.Records.{edgeWords}
 use Rattle.database.specs.Records.Laws.{count-slots}
 use Rattle.stitching_trial.specs.Links.{RECORDS, startingAt, Readable}
 use Rattle.stitching_trial.specs.Links.Laws.{readable-used, starting-length, tries-are}
-use Rattle.rounds.specs.Drives.{Rounding, Rounded}
-use Rattle.rounds.specs.Drives.Laws.{round-long, round-clear, round-count, round-held, round-traced}
-use Rattle.stitching.specs.Requests.{triesIn}
+use Rattle.search_rounds.specs.Drives.{Rounding, Rounded}
+use Rattle.search_rounds.specs.Drives.Laws.{round-long, round-clear, round-count, round-held, round-traced}
+use Rattle.stitching.specs.StitchedAnswers.{triesIn}
 use Rattle.stitching.specs.Expansions.{Given, Expanded}
 
 -- an expansion looks at no more partial paths than there are slots
-pub tries-few : (words : List ℕ) → Readable words → (lim : Limit) (g : View) (p : Path) → length (triesIn words lim g p) ≤ RECORDS
-tries-few words r lim g p =
+pub tries-few : {words : List ℕ} → Readable words → (lim : Limit) (g : View) (p : Path) → length (triesIn words lim g p) ≤ RECORDS
+tries-few {words} r lim g p =
     let is = startingAt (p .end) 0 (slotsIn base words) in
-    let n : length (triesIn words lim g p) ≡ length is = ap length (tries-are words r lim g p) ∙ length-map is (λ i. judgeSlot base lim g p (edgeWords base i words)) in
+    let n : length (triesIn words lim g p) ≡ length is = ap length (tries-are r lim g p) ∙ length-map is (λ i. judgeSlot base lim g p (edgeWords base i words)) in
     let l = starting-length (p .end) 0 (slotsIn base words) in
     let c = count-slots base words in
-    let u = readable-used words r in
+    let u = readable-used r in
     omega (arith, n, l, c, u)
 
-module _ (words : List ℕ) (most : ℕ) (index steps item : List ℕ) (n : ℕ) (s : S.Search) (ws rs : List ℕ) (v : Rounding most index steps item n s ws rs) (k : ℕ) (at : k ≡ getD item 0 0) (steps′ : List ℕ)
+module _ (words : List ℕ) {most : ℕ} {index steps item : List ℕ} {n : ℕ} {s : S.Search} {ws rs : List ℕ} (v : Rounding most index steps item n s ws rs) {k : ℕ} (at : k ≡ getD item 0 0) (steps′ : List ℕ)
     (long : length steps′ ≡ length steps) (t : (x : Retraces index steps (take (k + 1 - 1) (drop 1 item)) n) → Retraced index steps (take (k + 1 - 1) (drop 1 item)) n x steps′) where
   pub round-given : Given most index steps′ item k s ws rs
   round-given = record {
@@ -41,23 +41,22 @@ module _ (words : List ℕ) (most : ℕ) (index steps item : List ℕ) (n : ℕ)
     loaded = v .loaded;
     reference = v .reference;
     path = v .path;
-    count = round-count most index steps item n s ws rs v k at;
-    stepped = round-traced most index steps item n s ws rs v k at steps′ t .0;
+    count = round-count v at;
+    stepped = round-traced v at steps′ t .0;
     long = omega (arith, long, v .long);
-    slot = round-long most index steps item n s ws rs v;
-    held = round-held most index steps item n s ws rs v k at;
-    clear = round-clear most index steps item n s ws rs v;
+    carries = (round-long v, round-held v at);
+    clear = round-clear v;
     good = v .good;
     model = v .model;
     rep = v .rep;
     small = v .small;
   }
 
-  pub rounded : (a : Going) (steps″ ws′ rs′ : List ℕ) → Expanded words most index steps′ item k s ws rs round-given a steps″ ws′ rs′ → Rounded (triesIn words) most index steps item n s ws rs v a steps″ ws′ rs′
+  pub rounded : {a : Going} {steps″ ws′ rs′ : List ℕ} → Expanded words most index steps′ item k s ws rs round-given a steps″ ws′ rs′ → Rounded (triesIn words) most index steps item n s ws rs v a steps″ ws′ rs′
   unfolding round-given
-  rounded a steps″ ws′ rs′ x =
-      let l = round-traced most index steps item n s ws rs v k at steps′ t in
-      let c = round-count most index steps item n s ws rs v k at in
+  rounded x =
+      let l = round-traced v at steps′ t in
+      let c = round-count v at in
       record {
         tells = x .tells;
         begun = x .kept 0 (v .first) (omega arith) (l .1);

@@ -3,7 +3,7 @@
 use Prim.Native.Nat.{ℕ, zero, suc, _+_, _-_, _<_, _≤_}
 use native.Mathlib.Omega.{arith}
 use native.Mathlib.Numerals.{add-one}
-use native.Mathlib.Nat.{zero-add, add-zero, add-suc, suc-add}
+use native.Mathlib.Nat.{zero-add, add-zero}
 use native.Mathlib.Decide.{decLt, ℕ-discrete}
 use mathlib.Core.Path.{_≡_, refl, sym, ap, subst, _∙_}
 use mathlib.Core.Bool.{Bool, true, false}
@@ -21,13 +21,13 @@ use Rattle.semantics.specs.Path.{Path}
 use Rattle.semantics.specs.Enumeration.{Try}
 use Rattle.semantics.specs.PartialPaths.{Slot, dead, slot}
 use Rattle.semantics.specs.Words.{zeros}
-use Rattle.semantics.specs.Database.{usedIn, filesOnly, slotsIn}
+use Rattle.semantics.specs.Database.{usedIn, knownOwners, slotsIn}
 use Rattle.semantics.specs.Stitching.{judgeSlot, slotTries}
-use Rattle.storage.specs.Rows.{NODES}
-use Rattle.database.specs.Records.{InWords, ownerWord, startWord, endWord, countWord, edgeWords}
+use Rattle.storage.specs.Index.{NODES}
+use Rattle.database.specs.Records.{InWords, ownerWord, startWord, endWord, edgeWords}
 use Rattle.database.specs.Records.Laws.{within, slot-dead, count-slots}
 use Rattle.database.specs.Checks.Laws.{capacity-most, formed-used, formed-whole, formed-live, formed-slot}
-use Rattle.stitching_trial.specs.Links.{RECORDS, NEXT, LINKS, cell, firstLink, nextLink, Passes, putLink, startingAt, Readable, LinkedFrom, Linked, Tryable, Each}
+use Rattle.stitching_trial.specs.Links.{RECORDS, NEXT, LINKS, cell, firstLink, nextLink, Passes, putLink, startingAt, Readable, Linking, LinkedFrom, Linked, Tryable, Each}
 
 -- ---- one word of a row
 
@@ -52,31 +52,31 @@ cell-other l from width n i v h = go (decLt n width)
 
 -- ---- words that were checked
 
-module _ (words : List ℕ) (r : Readable words) where
+module _ {words : List ℕ} (r : Readable words) where
   pub readable-front : 3 ≤ length words
-  readable-front = omega (arith, formed-whole base filesOnly words (r .formed))
+  readable-front = omega (arith, formed-whole base knownOwners words (r .formed))
 
   pub readable-used : usedIn words ≤ RECORDS
-  readable-used = omega (arith, formed-used base filesOnly words (r .formed), capacity-most base words .0)
+  readable-used = omega (arith, formed-used base knownOwners words (r .formed), capacity-most base words .0)
 
   module _ (i : ℕ) (h : i < usedIn words) where
     pub readable-inside : InWords base i words
-    readable-inside = within base i words h (formed-whole base filesOnly words (r .formed))
+    readable-inside = within base i words h (formed-whole base knownOwners words (r .formed))
 
     -- a live record has a file behind its first word
     owned : 0 < ownerWord base i words → ownerWord base i words ≡ suc (ownerWord base i words - 1)
     owned l = omega (arith, l)
 
     pub readable-start : 0 < ownerWord base i words → startWord base i words < NODES
-    readable-start l = omega (arith, formed-live base filesOnly words (r .formed) i (ownerWord base i words - 1) h (owned l) .starts, r .nodes)
+    readable-start l = omega (arith, formed-live base knownOwners words (r .formed) i (ownerWord base i words - 1) h (owned l) .starts, r .nodes)
 
     pub readable-try : 0 < ownerWord base i words → Tryable words i
     readable-try l =
-        let v = formed-live base filesOnly words (r .formed) i (ownerWord base i words - 1) h (owned l) in
+        let v = formed-live base knownOwners words (r .formed) i (ownerWord base i words - 1) h (owned l) in
         record { known = omega (arith, h, readable-used); inside = readable-inside; some = v .some; few = v .few }
 
     readable-slot : 0 < ownerWord base i words → getD (slotsIn base words) i dead ≡ slot (ownerWord base i words - 1) (startWord base i words) (endWord base i words) (edgeWords base i words)
-    readable-slot l = formed-slot base filesOnly words (r .formed) i (ownerWord base i words - 1) h (owned l)
+    readable-slot l = formed-slot base knownOwners words (r .formed) i (ownerWord base i words - 1) h (owned l)
 
     -- so a live slot is the record's
     readable-is : (f s e : ℕ) (es : List ℕ) → getD (slotsIn base words) i dead ≡ slot f s e es → (0 < ownerWord base i words) × (es ≡ edgeWords base i words)
@@ -123,11 +123,11 @@ module _ (P : ℕ → Type 0) where
 starting-above : (n i : ℕ) (ss : List Slot) → Each (λ j. i ≤ j) (startingAt n i ss)
 starting-above n i ss = starting-each (λ j. i ≤ j) n i ss (λ k f s e es l q. omega arith)
 
-pub starting-tryable : (words : List ℕ) → Readable words → (n : ℕ) → Each (Tryable words) (startingAt n 0 (slotsIn base words))
-starting-tryable words r n = starting-each (Tryable words) n 0 (slotsIn base words) (λ k f s e es l q. subst (Tryable words) (sym (zero-add k)) (live k f s e es (omega (arith, l, count-slots base words)) q))
+pub starting-tryable : {words : List ℕ} → Readable words → (n : ℕ) → Each (Tryable words) (startingAt n 0 (slotsIn base words))
+starting-tryable {words} r n = starting-each (Tryable words) n 0 (slotsIn base words) (λ k f s e es l q. subst (Tryable words) (sym (zero-add k)) (live k f s e es (omega (arith, l, count-slots base words)) q))
   where
     live : (k f s e : ℕ) (es : List ℕ) → k < usedIn words → getD (slotsIn base words) k dead ≡ slot f s e es → Tryable words k
-    live k f s e es h q = readable-try words r k h (readable-is words r k h f s e es q .0)
+    live k f s e es h q = readable-try r k h (readable-is r k h f s e es q .0)
 
 -- ---- what is tried on a path
 
@@ -135,9 +135,9 @@ module _ (bd : Bounds) (lim : Limit) (g : View) (p : Path) (edges : ℕ → List
   abbrev tried : ℕ → Try SearchRefusal Path
   tried i = judgeSlot bd lim g p (edges i)
 
-  consIf-map : (b : Bool) (i : ℕ) (es : List ℕ) (l : List ℕ) → es ≡ edges i → consIf b (judgeSlot bd lim g p es) (map tried l) ≡ map tried (consIf b i l)
-  consIf-map true i es l e = ap (λ (x : List ℕ). judgeSlot bd lim g p x ∷ map tried l) e
-  consIf-map false i es l e = refl
+  consIf-map : (b : Bool) (i : ℕ) {es : List ℕ} (l : List ℕ) → es ≡ edges i → consIf b (judgeSlot bd lim g p es) (map tried l) ≡ map tried (consIf b i l)
+  consIf-map true i l e = ap (λ (x : List ℕ). judgeSlot bd lim g p x ∷ map tried l) e
+  consIf-map false i l e = refl
 
   -- the slots from number i on, whose edges are read by number
   tries-from : (i : ℕ) (ss : List Slot) → ((k f s e : ℕ) (es : List ℕ) → k < length ss → getD ss k dead ≡ slot f s e es → es ≡ edges (i + k)) → slotTries bd lim g ss p ≡ map tried (startingAt (p .end) i ss)
@@ -146,13 +146,13 @@ module _ (bd : Bounds) (lim : Limit) (g : View) (p : Path) (edges : ℕ → List
   tries-from i (dead ∷ ss) h = tries-from (suc i) ss (λ k f s e es l q. h (suc k) f s e es (omega (arith, l)) q ∙ ap edges (let z : i + suc k ≡ suc i + k = omega arith in z))
   tries-from i (slot a b c ds ∷ ss) h =
       ap (consIf (eqb b (p .end)) (judgeSlot bd lim g p ds)) (tries-from (suc i) ss (λ k f s e es l q. h (suc k) f s e es (omega (arith, l)) q ∙ ap edges (let z : i + suc k ≡ suc i + k = omega arith in z)))
-      ∙ consIf-map (eqb b (p .end)) i ds (startingAt (p .end) (suc i) ss) (h zero a b c ds (omega arith) refl ∙ ap edges (add-zero i))
+      ∙ consIf-map (eqb b (p .end)) i (startingAt (p .end) (suc i) ss) (h zero a b c ds (omega arith) refl ∙ ap edges (add-zero i))
 
-pub tries-are : (words : List ℕ) → Readable words → (lim : Limit) (g : View) (p : Path)
+pub tries-are : {words : List ℕ} → Readable words → (lim : Limit) (g : View) (p : Path)
     → slotTries base lim g (slotsIn base words) p ≡ map (λ i. judgeSlot base lim g p (edgeWords base i words)) (startingAt (p .end) 0 (slotsIn base words))
-tries-are words r lim g p =
+tries-are {words} r lim g p =
     tries-from base lim g p (λ i. edgeWords base i words) 0 (slotsIn base words)
-    (λ k f s e es l q. readable-is words r k (omega (arith, l, count-slots base words)) f s e es q .1 ∙ ap (λ (j : ℕ). edgeWords base j words) (sym (zero-add k)))
+    (λ k f s e es l q. readable-is r k (omega (arith, l, count-slots base words)) f s e es q .1 ∙ ap (λ (j : ℕ). edgeWords base j words) (sym (zero-add k)))
 
 -- ---- one record more is linked
 
@@ -160,8 +160,8 @@ first-in : (links : List ℕ) (n : ℕ) → n < NODES → firstLink links n ≡ 
 first-in links n h = cell-in links 0 NODES n h ∙ ap (λ (k : ℕ). getD links k 0) (zero-add n)
 
 -- what the code reads
-pub first-known : (links : List ℕ) (n v : ℕ) → n < NODES → v ≡ getD links n 0 → v ≡ firstLink links n
-first-known links n v h e = e ∙ sym (first-in links n h)
+pub first-known : (links : List ℕ) (n : ℕ) {v : ℕ} → n < NODES → v ≡ getD links n 0 → v ≡ firstLink links n
+first-known links n h e = e ∙ sym (first-in links n h)
 
 pub first-none : (links : List ℕ) (n : ℕ) → NODES ≤ n → 0 ≡ firstLink links n
 first-none links n h = sym (cell-out links 0 NODES n h)
@@ -211,48 +211,62 @@ module _ (links : List ℕ) (long : length links ≡ LINKS) (i s : ℕ) (h : i <
           (ap (firstLink (putLink i s links)) (sym q) ∙ put-first, subst (λ (x : ℕ). Passes (putLink i s links) x is) (sym (put-next ∙ ap (firstLink links) q)) (passes-later is (firstLink links n) e p))
       on (no q) = rw (ne-eqb s n q) (subst (λ (x : ℕ). Passes (putLink i s links) x is) (sym (put-other n (λ z. q (sym z)))) (passes-later is (firstLink links n) e p))
 
-module _ (words links : List ℕ) (r : Readable words) (i : ℕ) (h : i < usedIn words) (was : LinkedFrom words links (i + 1)) where
-  -- record i and those behind it
-  from-here : drop i (slotsIn base words) ≡ getD (slotsIn base words) i dead ∷ drop (suc i) (slotsIn base words)
-  from-here = drop-cons (slotsIn base words) i dead (omega (arith, h, count-slots base words))
+module _ {db : List Slot} {links : List ℕ} (i : ℕ) (h : i < length db) (was : Linking db links (i + 1)) where
+  -- slot i and those behind it
+  from-here : drop i db ≡ getD db i dead ∷ drop (suc i) db
+  from-here = drop-cons db i dead h
 
-  behind : (n : ℕ) → Passes links (firstLink links n) (startingAt n (suc i) (drop (suc i) (slotsIn base words)))
-  behind n = subst (λ (k : ℕ). Passes links (firstLink links n) (startingAt n k (drop k (slotsIn base words)))) (add-one i) (was .passes n)
+  behind : (n : ℕ) → Passes links (firstLink links n) (startingAt n (suc i) (drop (suc i) db))
+  behind n = subst (λ (k : ℕ). Passes links (firstLink links n) (startingAt n k (drop k db))) (add-one i) (was .passes n)
+
+  -- a dead one is passed over
+  pub slot-unlinked : getD db i dead ≡ dead → Linking db links i
+  unfolding startingAt
+  slot-unlinked e = record { long = was .long; passes = λ n. rw (from-here, e) (behind n) }
+
+  -- a live one goes in front of those with the same start
+  pub slot-linked : (f s e : ℕ) (es : List ℕ) → getD db i dead ≡ slot f s e es → i < RECORDS → s < NODES → Linking db (putLink i s links) i
+  unfolding startingAt
+  slot-linked f s e es q k b = record {
+    long = put-long links (was .long) i s k b;
+    passes = λ n. rw (from-here, q) (passes-more links (was .long) i s k b n (startingAt n (suc i) (drop (suc i) db)) (starting-above n (suc i) (drop (suc i) db)) (behind n));
+  }
+
+module _ {words : List ℕ} (links : List ℕ) (r : Readable words) (i : ℕ) (h : i < usedIn words) (was : LinkedFrom words links (i + 1)) where
+  in-slots : i < length (slotsIn base words)
+  in-slots = omega (arith, h, count-slots base words)
 
   pub linked-dead : ownerWord base i words ≤ 0 → LinkedFrom words links i
-  unfolding startingAt
-  linked-dead e = record { long = was .long; passes = λ n. rw (from-here, slot-dead base i words h (omega (arith, e))) (behind n) }
+  linked-dead e = slot-unlinked i in-slots was (slot-dead base i words h (omega (arith, e)))
 
   pub linked-live : 0 < ownerWord base i words → LinkedFrom words (putLink i (startWord base i words) links) i
-  unfolding startingAt
   linked-live e =
-      let s = startWord base i words in
-      let b = readable-start words r i h e in
-      record {
-        long = put-long links (was .long) i s less-records b;
-        passes = λ n. rw (from-here, readable-slot words r i h e) (passes-more links (was .long) i s less-records b n (startingAt n (suc i) (drop (suc i) (slotsIn base words))) (starting-above n (suc i) (drop (suc i) (slotsIn base words))) (behind n));
-      }
-    where
-      less-records : i < RECORDS
-      less-records = omega (arith, h, readable-used words r)
+      slot-linked i in-slots was (ownerWord base i words - 1) (startWord base i words) (endWord base i words) (edgeWords base i words) (readable-slot r i h e)
+      (omega (arith, h, readable-used r)) (readable-start r i h e)
 
 -- ---- the loop
 
-pub link-start : (words links : List ℕ) → links ≡ zeros LINKS → (i : ℕ) → i ≡ usedIn words → LinkedFrom words links i
+-- behind the last slot nothing is linked
+pub linking-none : (db : List Slot) {links : List ℕ} → links ≡ zeros LINKS → (i : ℕ) → length db ≤ i → Linking db links i
 unfolding startingAt
-link-start words links e i q = record {
+linking-none db {links} e i q = record {
   long = ap length e ∙ length-replicate {A = ℕ} LINKS 0;
-  passes = λ n. rw (drop-of-length-le (slotsIn base words) {i = i} (omega (arith, q, count-slots base words))) (none n (decLt n NODES));
+  passes = λ n. rw (drop-of-length-le db {i = i} q) (none n (decLt n NODES));
 }
   where
     none : (n : ℕ) → Dec (n < NODES) → firstLink links n ≡ 0
     none n (yes l) = first-in links n l ∙ ap (λ (x : List ℕ). getD x n 0) e ∙ getD-replicate LINKS n 0 0 (omega (arith, l))
     none n (no l) = cell-out links 0 NODES n (omega (arith, l))
 
-pub link-end : (words links : List ℕ) → Readable words → (i : ℕ) → i ≤ 0 → LinkedFrom words links i → Linked words links
-link-end words links r i h k =
-    let z : i ≡ 0 = omega (arith, h) in
-    record { readable = r; long = k .long; passes = λ n. subst (λ (j : ℕ). Passes links (firstLink links n) (startingAt n j (drop j (slotsIn base words)))) z (k .passes n) }
+pub link-start : (words : List ℕ) {links : List ℕ} → links ≡ zeros LINKS → {i : ℕ} → i ≡ usedIn words → LinkedFrom words links i
+link-start words {links} e {i} q = linking-none (slotsIn base words) e i (omega (arith, q, count-slots base words))
+
+-- from number 0 on all are
+pub linking-all : {db : List Slot} {links : List ℕ} {i : ℕ} → i ≤ 0 → Linking db links i → (n : ℕ) → Passes links (firstLink links n) (startingAt n 0 db)
+linking-all {db} {links} {i} h k n = let z : i ≡ 0 = omega (arith, h) in subst (λ (j : ℕ). Passes links (firstLink links n) (startingAt n j (drop j db))) z (k .passes n)
+
+pub link-end : {words : List ℕ} (links : List ℕ) → Readable words → (i : ℕ) → i ≤ 0 → LinkedFrom words links i → Linked words links
+link-end {words} links r i h k = record { readable = r; long = k .long; passes = linking-all h k }
 
 -- ---- following the links: 0 ends it, every other link is the next record plus 1
 

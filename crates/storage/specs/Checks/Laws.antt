@@ -8,9 +8,11 @@ use mathlib.Core.List.{List}
 use borrow.Author.Tests.{eq-eqb, ne-eqb}
 use lib.Dec.{eqb}
 use lib.ListN.{length}
+use Rattle.semantics.specs.Entries.{graphIn}
 use Rattle.semantics.specs.declared.refusal.ImageRefusal.{ImageRefusal}
 use Rattle.semantics.specs.declared.refusal.ImageRefusal.the-variants as Image
 use Rattle.semantics.specs.declared.answer.Checked.{Checked}
+use Rattle.semantics.specs.declared.answer.Checked as C
 use Rattle.semantics.specs.declared.answer.Checked.the-variants as Checked
 use Rattle.semantics.specs.Calls.{checkCall}
 use Rattle.semantics.specs.Lists.{pick}
@@ -18,7 +20,7 @@ use Rattle.semantics.specs.Answer.{Answer, ok, refuse, andThen}
 use Rattle.semantics.specs.Answer.Laws.{ok-inj, refuse-ok}
 use Rattle.semantics.specs.Graph.{Graph, viewOf}
 use Rattle.semantics.specs.Image.{symbolBytes, firstRecord, firstEdge, filesOf, nodesOf, edgesOf, header, nodeRecord, edgeRecord, scan, placeOf, edgeMisfit, graphOf, references, checkImage}
-use Rattle.storage.specs.Rows.{Loaded}
+use Rattle.storage.specs.Index.{Loaded}
 use Rattle.image.specs.Filling.{Held}
 use Rattle.storage.specs.Links.{Linked}
 use Rattle.storage.specs.Links.Laws.{nothing-linked}
@@ -37,26 +39,26 @@ abbrev ending : List ℕ → ℕ → Answer ImageRefusal Graph
 ending im last = pick (eqb last (length im)) (referencesOf im) (refuse Image.Length)
 
 module _ (im : List ℕ) where
-  pub bad-header : (r : ImageRefusal) → header im ≡ refuse r → checkImage symbolBytes im ≡ refuse r
+  pub bad-header : (r : ImageRefusal) → header im ≡ refuse r → graphIn im ≡ refuse r
   unfolding checkImage
   bad-header r e = rw e
 
   module _ (good : header im ≡ ok firstRecord) where
-    behind-header : checkImage symbolBytes im ≡ andThen (recordsOf im) (ending im)
+    behind-header : graphIn im ≡ andThen (recordsOf im) (ending im)
     unfolding checkImage
     behind-header = rw good (then-assoc (scan (nodeRecord symbolBytes im (filesOf im)) 0 firstRecord (nodesOf im)) (λ middle. scan (λ e. edgeRecord im) 0 middle (edgesOf im)) (ending im))
 
-    pub bad-record : (r : ImageRefusal) → recordsOf im ≡ refuse r → checkImage symbolBytes im ≡ refuse r
+    pub bad-record : (r : ImageRefusal) → recordsOf im ≡ refuse r → graphIn im ≡ refuse r
     bad-record r e = behind-header ∙ ap (λ x. andThen x (ending im)) e
 
     module _ (last : ℕ) (read : recordsOf im ≡ ok last) where
-      at-end : checkImage symbolBytes im ≡ ending im last
+      at-end : graphIn im ≡ ending im last
       at-end = behind-header ∙ ap (λ x. andThen x (ending im)) read
 
-      pub left-over : (last ≡ length im → ⊥) → checkImage symbolBytes im ≡ refuse Image.Length
+      pub left-over : (last ≡ length im → ⊥) → graphIn im ≡ refuse Image.Length
       left-over h = at-end ∙ ap (λ (b : Bool). pick b (referencesOf im) (refuse Image.Length)) (ne-eqb last (length im) h)
 
-      pub by-references : last ≡ length im → checkImage symbolBytes im ≡ referencesOf im
+      pub by-references : last ≡ length im → graphIn im ≡ referencesOf im
       by-references h = at-end ∙ ap (λ (b : Bool). pick b (referencesOf im) (refuse Image.Length)) (eq-eqb last (length im) h)
 
 -- THE REFERENCES
@@ -68,7 +70,7 @@ pub count-edges : (im : List ℕ) → length ((graphOf symbolBytes im) .edges) �
 unfolding graphOf
 count-edges im = length-edges im (firstEdge im) (edgesOf im)
 
-module _ (im : List ℕ) (n k : ℕ) (isNodes : n ≡ nodesOf im) (f : First (nodeTest (graphOf symbolBytes im)) n k) where
+module _ (im : List ℕ) {n k : ℕ} (isNodes : n ≡ nodesOf im) (f : First (nodeTest (graphOf symbolBytes im)) n k) where
   pub bad-node : k < n → referencesOf im ≡ refuse (Image.Reference (placeOf im firstRecord k))
   unfolding references viewOf
   bad-node h =
@@ -81,7 +83,7 @@ module _ (im : List ℕ) (n k : ℕ) (isNodes : n ≡ nodesOf im) (f : First (no
     unfolding references viewOf
     by-edges = nodes-fit im (graphOf symbolBytes im) ((graphOf symbolBytes im) .nodes) firstRecord _ (λ j h. f .before j (omega (arith, h, count-nodes im)))
 
-    module _ (m e : ℕ) (isEdges : m ≡ edgesOf im) (d : First (edgeTest (graphOf symbolBytes im)) m e) where
+    module _ {m e : ℕ} (isEdges : m ≡ edgesOf im) (d : First (edgeTest (graphOf symbolBytes im)) m e) where
       pub bad-edge : e < m → referencesOf im ≡ refuse (Image.Reference (placeOf im (firstEdge im) e))
       unfolding viewOf
       bad-edge h =
@@ -98,27 +100,45 @@ module _ (im : List ℕ) (n k : ℕ) (isNodes : n ≡ nodesOf im) (f : First (no
       pub sources-known : (l : List ℕ) → Held (graphOf symbolBytes im) l → m ≤ e → Sources l
       sources-known l k h = sources-fit (graphOf symbolBytes im) l k m (omega (arith, count-edges im)) (λ j b. d .before j (omega arith))
 
-pub ready : (im l : List ℕ) (m : ℕ) → Headed im → m ≡ edgesOf im → Held (graphOf symbolBytes im) l → Linked (graphOf symbolBytes im) l m
-ready im l m h e k = nothing-linked (graphOf symbolBytes im) l m (omega (arith, count-edges im)) (omega (arith, count-nodes im, h .nodes)) (omega (arith, count-edges im, h .edges)) k
+pub ready : {im : List ℕ} (l : List ℕ) {m : ℕ} → Headed im → m ≡ edgesOf im → Held (graphOf symbolBytes im) l → Linked (graphOf symbolBytes im) l m
+ready {im} l {m} h e k = nothing-linked (graphOf symbolBytes im) l m (omega (arith, count-edges im)) (omega (arith, count-nodes im, h .nodes)) (omega (arith, count-edges im, h .edges)) k
 
 -- THE ANSWER
-pub told-refused : (x : Answer ImageRefusal Graph) (r : ImageRefusal) → x ≡ refuse r → Checked.Refused r ≡ checkCall x
+pub told-refused : {x : Answer ImageRefusal Graph} (r : ImageRefusal) → x ≡ refuse r → Checked.Refused r ≡ checkCall x
 unfolding checkCall
-told-refused x r e = sym (ap checkCall e)
+told-refused r e = sym (ap checkCall e)
 
-pub told-accepted : (im : List ℕ) (f n m : ℕ) → f ≡ filesOf im → n ≡ nodesOf im → m ≡ edgesOf im → referencesOf im ≡ ok (graphOf symbolBytes im) → Checked.Accepted f n m ≡ checkCall (referencesOf im)
+pub told-accepted : (im : List ℕ) {f n m : ℕ} → f ≡ filesOf im → n ≡ nodesOf im → m ≡ edgesOf im → referencesOf im ≡ ok (graphOf symbolBytes im) → Checked.Accepted f n m ≡ checkCall (referencesOf im)
 unfolding checkCall
-told-accepted im f n m a b c e =
+told-accepted im a b c e =
     let x = a ∙ sym files in let y = b ∙ sym (count-nodes im) in let z = c ∙ sym (count-edges im) in
     (λ i. Checked.Accepted (x i) (y i) (z i)) ∙ sym (ap checkCall e)
   where
     files : (graphOf symbolBytes im) .files ≡ filesOf im
     files = unfold graphOf in refl
 
+-- an image is accepted only with the graph that was put into the index
+pub accepted-graph : (im : List ℕ) (f n m : ℕ) → Checked.Accepted f n m ≡ checkCall (referencesOf im) → (referencesOf im ≡ ok (graphOf symbolBytes im)) × (m ≡ edgesOf im)
+unfolding checkCall
+accepted-graph im f n m e = on (references im (graphOf symbolBytes im)) refl e
+  where
+    on : (x : Answer ImageRefusal ℕ) → references im (graphOf symbolBytes im) ≡ x → Checked.Accepted f n m ≡ checkCall (andThen x (λ y. ok (graphOf symbolBytes im))) → (referencesOf im ≡ ok (graphOf symbolBytes im)) × (m ≡ edgesOf im)
+    on (ok y) q k = (ap (λ z. andThen z (λ w. ok (graphOf symbolBytes im))) q, let z : m ≡ length ((graphOf symbolBytes im) .edges) = cc in z ∙ count-edges im)
+    on (refuse r) q k = absurd (let z : _≡_ {A = ℕ} 0 1 = cc in omega arith)
+
+-- a refused one has none
+pub refused-graph : {x : Answer ImageRefusal Graph} {a : C.Checked} (r : ImageRefusal) → a ≡ checkCall x → a ≡ Checked.Refused r → (g : Graph) → x ≡ ok g → ⊥
+unfolding checkCall
+refused-graph r e q g k = let z : Checked.Refused r ≡ checkCall (ok g) = sym q ∙ e ∙ ap checkCall k in let y : _≡_ {A = ℕ} 0 1 = cc in omega arith
+
+-- and whatever is said of the graph of a refused image holds
+pub none-known : {P : Type 0} {x : Answer ImageRefusal Graph} (r : ImageRefusal) → x ≡ refuse r → (g : Graph) → x ≡ ok g → P
+none-known r e g q = absurd (refuse-ok r g (sym e ∙ q))
+
 -- nothing is loaded by a refused image
-pub none-loaded : {l : List ℕ} (x : Answer ImageRefusal Graph) (r : ImageRefusal) → x ≡ refuse r → (g : Graph) → x ≡ ok g → Loaded g l
-none-loaded x r e g q = absurd (refuse-ok r g (sym e ∙ q))
+pub none-loaded : {l : List ℕ} {x : Answer ImageRefusal Graph} (r : ImageRefusal) → x ≡ refuse r → (g : Graph) → x ≡ ok g → Loaded g l
+none-loaded r e g q = absurd (refuse-ok r g (sym e ∙ q))
 
 -- the graph of an accepted image is the one that was put into the index
-pub one-loaded : (L : Graph → Type 0) (x : Answer ImageRefusal Graph) (h : Graph) → x ≡ ok h → L h → (g : Graph) → x ≡ ok g → L g
-one-loaded L x h e k g q = subst L (ok-inj h g (sym e ∙ q)) k
+pub one-loaded : (L : Graph → Type 0) {x : Answer ImageRefusal Graph} (h : Graph) → x ≡ ok h → L h → (g : Graph) → x ≡ ok g → L g
+one-loaded L h e k g q = subst L (ok-inj h g (sym e ∙ q)) k

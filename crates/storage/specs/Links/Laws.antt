@@ -18,8 +18,8 @@ use Rattle.semantics.specs.declared.graph.Edge.the-variants as E
 use Rattle.semantics.specs.Lists.{consIf}
 use Rattle.semantics.specs.Graph.{Graph, viewOf, outgoing}
 use Rattle.image.specs.Filling.{Held}
-use Rattle.storage.specs.Rows.{NODES, EDGES, BLOCK, KIND, FLAG, FILE, SYMBOL, SCOPE, FIRST, SOURCE, TARGET, NEXT, PRECEDENCE, Blocks, cell, nodeRow, edgeRow, firstRow, nextRow, put, Runs, Loaded, putLink}
-use Rattle.storage.specs.Rows.Laws.{cell-same, cell-other}
+use Rattle.storage.specs.Index.{NODES, EDGES, BLOCK, KIND, FLAG, FILE, SYMBOL, SCOPE, FIRST, SOURCE, TARGET, NEXT, PRECEDENCE, Blocks, cell, nodeRow, edgeRow, firstRow, nextRow, put, Runs, Loaded, putLink}
+use Rattle.storage.specs.Index.Laws.{cell-same, cell-other}
 use Rattle.storage.specs.Links.{Linked}
 
 -- ONE EDGE MORE LINKED
@@ -91,7 +91,7 @@ module _ (g : Graph) (e : ℕ) (h : e < length (g .edges)) where
   unfolding outgoing
   out-live n s t p q = out-cons n ∙ ap (λ (x : Edge). outgoing n e (x ∷ drop (suc e) (g .edges))) q
 
-module _ (g : Graph) (l : List ℕ) (e : ℕ) (k : Linked g l (e + 1)) (h : e < length (g .edges)) where
+module _ {g : Graph} {l : List ℕ} (e : ℕ) (k : Linked g l (e + 1)) (h : e < length (g .edges)) where
   later : (n : ℕ) → Runs l (firstRow l n) (outgoing n (suc e) (drop (suc e) (g .edges)))
   later n = rw add-one at (k .runs n)
 
@@ -135,6 +135,6 @@ nothing-linked g l e h a b k = record {
   edges = b;
 }
 
-pub all-linked : (g : Graph) (l : List ℕ) → Linked g l 0 → Loaded g l
+pub all-linked : {g : Graph} {l : List ℕ} → Linked g l 0 → Loaded g l
 unfolding viewOf
-all-linked g l k = record { long = k .long; node = k .node; edge = k .edge; runs = k .runs; nodes = k .nodes; edges = k .edges }
+all-linked k = record { long = k .long; node = k .node; edge = k .edge; runs = k .runs; nodes = k .nodes; edges = k .edges }

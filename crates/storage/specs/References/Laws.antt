@@ -25,8 +25,8 @@ use Rattle.semantics.specs.Bytes.{signed}
 use Rattle.semantics.specs.Graph.{nodeId, Graph, View, viewOf, fileOf, isFile}
 use Rattle.semantics.specs.Acceptance.{exportedIn, nodeFits, edgeFits, oneFile, isLive}
 use Rattle.semantics.specs.Image.{nextPlace, placeOf, nodeMisfit, edgeMisfit}
-use Rattle.storage.specs.Rows.{BLOCK, KIND, FLAG, FILE, SCOPE, SOURCE, TARGET, PRECEDENCE, Blocks, cell, nodeOf, nodeRow, edgeRow, putLink}
-use Rattle.storage.specs.Rows.Laws.{cell-out, words-removed, words-live, known-kind}
+use Rattle.storage.specs.Index.{BLOCK, KIND, FLAG, FILE, SCOPE, SOURCE, TARGET, PRECEDENCE, Blocks, cell, nodeOf, nodeRow, edgeRow, putLink}
+use Rattle.storage.specs.Index.Laws.{cell-out, words-removed, words-live, known-kind}
 use Rattle.image.specs.Filling.{Held}
 use Rattle.storage.specs.Links.{Linked}
 use Rattle.storage.specs.Links.Laws.{link-other, link-length, linked-removed, linked-live}
@@ -187,12 +187,12 @@ passed-more test n h e j b = go (decLt j n)
 -- ONE EDGE LINKED, by the words that are read
 module _ (l : List ℕ) (long : Blocks l) (e : ℕ) (h : BLOCK * e < length l) where
   pub unlinked : cell l SOURCE e < 1 → (g : Graph) → e < length (g .edges) → Linked g l (e + 1) → Linked g l e
-  unlinked z g b k = linked-removed g l e k b (sym (k .edge e) ∙ sym (row-removed l e z))
+  unlinked z g b k = linked-removed e k b (sym (k .edge e) ∙ sym (row-removed l e z))
 
   module _ (live : 0 < cell l SOURCE e) (known : BLOCK * cell l SOURCE e ≤ length l) where
     pub linked : (g : Graph) → e < length (g .edges) → Linked g l (e + 1) → Linked g (putLink e (cell l SOURCE e - 1) l) e
     linked g b k =
-        linked-live g l e k b (nodeId (cell l SOURCE e - 1)) (nodeId (cell l TARGET e)) (signed (cell l PRECEDENCE e)) (sym (k .edge e) ∙ sym (row-live l e live)) h (omega arith)
+        linked-live e k b (nodeId (cell l SOURCE e - 1)) (nodeId (cell l TARGET e)) (signed (cell l PRECEDENCE e)) (sym (k .edge e) ∙ sym (row-live l e live)) h (omega arith)
 
     pub sources-kept : Sources l → Sources (putLink e (cell l SOURCE e - 1) l)
     sources-kept s m =

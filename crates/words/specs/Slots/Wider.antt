@@ -8,10 +8,10 @@ use native.Mathlib.Numerals.{add-one}
 use native.Mathlib.Omega.{arith}
 use borrow.Rule.Slice.PartMut.{putMid, post-is}
 use lib.ListN.{length, take, drop, set, getD, length-drop, length-append, length-replicate, drop-of-length-le, take-append-drop}
-use lib.Seq.{drop-cons, drop-set-lt, getD-set-same, take-append-le, drop-at, take-at, length-take-le}
+use lib.Seq.{drop-cons, drop-set-lt, getD-set-same, take-append-le, take-at, length-take-le}
 use Rattle.semantics.specs.Words.{zeros, slotsOf}
 use Rattle.words.specs.Slots.{InArea, SlotsIn, slotAt, putSlot, padded}
-use Rattle.words.specs.Slots.Laws.{within, slots-within, length-slotAt, length-put, length-slots, getD-slots, slots-put}
+use Rattle.words.specs.Slots.Laws.{within, length-slotAt, length-put, length-slots, getD-slots, slots-put}
 use Rattle.words.specs.Slots.Reversed.{slots-add}
 
 -- the same with the length of the slot in hand
@@ -81,7 +81,7 @@ module _ (L S n : ℕ) (shorter : S ≤ L) (ws₀ : List ℕ) (fits : SlotsIn L 
         above = drop-of-length-le (slotsOf L n ws₀) a ∙ ap (map (padded L)) (sym (drop-of-length-le (slotsOf S n ws₀) b));
       }
 
-  module _ (ws : List ℕ) (i : ℕ) (w : Widening ws (i + 1)) where
+  module _ {ws : List ℕ} (i : ℕ) (w : Widening ws (i + 1)) where
     fits-now : SlotsIn L n ws
     fits-now = omega (arith, w .same-length, fits)
 
@@ -97,8 +97,8 @@ module _ (L S n : ℕ) (shorter : S ≤ L) (ws₀ : List ℕ) (fits : SlotsIn L 
     slot-is : slotAt S i ws ≡ slotAt S i ws₀
     slot-is = sym (getD-slots S (i + 1) i ws (omega arith)) ∙ ap (λ (l : List (List ℕ)). getD l i []) (w .below) ∙ getD-slots S (i + 1) i ws₀ (omega arith)
 
-    pub widening-more : (ws′ s : List ℕ) → s ≡ slotAt S i ws ++ zeros (L - S) → ws′ ≡ putSlot L i s ws → Widening ws′ i
-    widening-more ws′ s e is =
+    pub widening-more : {ws′ s : List ℕ} → s ≡ slotAt S i ws ++ zeros (L - S) → ws′ ≡ putSlot L i s ws → Widening ws′ i
+    widening-more {ws′} {s} e is =
         let c : length (slotAt S i ws) ≡ S = length-slotAt S i ws widening-short in
         let l : length s ≡ L = ap length e ∙ simp (length-append, length-replicate) (omega (arith, c, shorter)) in
         let p : s ≡ padded L (slotAt S i ws₀) = e ∙ padded-is L S (slotAt S i ws) c ∙ ap (padded L) slot-is in
@@ -120,5 +120,5 @@ module _ (L S n : ℕ) (shorter : S ≤ L) (ws₀ : List ℕ) (fits : SlotsIn L 
               ∙ ap (map (padded L)) (sym (drop-cons (slotsOf S n ws₀) i [] short));
         }
 
-  pub widening-end : (ws : List ℕ) → Widening ws 0 → slotsOf L n ws ≡ map (padded L) (slotsOf S n ws₀)
-  widening-end ws w = w .above
+  pub widening-end : {ws : List ℕ} → Widening ws 0 → slotsOf L n ws ≡ map (padded L) (slotsOf S n ws₀)
+  widening-end w = w .above

@@ -7,10 +7,10 @@ use Rattle.case_list.proofs.areas.write.Statement.{statement}
 use Rattle.case_list.proofs.areas.write.Tie as tie
 
 abbrev Inv-loop : tie.InvT-loop
-Inv-loop list at area₀ count i₀ area i = (length area ≡ length area₀) × (i ≤ count + 1)
+Inv-loop case at area₀ count i₀ area i = (length area ≡ length area₀) × (i ≤ count + 1)
 
 abbrev μ-loop : tie.MeasureT-loop
-μ-loop list at area₀ count i₀ area i = count + 1 - i
+μ-loop case at area₀ count i₀ area i = count + 1 - i
 
 short-requires : tie.Need-short-requires Inv-loop μ-loop
 short-requires c κs = search needs

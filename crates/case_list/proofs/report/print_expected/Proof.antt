@@ -5,10 +5,10 @@ use Rattle.case_list.proofs.report.print_expected.Statement.{statement}
 use Rattle.case_list.proofs.report.print_expected.Tie as tie
 
 abbrev Inv-loop : tie.InvT-loop
-Inv-loop list from count i₀ i = i ≤ count
+Inv-loop case from count i₀ i = i ≤ count
 
 abbrev μ-loop : tie.MeasureT-loop
-μ-loop list from count i₀ i = count - i
+μ-loop case from count i₀ i = count - i
 
 loop-holds : tie.Need-loop-holds Inv-loop μ-loop
 loop-holds c = search needs

@@ -4,9 +4,9 @@ use Prim.Native.Nat.{_-_, _≤_}
 use native.Mathlib.Omega.{arith}
 use borrow.Author.Tests.{not-true, not-false}
 use lib.ListN.{drop}
-use Rattle.semantics.specs.Limits.{base}
-use Rattle.semantics.specs.Database.{filesOnly, every, records}
-use Rattle.database.specs.Records.Laws.{record-is}
+use Rattle.database.specs.Records.{bounded}
+use Rattle.semantics.specs.Database.{knownOwners, every, records}
+use Rattle.database.specs.Records.Laws.{record-is, within}
 use Rattle.database.specs.Checks.{tests}
 use Rattle.database.specs.Checks.Laws.{count-records, every-passed, every-failed, every-done}
 use borrow.Author.Needs.{needs}
@@ -14,10 +14,10 @@ use Rattle.database.proofs.check.all_sound.Statement.{statement}
 use Rattle.database.proofs.check.all_sound.Tie as tie
 
 abbrev Inv-loop : tie.InvT-loop
-Inv-loop words used i₀ i = (i ≤ used) × (every (tests base filesOnly words) (drop i (records base words)) ≡ every (tests base filesOnly words) (records base words))
+Inv-loop words most used i₀ i = (i ≤ used) × (every (tests (bounded most) knownOwners words) (drop i (records (bounded most) words)) ≡ every (tests (bounded most) knownOwners words) (records (bounded most) words))
 
 abbrev μ-loop : tie.MeasureT-loop
-μ-loop words used i₀ i = used - i
+μ-loop words most used i₀ i = used - i
 
 number-requires : tie.Need-number-requires Inv-loop μ-loop
 number-requires c κs = search needs
@@ -26,14 +26,16 @@ loop-holds : tie.Need-loop-holds Inv-loop μ-loop
 loop-holds c = (search needs, refl)
 
 sound-requires : tie.Need-sound-requires Inv-loop μ-loop
-sound-requires c κs = search needs
+sound-requires c κs = let a = c .before .before .before .before .args in within (bounded (a .most)) (c .before .loop .i) (a .words .now) (omega arith) (c .before .before .before .before .pre)
 
 returns : tie.Need-returns Inv-loop μ-loop
 returns c =
-    let ws = c .before .before .before .before .before .before .args .words .now in
+    let a = c .before .before .before .before .before .before .args in
+    let bd = bounded (a .most) in
+    let ws = a .words .now in
     let i = c .before .before .before .loop .i in
-    let e = ap (tests base filesOnly ws) (record-is base i ws (omega arith)) ∙ sym (c .before .sound .ensures) ∙ not-true (c .before .sound .result) (c .if1 .taken) in
-    sym (every-failed (tests base filesOnly ws) (records base ws) i (omega (arith, count-records base ws)) e) ∙ c .before .before .before .loop .inv .1
+    let e = ap (tests bd knownOwners ws) (record-is bd i ws (omega arith)) ∙ sym (c .before .sound .ensures) ∙ not-true (c .before .sound .result) (c .if1 .taken) in
+    sym (every-failed (tests bd knownOwners ws) (records bd ws) i (omega (arith, count-records bd ws)) e) ∙ c .before .before .before .loop .inv .1
 
 add-i : tie.Need-add-i Inv-loop μ-loop
 add-i c = search needs
@@ -43,15 +45,19 @@ loop-less c = search needs
 
 loop-again : tie.Need-loop-again Inv-loop μ-loop
 loop-again c =
-    let ws = c .before .before .before .before .before .before .args .words .now in
+    let a = c .before .before .before .before .before .before .args in
+    let bd = bounded (a .most) in
+    let ws = a .words .now in
     let i = c .before .before .before .loop .i in
-    let e = ap (tests base filesOnly ws) (record-is base i ws (omega arith)) ∙ sym (c .before .sound .ensures) ∙ not-false (c .before .sound .result) (c .if1 .left) in
-    (omega arith, every-passed (tests base filesOnly ws) (records base ws) i (omega (arith, count-records base ws)) e ∙ c .before .before .before .loop .inv .1)
+    let e = ap (tests bd knownOwners ws) (record-is bd i ws (omega arith)) ∙ sym (c .before .sound .ensures) ∙ not-false (c .before .sound .result) (c .if1 .left) in
+    (omega arith, every-passed (tests bd knownOwners ws) (records bd ws) i (omega (arith, count-records bd ws)) e ∙ c .before .before .before .loop .inv .1)
 
 returns-2 : tie.Need-returns-2 Inv-loop μ-loop
 returns-2 c =
-    let ws = c .before .before .before .before .args .words .now in
-    sym (every-done (tests base filesOnly ws) (records base ws) (c .before .loop .i) (omega (arith, count-records base ws))) ∙ c .before .loop .inv .1
+    let a = c .before .before .before .before .args in
+    let bd = bounded (a .most) in
+    let ws = a .words .now in
+    sym (every-done (tests bd knownOwners ws) (records bd ws) (c .before .loop .i) (omega (arith, count-records bd ws))) ∙ c .before .loop .inv .1
 
 pub all-sound-spec : {M : Type 1} → statement M
 all-sound-spec =

@@ -3,8 +3,8 @@ use mathlib.Core.Path.{sym, ap, subst, _∙_}
 use native.Mathlib.Omega.{arith}
 use denote.Ref.{ptr}
 use Rattle.semantics.specs.Limits.{base}
-use Rattle.semantics.specs.Database.{Part, filesOnly, wordsOf}
-use Rattle.database.specs.Parts.{partOf, wordPlace}
+use Rattle.semantics.specs.Database.{Part, knownOwners, wordsOf, wordPlace}
+use Rattle.database.specs.Parts.{partOf}
 use Rattle.database.specs.Parts.Laws.{Inside, lookup-inside, words-part}
 use borrow.Author.Needs.{needs}
 use Rattle.database.proofs.lookup.lookup.Statement.{statement}
@@ -13,7 +13,7 @@ use Rattle.database.proofs.lookup.lookup.Tie as tie
 inside : (c : tie.After-find) → Inside (c .before .before .args .words .now) (partOf (c .find .result))
 inside c =
     let a = c .before .before .args in
-    subst (Inside (a .words .now)) (sym (c .find .ensures)) (lookup-inside base filesOnly (a .number .0) (a .words .now))
+    subst (Inside (a .words .now)) (sym (c .find .ensures)) (lookup-inside base knownOwners (a .number .0) (a .words .now))
 
 find-requires : tie.Need-find-requires
 find-requires c κs = search needs

@@ -23,8 +23,16 @@ same-length c = search needs
 
 returns : tie.Need-returns
 returns c =
-    let a = c .before .before .before .before .before .before .before .before .before .args in
-    c .before .before .zero-record .ensures ∙ cleared-owned base (a .file) (a .i) (a .words .now) (omega (arith, c .before .before .before .before .before .before .owner .ensures, c .before .before .before .before .before .if1 .taken, c .before .before .before .before .if2 .taken)) (c .before .before .before .before .before .before .before .before .before .pre)
+    let c₁ = c .before .before .before .before .before .before .before .before .before in
+    let a = c₁ .args in
+    let p = c₁ .pre in
+    c .before .before .zero-record .ensures
+    ∙ cleared-owned base (a .file) (a .i) (a .words .now) (omega (
+      arith,
+      c .before .before .before .before .before .before .owner .ensures,
+      c .before .before .before .before .before .if1 .taken,
+      c .before .before .before .before .if2 .taken,
+    )) p
 
 same-length-2 : tie.Need-same-length-2
 same-length-2 c = search needs

@@ -22,12 +22,26 @@ same-length-2 c = search needs
 
 returns : tie.Need-returns
 returns c =
-    let a = c .before .before .before .before .before .before .before .before .before .before .before .before .before .before .before .args in
+    let if1 = c .before .before .before .before .before .before .before .if1 in
+    let c₁ = c .before .before .before .before .before .before .before .before .before .before in
+    let begin = c₁ .begin in
+    let a = c₁ .before .before .before .before .before .args in
     let h = c .before .before .before .before .refile-all .ensures in
-    let e = ap (refilings (a .image .now) (a .order) 0 (a .files) (a .work .now)) (c .before .before .before .before .before .before .before .before .before .before .begin .ensures .1) ∙ filings-fresh (a .image .now) (a .order) (a .files) (a .work .now) (a .words .now) (sym (c .before .before .before .before .before .before .before .before .before .before .begin .ensures .0) ∙ c .before .before .before .before .before .before .before .if1 .taken) in
+    let e = ap (refilings (a .image .now) (a .order) 0 (a .files) (a .work .now)) (begin .ensures .1)
+    ∙ filings-fresh (a .image .now) (a .order) (a .files) (a .work .now) (a .words .now) (sym (begin .ensures .0) ∙ if1 .taken) in
     let all = h .0 ∙ ap (λ (f : Filings). f .all) e in
-    let words = h .1 .1 .0 ∙ ap (λ (f : Filings). f .words) e in
-    (all, (h .1 .0 ∙ ap (λ (f : Filings). f .work) e, (words, λ k. subst (λ (w : List ℕ). Fills (a .image .now) (a .files) w) (sym words) (filings-fill (a .image .now) (a .order) (a .files) (a .work .now) (a .words .now) (sym all ∙ k)))))
+    let words = h .1 .1 .0 ∙ ap (λ (f : Filings). f .words) e in (
+      all,
+      (
+        h .1 .0 ∙ ap (λ (f : Filings). f .work) e,
+        (
+          words,
+          λ k.
+              subst (λ (w : List ℕ). Fills (a .image .now) (a .files) w) (sym words)
+              (filings-fill (a .image .now) (a .order) (a .files) (a .work .now) (a .words .now) (sym all ∙ k)),
+        ),
+      ),
+    )
 
 same-length-3 : tie.Need-same-length-3
 same-length-3 c = search needs

@@ -20,8 +20,13 @@ same-length-2 c = search needs
 
 returns : tie.Need-returns
 returns c =
-    let a = c .before .before .before .before .before .before .before .before .before .before .before .args in
-    (c .is-replaced .ensures ∙ ap isReplaced (replacement-alike (c .before .before .before .before .before .replace-file .result) (refiling (a .image .now) (a .order) (a .file) (a .work .now) (a .words .now) .answer) (c .before .before .before .before .before .replace-file .ensures .0)), (c .before .before .before .before .before .replace-file .ensures .1 .0, c .before .before .before .before .before .replace-file .ensures .1 .1))
+    let replace-file = c .before .before .before .before .before .replace-file in
+    let a = c .before .before .before .before .before .before .before .before .before .before .before .args in (
+      c .is-replaced .ensures
+          ∙ ap isReplaced (replacement-alike (replace-file .result) (refiling (a .image .now) (a .order) (a .file) (a .work .now) (a .words .now) .answer)
+          (replace-file .ensures .0)),
+      (replace-file .ensures .1 .0, replace-file .ensures .1 .1),
+    )
 
 pub refile-spec : {M : Type 1} → statement M
 refile-spec = tie.close (tie.spec replace-file-requires is-replaced-requires same-length same-length-2 returns)

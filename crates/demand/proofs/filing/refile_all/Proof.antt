@@ -35,11 +35,18 @@ same-length-2 c = search needs
 
 returns : tie.Need-returns Inv-loop μ-loop
 returns c =
-    let a = c .before .before .before .before .before .before .before .before .before .before .before .before .before .args in
-    let l = c .before .before .before .before .before .before .before .before .before .loop in
-    let h = c .before .before .before .before .before .refile .ensures in
-    let e = refilings-stop (a .image .now) (a .order) (a .files) (l .file) (l .work) (l .words) (omega (arith, c .before .before .before .before .before .before .before .before .loop-test .taken)) (sym (h .0) ∙ not-true (c .before .before .before .before .before .refile .result) (c .if1 .taken)) ∙ l .inv .3 in
-    (ap (λ (f : Filings). f .all) e, (h .1 .0 ∙ ap (λ (f : Filings). f .work) e, (h .1 .1 ∙ ap (λ (f : Filings). f .words) e, λ k. absurd (true≢false (sym k)))))
+    let refile = c .before .before .before .before .before .refile in
+    let c₁ = c .before .before .before .before .before .before .before .before in
+    let loop-test = c₁ .loop-test in
+    let l = c₁ .before .loop in
+    let a = c₁ .before .before .before .before .before .args in
+    let h = refile .ensures in
+    let e = refilings-stop (a .image .now) (a .order) (a .files) (l .file) (l .work) (l .words) (omega (arith, loop-test .taken))
+    (sym (h .0) ∙ not-true (refile .result) (c .if1 .taken))
+    ∙ l .inv .3 in (
+      ap (λ (f : Filings). f .all) e,
+      (h .1 .0 ∙ ap (λ (f : Filings). f .work) e, (h .1 .1 ∙ ap (λ (f : Filings). f .words) e, λ k. absurd (true≢false (sym k)))),
+    )
 
 add-file : tie.Need-add-file Inv-loop μ-loop
 add-file c = search needs
@@ -49,13 +56,17 @@ loop-less c = search needs
 
 loop-again : tie.Need-loop-again Inv-loop μ-loop
 loop-again c =
-    let a = c .before .before .before .before .before .before .before .before .before .before .before .before .before .args in
-    let l = c .before .before .before .before .before .before .before .before .before .loop in
-    let h = c .before .before .before .before .before .refile .ensures in
-    let next = refilings-next (a .image .now) (a .order) (a .files) (l .file) (l .work) (l .words) (omega (arith, c .before .before .before .before .before .before .before .before .loop-test .taken)) (sym (h .0) ∙ not-false (c .before .before .before .before .before .refile .result) (c .if1 .left)) in (
-      c .before .before .before .before .before .refile .kept .1 .1 .1 .0 ∙ l .inv .0,
-      c .before .before .before .before .before .refile .kept .1 .1 .1 .1 .0 ∙ l .inv .1,
-      omega (arith, c .before .before .before .before .before .before .before .before .loop-test .taken),
+    let refile = c .before .before .before .before .before .refile in
+    let c₁ = c .before .before .before .before .before .before .before .before in
+    let loop-test = c₁ .loop-test in
+    let l = c₁ .before .loop in
+    let a = c₁ .before .before .before .before .before .args in
+    let h = refile .ensures in
+    let next = refilings-next (a .image .now) (a .order) (a .files) (l .file) (l .work) (l .words) (omega (arith, loop-test .taken))
+    (sym (h .0) ∙ not-false (refile .result) (c .if1 .left)) in (
+      refile .kept .1 .1 .1 .0 ∙ l .inv .0,
+      refile .kept .1 .1 .1 .1 .0 ∙ l .inv .1,
+      omega (arith, loop-test .taken),
       (λ i. refilings (a .image .now) (a .order) (l .file + 1) (a .files - (l .file + 1)) (h .1 .0 i) (h .1 .1 i)) ∙ next ∙ l .inv .3,
     )
 

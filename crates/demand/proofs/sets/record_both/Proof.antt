@@ -25,9 +25,12 @@ same-length-4 c = search needs
 
 returns : tie.Need-returns
 returns c =
-    let a = c .before .before .before .before .before .before .before .before .before .before .before .before .before .before .before .before .before .before .before .before .before .before .args in
-    let d = c .before .before .before .before .before .before .before .before .before .before .before .before .search-recorded .ensures in
-    let s = c .before .before .before .before .search-recorded2 .ensures in (
+    let search-recorded2 = c .before .before .before .before .search-recorded2 in
+    let c₁ = c .before .before .before .before .before .before .before .before .before .before .before .before in
+    let search-recorded = c₁ .search-recorded in
+    let a = c₁ .before .before .before .before .before .before .before .before .before .before .args in
+    let d = search-recorded .ensures in
+    let s = search-recorded2 .ensures in (
       d .0,
       (
         d .1 .0,
@@ -39,8 +42,10 @@ returns c =
               s .1 .0,
               (
                 s .1 .1,
-                λ e. calls-agree (a .image .now) (a .words .now) (requestOf (a .first) (a .waiting .now) (a .found .now) (a .reference .0)) (requestOf (a .second) (a .stitching .now) (a .joined .now) (a .reference .0)) (c .before .before .before .before .before .before .before .before .before .before .before .before .search-recorded .result) (c .before .before .before .before .search-recorded2 .result)
-                    (c .before .before .before .before .before .before .before .before .before .before .before .before .search-recorded .last .1 .1 .1 .1 .1 .0) (c .before .before .before .before .search-recorded2 .last .1 .1 .1 .1 .1 .1 .0) (d .0) (d .1 .1) (s .0) (s .1 .1) refl e,
+                λ e.
+                    calls-agree (a .image .now) (a .words .now) (requestOf (a .first) (a .waiting .now) (a .found .now) (a .reference .0))
+                    (requestOf (a .second) (a .stitching .now) (a .joined .now) (a .reference .0)) (search-recorded .result) (search-recorded2 .result)
+                    (d .0) (d .1 .1) (s .0) (s .1 .1) refl e,
               ),
             ),
           ),

@@ -3,7 +3,7 @@ use borrow.Author.Needs.{needs}
 use native.Mathlib.Omega.{arith}
 use borrow.Author.Tests.{lt-ltb, le-ltb}
 use Rattle.semantics.specs.Image.{filesOf, nodesOf, edgesOf}
-use Rattle.image.specs.Steps.{countsAnswer}
+use Rattle.image.specs.Reached.{countsAnswer}
 use Rattle.image.proofs.header.counts.Statement.{statement}
 use Rattle.image.proofs.header.counts.Tie as tie
 

@@ -2,7 +2,7 @@
 use borrow.Author.Needs.{needs}
 use mathlib.Core.Path.{sym, _∙_}
 use borrow.Author.Tests.{not-true, not-false}
-use Rattle.image.specs.Steps.Laws.{bad-size, bad-version, by-counts, sized-long}
+use Rattle.image.specs.Reached.Laws.{bad-size, bad-version, by-counts, sized-long}
 use Rattle.image.proofs.header.header.Statement.{statement}
 use Rattle.image.proofs.header.header.Tie as tie
 
@@ -22,7 +22,12 @@ counts-requires : tie.Need-counts-requires
 counts-requires c κs = sized-long (c .before .before .before .before .before .args .image .now) (sym (c .before .before .before .sized .ensures) ∙ not-false (c .before .before .before .sized .result) (c .before .before .if1 .left))
 
 returns-3 : tie.Need-returns-3
-returns-3 c = c .counts .ensures ∙ by-counts (c .before .before .before .before .before .before .args .image .now) (sym (c .before .before .before .before .sized .ensures) ∙ not-false (c .before .before .before .before .sized .result) (c .before .before .before .if1 .left)) (sym (c .before .before .byte .ensures .0) ∙ c .before .if2 .left)
+returns-3 c =
+    let sized = c .before .before .before .before .sized in
+    c .counts .ensures
+    ∙ by-counts (c .before .before .before .before .before .before .args .image .now)
+    (sym (sized .ensures) ∙ not-false (sized .result) (c .before .before .before .if1 .left))
+    (sym (c .before .before .byte .ensures .0) ∙ c .before .if2 .left)
 
 pub header-spec : {M : Type 1} → statement M
 header-spec =

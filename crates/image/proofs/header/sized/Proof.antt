@@ -6,7 +6,7 @@ use mathlib.Core.Path.{ap}
 use borrow.Author.Tests.{lt-ltb, le-ltb}
 use lib.Dec.{eqb}
 use lib.ListN.{length}
-use Rattle.image.specs.Steps.{isSized}
+use Rattle.image.specs.Reached.{isSized}
 use Rattle.image.proofs.header.sized.Statement.{statement}
 use Rattle.image.proofs.header.sized.Tie as tie
 

@@ -7,7 +7,7 @@ use Rattle.semantics.specs.Answer.{ok}
 use Rattle.semantics.specs.Bytes.{byteAt}
 use Rattle.semantics.specs.Image.{nextPlace}
 use Rattle.image.specs.Records.Laws.{size-least, bad-file, drop-fits, bad-flag, flag-fits, drop-put, full-put}
-use Rattle.image.specs.Steps.Laws.{never}
+use Rattle.image.specs.Reached.Laws.{never}
 use Rattle.image.proofs.record.fields.Statement.{statement}
 use Rattle.image.proofs.record.fields.Tie as tie
 
@@ -29,7 +29,7 @@ cast-t13 c = search needs
 returns : tie.Need-returns
 returns c =
     let a = c .before .before .before .before .before .args in let im = a .image .now in
-    (bad-file im (a .files) (a .at) (a .kind) (byteAt im (a .at)) (c .before .short .result) (nextPlace im (a .at)) (c .before .short .ensures .0) (omega arith), λ x e. absurd (never e))
+    (bad-file im (a .files) (a .at) (a .kind) (byteAt im (a .at)) (nextPlace im (a .at)) (c .before .short .ensures .0) (omega arith), λ x e. absurd (never e))
 
 put-node-requires : tie.Need-put-node-requires
 put-node-requires c κs = search needs
@@ -45,10 +45,16 @@ same-length c = search needs
 
 returns-2 : tie.Need-returns-2
 returns-2 c =
-    let a = c .before .before .before .before .before .before .before .before .before .before .args in let im = a .image .now in
-    let z : a .at + c .before .before .before .before .before .before .before .body-size .result + 1 ≡ nextPlace im (a .at) = omega (arith, c .before .before .before .before .before .before .before .body-size .ensures, c .before .before .before .before .before .before .before .before .before .before .pre .0 .size) in (
-      ap ok z ∙ drop-fits im (a .files) (a .at) (a .kind) (byteAt im (a .at)) (c .before .before .before .before .before .before .short .result) (nextPlace im (a .at)) (c .before .before .before .before .before .before .short .ensures .0) (omega arith) (c .before .before .before .before .if2 .taken),
-      λ x e. drop-put im (a .n) (a .at) (a .kind) (c .before .before .before .before .before .before .short .result) (a .index .now) _ (c .before .before .before .before .before .before .before .before .before .before .pre .1 .1) (c .before .before .before .before .before .before .before .before .before .before .pre .0) (c .before .before .before .before .if2 .taken) (c .before .before .before .before .before .before .short .ensures .0) (c .before .before .put-node .ensures),
+    let if2 = c .before .before .before .before .if2 .taken in
+    let short = c .before .before .before .before .before .before .short in
+    let body-size = c .before .before .before .before .before .before .before .body-size in
+    let c₁ = c .before .before .before .before .before .before .before .before .before .before in
+    let a = c₁ .args in
+    let p = c₁ .pre in
+    let im = a .image .now in
+    let z : a .at + body-size .result + 1 ≡ nextPlace im (a .at) = omega (arith, body-size .ensures, p .0 .size) in (
+      ap ok z ∙ drop-fits im (a .files) (a .at) (a .kind) (byteAt im (a .at)) (nextPlace im (a .at)) (short .ensures .0) (omega arith) if2,
+      λ x e. drop-put (a .n) (a .index .now) (p .1 .1) (p .0) if2 (short .ensures .0) (c .before .before .put-node .ensures),
     )
 
 add-byte : tie.Need-add-byte
@@ -64,7 +70,7 @@ returns-3 : tie.Need-returns-3
 returns-3 c =
     let a = c .before .before .before .before .before .before .before .before .args in let im = a .image .now in
     let f : c .before .byte .result ≡ byteAt im (a .at + byteAt im (a .at)) = c .before .byte .ensures .0 ∙ ap (λ (k : ℕ). byteAt im (a .at + k)) (c .before .before .before .before .before .body-size .ensures ∙ sym (c .before .before .before .before .before .before .before .before .pre .0 .size)) in
-    (bad-flag im (a .files) (a .at) (a .kind) (byteAt im (a .at)) (c .before .before .before .before .short .result) (nextPlace im (a .at)) (c .before .before .before .before .short .ensures .0) (omega arith) (c .before .before .if2 .left) (omega (arith, f)), λ x e. absurd (never e))
+    (bad-flag im (a .files) (a .at) (a .kind) (byteAt im (a .at)) (nextPlace im (a .at)) (c .before .before .before .before .short .ensures .0) (omega arith) (c .before .before .if2 .left) (omega (arith, f)), λ x e. absurd (never e))
 
 symbol-requires : tie.Need-symbol-requires
 symbol-requires c κs = (c .before .before .before .before .before .before .before .before .before .pre .0, omega (arith, c .before .before .before .before .before .before .before .before .before .pre .0 .high))
@@ -86,11 +92,23 @@ same-length-2 c = search needs
 
 returns-4 : tie.Need-returns-4
 returns-4 c =
-    let a = c .before .before .before .before .before .before .before .before .before .before .before .before .before .before .args in let im = a .image .now in
-    let f : c .before .before .before .before .before .before .before .byte .result ≡ byteAt im (a .at + byteAt im (a .at)) = c .before .before .before .before .before .before .before .byte .ensures .0 ∙ ap (λ (k : ℕ). byteAt im (a .at + k)) (c .before .before .before .before .before .before .before .before .before .before .before .body-size .ensures ∙ sym (c .before .before .before .before .before .before .before .before .before .before .before .before .before .before .pre .0 .size)) in
-    let z : a .at + c .before .before .before .before .before .before .before .before .before .before .before .body-size .result + 1 ≡ nextPlace im (a .at) = omega (arith, c .before .before .before .before .before .before .before .before .before .before .before .body-size .ensures, c .before .before .before .before .before .before .before .before .before .before .before .before .before .before .pre .0 .size) in (
-      ap ok z ∙ flag-fits im (a .files) (a .at) (a .kind) (byteAt im (a .at)) (c .before .before .before .before .before .before .before .before .before .before .short .result) (nextPlace im (a .at)) (c .before .before .before .before .before .before .before .before .before .before .short .ensures .0) (omega arith) (c .before .before .before .before .before .before .before .before .if2 .left) (omega (arith, f)),
-      λ x e. full-put im (a .n) (a .at) (a .kind) (c .before .before .before .before .before .before .before .byte .result) (c .before .before .before .before .before .before .before .before .before .before .short .result) (c .before .before .before .before .symbol .result) (c .before .before .before .scope .result) (a .index .now) _ (c .before .before .before .before .before .before .before .before .before .before .before .before .before .before .pre .1 .1) (c .before .before .before .before .before .before .before .before .before .before .before .before .before .before .pre .0) (c .before .before .before .before .before .before .before .before .if2 .left) f (c .before .before .before .before .before .before .before .before .before .before .short .ensures .0) (c .before .before .before .before .symbol .ensures) (c .before .before .before .scope .ensures) (c .before .before .put-node2 .ensures),
+    let byte = c .before .before .before .before .before .before .before .byte in
+    let c₁ = c .before .before .before .before .before .before .before .before in
+    let if2 = c₁ .if2 in
+    let short = c₁ .before .before .short in
+    let body-size = c₁ .before .before .before .body-size in
+    let a = c₁ .before .before .before .before .before .before .args in
+    let p = c₁ .before .before .before .before .before .before .pre in
+    let im = a .image .now in
+    let f : byte .result ≡ byteAt im (a .at + byteAt im (a .at)) = byte .ensures .0
+    ∙ ap (λ (k : ℕ). byteAt im (a .at + k)) (body-size .ensures ∙ sym (p .0 .size)) in
+    let z : a .at + body-size .result + 1 ≡ nextPlace im (a .at) = omega (arith, body-size .ensures, p .0 .size) in (
+      ap ok z
+          ∙ flag-fits im (a .files) (a .at) (a .kind) (byteAt im (a .at)) (nextPlace im (a .at)) (short .ensures .0) (omega arith) (if2 .left)
+          (omega (arith, f)),
+      λ x e.
+          full-put (a .n) (a .index .now) (p .1 .1) (p .0) (if2 .left) f (short .ensures .0) (c .before .before .before .before .symbol .ensures)
+          (c .before .before .before .scope .ensures) (c .before .before .put-node2 .ensures),
     )
 
 pub fields-spec : {M : Type 1} → statement M

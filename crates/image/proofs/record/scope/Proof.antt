@@ -10,7 +10,7 @@ add-short : tie.Need-add-short
 add-short c = search needs
 
 short-requires : tie.Need-short-requires
-short-requires c κs = omega (arith, c .before .before .pre .whole, size-scope (c .before .before .args .kind) (c .if1 .taken))
+short-requires c κs = omega (arith, c .before .before .pre .whole, size-scope (c .if1 .taken))
 
 returns : tie.Need-returns
 returns c = simp (eq-eqb (c .before .before .before .args .kind) 6 (c .before .if1 .taken)) (c .short .ensures .0)

@@ -8,8 +8,8 @@ use Rattle.semantics.specs.Answer.{ok}
 use Rattle.semantics.specs.Image.{symbolBytes, firstRecord, nodeRecord, placeOf}
 use Rattle.image.specs.Records.{Run, NodesPut}
 use Rattle.image.specs.Records.Laws.{run-start, run-next, run-refused, run-end, node-place, no-nodes-put, nodes-put-more}
-use Rattle.image.specs.Steps.{answerOf}
-use Rattle.image.specs.Steps.Laws.{never, next-inj}
+use Rattle.image.specs.Reached.{answerOf}
+use Rattle.image.specs.Reached.Laws.{never, next-inj}
 use Rattle.image.proofs.scan.nodes.Statement.{statement}
 use Rattle.image.proofs.scan.nodes.Tie as tie
 
@@ -39,7 +39,7 @@ same-length c = search needs
 returns : tie.Need-returns Inv-loop μ-loop
 returns c =
     let a = c .before .before .before .before .before .before .before .before .before .before .args in let im = a .image .now in let l = c .before .before .before .before .before .before .before .loop in let t = c .enum-told .given .1 in (
-      ap answerOf t ∙ run-refused im (nodeRecord symbolBytes im (a .files)) firstRecord (a .count) (l .n) (l .at) (l .inv .2) _ (c .before .before .before .before .before .before .loop-test .taken) (sym (c .before .before .before .before .node .ensures .0) ∙ ap answerOf t),
+      ap answerOf t ∙ run-refused im (nodeRecord symbolBytes im (a .files)) firstRecord (a .count) (l .inv .2) _ (c .before .before .before .before .before .before .loop-test .taken) (sym (c .before .before .before .before .node .ensures .0) ∙ ap answerOf t),
       λ x e. absurd (never (sym t ∙ e)),
     )
 
@@ -55,8 +55,8 @@ loop-again c =
     let e : nodeRecord symbolBytes im (a .files) (l .n) (l .at) ≡ ok (c .before .step .given .0 .0) = sym (c .before .before .before .before .before .node .ensures .0) ∙ ap answerOf t in (
       omega arith,
       search needs,
-      run-next im (nodeRecord symbolBytes im (a .files)) firstRecord (a .count) (l .n) (l .at) (l .inv .2) _ (c .before .before .before .before .before .before .before .loop-test .taken) e (node-place im (a .files) (l .n) (l .at) _ e),
-      nodes-put-more im (l .n) (l .at) (a .index .now) (l .index) _ (l .inv .2 .place) (l .inv .3) (c .before .before .before .before .before .node .ensures .1 _ t),
+      run-next im (nodeRecord symbolBytes im (a .files)) firstRecord (a .count) (l .inv .2) (c .before .before .before .before .before .before .before .loop-test .taken) e (node-place im (a .files) (l .n) (l .at) _ e),
+      nodes-put-more im (l .n) (a .index .now) (l .index) _ (l .inv .2 .place) (l .inv .3) (c .before .before .before .before .before .node .ensures .1 _ t),
     )
 
 same-length-2 : tie.Need-same-length-2 Inv-loop μ-loop
@@ -66,7 +66,7 @@ returns-2 : tie.Need-returns-2 Inv-loop μ-loop
 returns-2 c =
     let a = c .before .before .before .before .args in let im = a .image .now in let l = c .before .loop in
     let z : l .n ≡ a .count = omega arith in (
-      run-end im (nodeRecord symbolBytes im (a .files)) firstRecord (a .count) (l .n) (l .at) (l .inv .2) (c .loop-test .left),
+      run-end im (nodeRecord symbolBytes im (a .files)) firstRecord (a .count) (l .inv .2) (c .loop-test .left),
       λ x e. (sym (next-inj e) ∙ l .inv .2 .place ∙ ap (placeOf im firstRecord) z, rw z at (l .inv .3)),
     )
 

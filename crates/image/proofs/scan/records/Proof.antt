@@ -5,8 +5,8 @@ use native.Mathlib.Omega.{arith}
 use mathlib.Core.Path.{sym, ap, ap₂, _∙_}
 use Rattle.semantics.specs.Image.{symbolBytes, firstRecord, edgesOf, nodeRecord, edgeRecord, scan}
 use Rattle.image.specs.Records.Laws.{records-put}
-use Rattle.image.specs.Steps.{answerOf}
-use Rattle.image.specs.Steps.Laws.{never, then-refused, then-ok}
+use Rattle.image.specs.Reached.{answerOf}
+use Rattle.image.specs.Reached.Laws.{never, then-refused, then-ok}
 use Rattle.image.proofs.scan.records.Statement.{statement}
 use Rattle.image.proofs.scan.records.Tie as tie
 
@@ -30,26 +30,48 @@ same-length c = search needs
 
 returns : tie.Need-returns
 returns c =
-    let im = c .before .before .before .before .before .before .before .before .before .before .args .image .now in let t = c .enum-told .given .1 in
-    let e = ap₂ (λ (f k : ℕ). scan (nodeRecord symbolBytes im f) 0 firstRecord k) (sym (c .before .before .before .before .before .before .before .files .ensures)) (sym (c .before .before .before .before .before .before .nodes .ensures)) ∙ sym (c .before .before .before .before .nodes2 .ensures .0) ∙ ap answerOf t in
+    let files = c .before .before .before .before .before .before .before .files in
+    let a = c .before .before .before .before .before .before .before .before .before .before .args in
+    let im = a .image .now in
+    let t = c .enum-told .given .1 in
+    let e = ap₂ (λ (f k : ℕ). scan (nodeRecord symbolBytes im f) 0 firstRecord k) (sym (files .ensures))
+    (sym (c .before .before .before .before .before .before .nodes .ensures))
+    ∙ sym (c .before .before .before .before .nodes2 .ensures .0)
+    ∙ ap answerOf t in
     (ap answerOf t ∙ then-refused _ (λ middle. scan (λ k. edgeRecord im) 0 middle (edgesOf im)) _ e, λ x q. absurd (never (sym t ∙ q)))
 
 edges-requires : tie.Need-edges-requires
 edges-requires c κs = search needs
 
 edges-requires-2 : tie.Need-edges-requires-2
-edges-requires-2 c κs = let h = c .before .before .before .before .before .before .before .before .before .before .before .before .before .pre .0 in let r = c .before .before .before .before .before .before .before .before .before .before .before .before .before .pre .1 in (h .small, (omega (arith, r .0 .long), omega (arith, c .before .edges .ensures, r .1 .edges)))
+edges-requires-2 c κs =
+    let p = c .before .before .before .before .before .before .before .before .before .before .before .before .before .pre in
+    let h = p .0 in
+    let r = p .1 in
+    (h .small, (omega (arith, r .0 .long), omega (arith, c .before .edges .ensures, r .1 .edges)))
 
 same-length-2 : tie.Need-same-length-2
 same-length-2 c = search needs
 
 returns-2 : tie.Need-returns-2
 returns-2 c =
-    let im = c .before .before .before .before .before .before .before .before .before .before .before .before .before .before .before .before .args .image .now in let t = c .before .before .before .before .before .before .step .given .1 in
-    let e = ap₂ (λ (f k : ℕ). scan (nodeRecord symbolBytes im f) 0 firstRecord k) (sym (c .before .before .before .before .before .before .before .before .before .before .before .before .before .files .ensures)) (sym (c .before .before .before .before .before .before .before .before .before .before .before .before .nodes .ensures)) ∙ sym (c .before .before .before .before .before .before .before .before .before .before .nodes2 .ensures .0) ∙ ap answerOf t in (
-      then-ok _ (λ middle. scan (λ k. edgeRecord im) 0 middle (edgesOf im)) _ _ e (c .before .before .edges2 .ensures .0 ∙ ap (scan (λ k. edgeRecord im) 0 _) (c .before .before .before .before .edges .ensures)),
-      λ x q. records-put im (c .before .before .before .before .before .before .before .before .before .before .before .before .nodes .result) _ (c .before .before .before .before .edges .result) (c .before .before .before .before .before .before .before .before .before .before .before .before .before .before .before .before .args .index .now) (c .before .before .before .before .before .before .before .before .before .before .nodes2 .last .1 .1 .1 .0) _ (c .before .before .before .before .before .before .before .before .before .before .before .before .nodes .ensures) (c .before .before .before .before .before .before .before .before .before .before .nodes2 .ensures .1 _ t .0) (c .before .before .before .before .edges .ensures) (c .before .before .before .before .before .before .before .before .before .before .before .before .before .before .before .before .pre .1 .0)
-          (c .before .before .before .before .before .before .before .before .before .before .nodes2 .ensures .1 _ t .1) (c .before .before .edges2 .ensures .1 x q),
+    let edges = c .before .before .before .before .edges in
+    let c₁ = c .before .before .before .before .before .before .before .before .before .before in
+    let nodes2 = c₁ .nodes2 in
+    let nodes = c₁ .before .before .nodes in
+    let files = c₁ .before .before .before .files in
+    let a = c₁ .before .before .before .before .before .before .args in
+    let p = c₁ .before .before .before .before .before .before .pre in
+    let im = a .image .now in
+    let t = c .before .before .before .before .before .before .step .given .1 in
+    let e = ap₂ (λ (f k : ℕ). scan (nodeRecord symbolBytes im f) 0 firstRecord k) (sym (files .ensures)) (sym (nodes .ensures))
+    ∙ sym (nodes2 .ensures .0)
+    ∙ ap answerOf t in (
+      then-ok _ (λ middle. scan (λ k. edgeRecord im) 0 middle (edgesOf im)) _ _ e
+          (c .before .before .edges2 .ensures .0 ∙ ap (scan (λ k. edgeRecord im) 0 _) (edges .ensures)),
+      λ x q.
+          records-put im (nodes2 .last .1 .1 .1 .0) _ (nodes .ensures) (nodes2 .ensures .1 _ t .0) (edges .ensures) (p .1 .0) (nodes2 .ensures .1 _ t .1)
+          (c .before .before .edges2 .ensures .1 x q),
     )
 
 pub records-spec : {M : Type 1} → statement M

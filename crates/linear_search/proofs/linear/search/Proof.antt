@@ -5,15 +5,12 @@ use borrow.Author.Needs.{needs}
 use Rattle.linear_search.proofs.linear.search.Statement.{statement}
 use Rattle.linear_search.proofs.linear.search.Tie as tie
 
--- src/linear.rt:244:5
 search-image-requires : tie.Need-search-image-requires
 search-image-requires c κs = search needs
 
--- src/linear.rt:235:1
 same-length : tie.Need-same-length
 same-length c = search needs
 
--- src/linear.rt:235:1
 returns : tie.Need-returns
 returns c = (ap (λ (x : LinearResolution). toldLinearResolution x) (c .before .before .search-image .ensures .0), c .before .before .search-image .ensures .1)
 

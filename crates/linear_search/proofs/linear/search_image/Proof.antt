@@ -1,5 +1,5 @@
 -- `linear_search::linear::search_image`: the index that the image asks for.
-use Rattle.storage.specs.Rows.Laws.{few-records}
+use Rattle.storage.specs.Index.Laws.{few-records}
 use borrow.Author.Needs.{needs}
 use Rattle.linear_search.proofs.linear.search_image.Statement.{statement}
 use Rattle.linear_search.proofs.linear.search_image.Tie as tie

@@ -1,6 +1,6 @@
 -- any image has its place in a large index
 use borrow.Author.Needs.{needs}
-use Rattle.storage.specs.Rows.Laws.{large-takes}
+use Rattle.storage.specs.Index.Laws.{large-takes}
 use Rattle.linear_search.proofs.linear.search_large.Statement.{statement}
 use Rattle.linear_search.proofs.linear.search_large.Tie as tie
 

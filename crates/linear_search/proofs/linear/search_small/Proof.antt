@@ -1,6 +1,6 @@
 -- a small image has its place in a small index
 use borrow.Author.Needs.{needs}
-use Rattle.storage.specs.Rows.Laws.{small-takes}
+use Rattle.storage.specs.Index.Laws.{small-takes}
 use Rattle.linear_search.proofs.linear.search_small.Statement.{statement}
 use Rattle.linear_search.proofs.linear.search_small.Tie as tie
 

@@ -1,6 +1,5 @@
 -- `is_filed` meets its contract, by the two tests.
 use native.Mathlib.Omega.{arith}
-use borrow.Author.Needs.{needs}
 use borrow.Author.Tests.{lt-ltb, le-ltb}
 use Rattle.partial.proofs.compute.is_filed.Statement.{statement}
 use Rattle.partial.proofs.compute.is_filed.Tie as tie

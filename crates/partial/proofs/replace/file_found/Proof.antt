@@ -1,26 +1,25 @@
 use native.Mathlib.Omega.{arith}
-use Rattle.partial.specs.Requests.Laws.{filed-by, filed-without}
+use Rattle.partial.specs.Replacements.Laws.{filed-by, filed-without}
 use borrow.Author.Needs.{needs}
 use Rattle.partial.proofs.replace.file_found.Statement.{statement}
 use Rattle.partial.proofs.replace.file_found.Tie as tie
 
--- src/replace.rt:49:9
 compute-requires : tie.Need-compute-requires
 compute-requires c κs = search needs
 
--- src/replace.rt:37:1
 same-length : tie.Need-same-length
 same-length c = search needs
 
--- src/replace.rt:37:1
 same-length-2 : tie.Need-same-length-2
 same-length-2 c = search needs
 
--- src/replace.rt:37:1
 returns : tie.Need-returns
-returns c = let a = c .before .before .before .before .before .before .before .before .before .before .before .before .args in filed-by (a .index .now) (a .nodes) (a .filing) (a .config) (a .work .now) (a .words .now) (c .before .before .before .before .compute .result) (c .before .before .before .before .compute .last .1 .1 .1 .1 .1 .0) (c .before .before .before .before .compute .ensures)
+returns c =
+    let compute = c .before .before .before .before .compute in
+    let a = c .before .before .before .before .before .before .before .before .before .before .before .before .args in
+    filed-by (a .index .now) (a .nodes) (a .filing) (a .config) (a .work .now) (a .words .now) (compute .result) (compute .last .1 .1 .1 .1 .1 .0)
+    (compute .ensures)
 
--- src/replace.rt:37:1
 returns-2 : tie.Need-returns-2
 returns-2 c = let a = c .before .before .before .before .before .args in filed-without (a .index .now) (a .nodes) (a .filing) (a .config) (a .work .now) (a .words .now) (omega arith)
 

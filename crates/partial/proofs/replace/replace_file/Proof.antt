@@ -1,5 +1,5 @@
 -- the answer of the index that the image asks for
-use Rattle.storage.specs.Rows.Laws.{few-records}
+use Rattle.storage.specs.Index.Laws.{few-records}
 use mathlib.Core.Path.{ap}
 use Rattle.semantics.specs.Told.{toldReplacement}
 use Rattle.semantics.specs.declared.answer.Replacement.{Replacement}

@@ -1,11 +1,11 @@
 -- `partial::replace::replace_in`: the refusal of the image, or the replacement on the graph that it holds.
 use borrow.Author.Needs.{needs}
 use mathlib.Core.Path.{ap, _∙_}
+use Rattle.semantics.specs.Entries.{graphIn}
 use Rattle.semantics.specs.Words.{zeros}
-use Rattle.semantics.specs.Image.{symbolBytes, checkImage}
-use Rattle.storage.specs.Rows.Use.{answer-refused, answer-accepted}
-use Rattle.partial.specs.Requests.{askedBy}
-use Rattle.partial.specs.Requests.Laws.{image-refused, image-accepted}
+use Rattle.storage.specs.Index.Use.{answer-refused, answer-accepted}
+use Rattle.partial.specs.Replacements.{askedBy}
+use Rattle.partial.specs.Replacements.Laws.{image-refused, image-accepted}
 use Rattle.partial.proofs.replace.replace_in.Statement.{statement}
 use Rattle.partial.proofs.replace.replace_in.Tie as tie
 
@@ -22,7 +22,18 @@ enum-known-checked-2 : tie.Need-enum-known-checked-2
 enum-known-checked-2 c = search needs
 
 replace-loaded-requires : tie.Need-replace-loaded-requires
-replace-loaded-requires c κs = let a = c .before .before .before .before .before .before .before .before .before .before .before .before .before .before .args in let z = answer-accepted (checkImage symbolBytes (a .image .now)) (c .before .before .before .before .before .before .before .before .load-fresh .result) (c .before .before .before .before .checked2 .given .0 .0) (c .before .before .before .before .checked2 .given .0 .1 .0) (c .before .before .before .before .checked2 .given .0 .1 .1 .0) (c .before .before .before .before .before .before .before .before .load-fresh .ensures .0) (c .before .before .before .before .checked2 .given .1) in record { graph = z .graph; loaded = c .before .before .before .before .before .before .before .before .load-fresh .ensures .1 (z .graph) (z .is); files = z .file-count; nodes = z .node-count }
+replace-loaded-requires c κs =
+    let checked2 = c .before .before .before .before .checked2 in
+    let c₁ = c .before .before .before .before .before .before .before .before in
+    let load-fresh = c₁ .load-fresh in
+    let a = c₁ .before .before .before .before .before .before .args in
+    let z = answer-accepted (graphIn (a .image .now)) (checked2 .given .0 .0) (checked2 .given .0 .1 .0) (checked2 .given .0 .1 .1 .0)
+    (load-fresh .ensures .0) (checked2 .given .1) in
+    record {
+      holds = record { graph = z .graph; loaded = load-fresh .ensures .1 (z .graph) (z .is) };
+      node-count = z .node-count;
+      file-count = z .file-count;
+    }
 
 zero-requires-2 : tie.Need-zero-requires-2
 zero-requires-2 c κs = search needs
@@ -34,7 +45,13 @@ same-length-2 : tie.Need-same-length-2
 same-length-2 c = search needs
 
 returns : tie.Need-returns
-returns c = let a = c .before .before .before .before .before .before .before .before .before .before .before .before .before .before .before .args in image-refused (checkImage symbolBytes (a .image .now)) (askedBy (a .config) (a .work .now) (a .file)) (a .words .now) (c .before .before .zero .last .0) (c .before .before .zero .ensures) (c .before .before .before .before .before .checked .given .0 .0) (answer-refused (checkImage symbolBytes (a .image .now)) (c .before .before .before .before .before .before .before .before .before .load-fresh .result) (c .before .before .before .before .before .checked .given .0 .0) (c .before .before .before .before .before .before .before .before .before .load-fresh .ensures .0) (c .before .before .before .before .before .checked .given .1))
+returns c =
+    let checked = c .before .before .before .before .before .checked in
+    let c₁ = c .before .before .before .before .before .before .before .before .before in
+    let load-fresh = c₁ .load-fresh in
+    let a = c₁ .before .before .before .before .before .before .args in
+    image-refused (askedBy (a .config) (a .work .now) (a .file)) (a .words .now) (c .before .before .zero .ensures) (checked .given .0 .0)
+    (answer-refused (graphIn (a .image .now)) (checked .given .0 .0) (load-fresh .ensures .0) (checked .given .1))
 
 same-length-3 : tie.Need-same-length-3
 same-length-3 c = search needs
@@ -46,7 +63,23 @@ same-length-5 : tie.Need-same-length-5
 same-length-5 c = search needs
 
 returns-2 : tie.Need-returns-2
-returns-2 c = let a = c .before .before .before .before .before .before .before .before .before .before .before .before .before .before .before .before .before .before .before .before .before .before .before .args in let z = answer-accepted (checkImage symbolBytes (a .image .now)) (c .before .before .before .before .before .before .before .before .before .before .before .before .before .before .before .before .before .load-fresh .result) (c .before .before .before .before .before .before .before .before .before .before .before .before .before .checked2 .given .0 .0) (c .before .before .before .before .before .before .before .before .before .before .before .before .before .checked2 .given .0 .1 .0) (c .before .before .before .before .before .before .before .before .before .before .before .before .before .checked2 .given .0 .1 .1 .0) (c .before .before .before .before .before .before .before .before .before .before .before .before .before .before .before .before .before .load-fresh .ensures .0) (c .before .before .before .before .before .before .before .before .before .before .before .before .before .checked2 .given .1) in image-accepted (checkImage symbolBytes (a .image .now)) (askedBy (a .config) (a .work .now) (a .file)) (a .words .now) (c .before .before .zero2 .last .0) (c .before .before .zero2 .ensures ∙ ap zeros (c .before .before .before .before .before .before .before .before .replace-loaded .kept .1 .1 .1 .1 .0)) (z .graph) (z .is) (c .before .before .before .before .before .before .before .before .replace-loaded .result) (c .before .before .before .before .before .before .before .before .replace-loaded .last .1 .1 .1 .1 .1 .0) (c .before .before .before .before .before .before .before .before .replace-loaded .ensures (record { graph = z .graph; loaded = c .before .before .before .before .before .before .before .before .before .before .before .before .before .before .before .before .before .load-fresh .ensures .1 (z .graph) (z .is); files = z .file-count; nodes = z .node-count }))
+returns-2 c =
+    let c₁ = c .before .before .before .before .before .before .before .before in
+    let replace-loaded = c₁ .replace-loaded in
+    let checked2 = c₁ .before .before .before .before .before .checked2 in
+    let c₂ = c₁ .before .before .before .before .before .before .before .before .before in
+    let load-fresh = c₂ .load-fresh in
+    let a = c₂ .before .before .before .before .before .before .args in
+    let z = answer-accepted (graphIn (a .image .now)) (checked2 .given .0 .0) (checked2 .given .0 .1 .0) (checked2 .given .0 .1 .1 .0)
+    (load-fresh .ensures .0) (checked2 .given .1) in
+    image-accepted (askedBy (a .config) (a .work .now) (a .file)) (a .words .now)
+    (c .before .before .zero2 .ensures ∙ ap zeros (replace-loaded .kept .1 .1 .1 .1 .0)) (z .graph) (z .is) (replace-loaded .result)
+    (replace-loaded .last .1 .1 .1 .1 .1 .0) (replace-loaded .ensures
+    (record {
+      holds = record { graph = z .graph; loaded = load-fresh .ensures .1 (z .graph) (z .is) };
+      node-count = z .node-count;
+      file-count = z .file-count;
+    }))
 
 pub replace-in-spec : {M : Type 1} → statement M
 replace-in-spec =

@@ -1,6 +1,6 @@
 -- a small image has its place in a small index
 use borrow.Author.Needs.{needs}
-use Rattle.storage.specs.Rows.Laws.{small-takes}
+use Rattle.storage.specs.Index.Laws.{small-takes}
 use Rattle.partial.proofs.replace.replace_small.Statement.{statement}
 use Rattle.partial.proofs.replace.replace_small.Tie as tie
 

@@ -5,23 +5,18 @@ use borrow.Author.Needs.{needs}
 use Rattle.partial_state.proofs.filing.file_route.Statement.{statement}
 use Rattle.partial_state.proofs.filing.file_route.Tie as tie
 
--- src/filing.rt:26:13
 add-put-record : tie.Need-add-put-record
 add-put-record c = search needs
 
--- src/filing.rt:24:9
 put-record-requires : tie.Need-put-record-requires
 put-record-requires c κs = let a = c .before .before .before .before .before .args in let p = c .before .before .before .before .before .pre in (fits-next (a .filing) (a .n) (a .words .now) (omega (arith, c .before .before .if1 .taken)) (p .0), p .0 .named, p .1)
 
--- src/filing.rt:19:1
 same-length : tie.Need-same-length
 same-length c = search needs
 
--- src/filing.rt:19:1
 returns : tie.Need-returns
 returns c = let a = c .before .before .before .before .before .before .before .before .args in c .before .before .put-record .ensures ∙ filed-put (a .filing) (a .n) (a .ends) (a .edges .now) (a .words .now) (omega (arith, c .before .before .before .before .before .if1 .taken))
 
--- src/filing.rt:19:1
 returns-2 : tie.Need-returns-2
 returns-2 c = let a = c .before .before .before .args in filed-not (a .filing) (a .n) (a .ends) (a .edges .now) (a .words .now) (omega (arith, c .if1 .left))
 

@@ -7,19 +7,15 @@ use borrow.Author.Needs.{needs}
 use Rattle.partial_state.proofs.route.begin.Statement.{statement}
 use Rattle.partial_state.proofs.route.begin.Tie as tie
 
--- src/route.rt:26:5
 zero-requires : tie.Need-zero-requires
 zero-requires c κs = search needs
 
--- src/route.rt:27:5
 slice-write-item : tie.Need-slice-write-item
 slice-write-item c = search needs
 
--- src/route.rt:22:1
 same-length : tie.Need-same-length
 same-length c = search needs
 
--- src/route.rt:22:1
 returns : tie.Need-returns
 returns c = let a = c .before .before .before .before .before .args in let p = c .before .before .before .before .before .pre in ap (λ (l : List ℕ). set l 1 (a .start)) (c .before .before .zero .ensures) ∙ begun (length (a .item .now)) (a .start) p
 

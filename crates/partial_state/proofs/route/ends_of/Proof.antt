@@ -1,62 +1,53 @@
 use native.Mathlib.Omega.{arith}
 use mathlib.Core.Path.{ap, _∙_}
 use Rattle.semantics.specs.PartialPaths.{targetOf}
-use Rattle.storage.specs.Rows.{edgeRow}
+use Rattle.storage.specs.Index.{edgeRow}
 use Rattle.partial_state.specs.Routes.{sourceOf}
 use Rattle.partial_state.specs.Routes.Laws.{ends-some, ends-none}
 use borrow.Author.Needs.{needs}
 use Rattle.partial_state.proofs.route.ends_of.Statement.{statement}
 use Rattle.partial_state.proofs.route.ends_of.Tie as tie
 
--- src/route.rt:63:17
 shared-slice-read-count : tie.Need-shared-slice-read-count
 shared-slice-read-count c = search needs
 
--- src/route.rt:63:17
 cast-count : tie.Need-cast-count
 cast-count c = search needs
 
--- src/route.rt:65:47
 shared-slice-read-t10 : tie.Need-shared-slice-read-t10
 shared-slice-read-t10 c = search needs
 
--- src/route.rt:65:13
 edge-requires : tie.Need-edge-requires
 edge-requires c κs = search needs
 
--- src/route.rt:66:46
 mul-t12 : tie.Need-mul-t12
 mul-t12 c = search needs
 
--- src/route.rt:66:46
 shared-slice-read-t10-2 : tie.Need-shared-slice-read-t10-2
 shared-slice-read-t10-2 c = search needs
 
--- src/route.rt:66:13
 edge-requires-2 : tie.Need-edge-requires-2
 edge-requires-2 c κs = search needs
 
--- src/route.rt:68:20
 source-of-requires : tie.Need-source-of-requires
 source-of-requires c κs = search needs
 
--- src/route.rt:69:18
 target-of-requires : tie.Need-target-of-requires
 target-of-requires c κs = search needs
 
--- src/route.rt:67:9
 returns : tie.Need-returns
-returns c = let a = c .before .before .before .before .before .before .before .before .before .before .args in ends-some (edgeRow (a .index .now)) (a .item .now) (c .before .source-of .result) (c .target-of .result) (omega (arith, c .before .before .before .before .before .before .if1 .taken)) (c .before .source-of .ensures ∙ ap sourceOf (c .before .before .before .before .edge .ensures)) (c .target-of .ensures ∙ ap targetOf (c .before .before .edge2 .ensures))
+returns c =
+    let a = c .before .before .before .before .before .before .before .before .before .before .args in
+    ends-some (edgeRow (a .index .now)) (a .item .now) (omega (arith, c .before .before .before .before .before .before .if1 .taken))
+    (c .before .source-of .ensures ∙ ap sourceOf (c .before .before .before .before .edge .ensures))
+    (c .target-of .ensures ∙ ap targetOf (c .before .before .edge2 .ensures))
 
--- src/route.rt:73:16
 shared-slice-read-t7 : tie.Need-shared-slice-read-t7
 shared-slice-read-t7 c = search needs
 
--- src/route.rt:74:14
 shared-slice-read-t17 : tie.Need-shared-slice-read-t17
 shared-slice-read-t17 c = search needs
 
--- src/route.rt:59:1
 returns-2 : tie.Need-returns-2
 returns-2 c = let a = c .before .before .before .before .before .before .args in ends-none (edgeRow (a .index .now)) (a .item .now) (omega (arith, c .before .before .if1 .left))
 

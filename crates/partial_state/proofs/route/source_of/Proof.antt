@@ -4,20 +4,16 @@ use borrow.Author.Needs.{needs}
 use Rattle.partial_state.proofs.route.source_of.Statement.{statement}
 use Rattle.partial_state.proofs.route.source_of.Tie as tie
 
--- src/route.rt:35:26
 enum-told : tie.Need-enum-told
 enum-told c = search needs
 
--- src/route.rt:37:13
 enum-known-edge : tie.Need-enum-known-edge
 enum-known-edge c = search needs
 
--- src/route.rt:31:1
 returns : tie.Need-returns
 unfolding sourceOf
 returns c = sym (ap sourceOf (c .enum-told .given .1))
 
--- src/route.rt:31:1
 returns-2 : tie.Need-returns-2
 unfolding sourceOf
 returns-2 c = sym (ap sourceOf (c .before .edge .given .1))

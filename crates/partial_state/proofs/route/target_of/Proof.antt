@@ -4,20 +4,16 @@ use borrow.Author.Needs.{needs}
 use Rattle.partial_state.proofs.route.target_of.Statement.{statement}
 use Rattle.partial_state.proofs.route.target_of.Tie as tie
 
--- src/route.rt:49:26
 enum-told : tie.Need-enum-told
 enum-told c = search needs
 
--- src/route.rt:52:13
 enum-known-edge : tie.Need-enum-known-edge
 enum-known-edge c = search needs
 
--- src/route.rt:45:1
 returns : tie.Need-returns
 unfolding targetOf
 returns c = sym (ap targetOf (c .enum-told .given .1))
 
--- src/route.rt:45:1
 returns-2 : tie.Need-returns-2
 unfolding targetOf
 returns-2 c = sym (ap targetOf (c .before .edge .given .1))

@@ -4,7 +4,7 @@ use mathlib.Core.Path.{sym, ap, _∙_}
 use mathlib.Core.Bool.{Bool}
 use Rattle.semantics.specs.Lists.{or}
 use Rattle.semantics.specs.Graph.{fileOf, isFile}
-use Rattle.storage.specs.Rows.{nodeRow, targetRow}
+use Rattle.storage.specs.Index.{nodeRow, targetRow}
 use borrow.Author.Needs.{needs}
 use Rattle.partial_trial.proofs.expand.belongs.Statement.{statement}
 use Rattle.partial_trial.proofs.expand.belongs.Tie as tie
@@ -19,7 +19,12 @@ is-of-file-requires : tie.Need-is-of-file-requires
 is-of-file-requires c κs = search needs
 
 returns-2 : tie.Need-returns-2
-returns-2 c = let a = c .before .before .before .before .args in c .is-of-file .ensures ∙ ap (λ (n : ℕ). isFile (a .file) (fileOf (nodeRow (a .index .now) n))) (c .before .target .ensures) ∙ sym (ap (λ (b : Bool). or b (isFile (a .file) (fileOf (nodeRow (a .index .now) (targetRow (a .index .now) (a .edge)))))) (c .before .before .if1 .left))
+returns-2 c =
+    let a = c .before .before .before .before .args in
+    c .is-of-file .ensures
+    ∙ ap (λ (n : ℕ). isFile (a .file) (fileOf (nodeRow (a .index .now) n))) (c .before .target .ensures)
+    ∙ sym (ap (λ (b : Bool). or b (isFile (a .file) (fileOf (nodeRow (a .index .now) (targetRow (a .index .now) (a .edge))))))
+    (c .before .before .if1 .left))
 
 pub belongs-spec : {M : Type 1} → statement M
 belongs-spec = tie.close (tie.spec returns target-requires is-of-file-requires returns-2)

@@ -3,9 +3,10 @@ use Prim.Native.Nat.{ℕ, _<_}
 use native.Mathlib.Omega.{arith}
 use mathlib.Core.Path.{_≡_, refl, sym, ap, subst, _∙_}
 use lib.ListN.{length}
+use Rattle.semantics.specs.Limits.{lookedBefore, lookedEver}
 use Rattle.semantics.specs.Graph.{fileOf, isFile}
-use Rattle.storage.specs.Rows.{nodeRow}
-use Rattle.storage.specs.Rows.Use.{left}
+use Rattle.storage.specs.Index.{nodeRow}
+use Rattle.storage.specs.Index.Use.{left}
 use Rattle.partial_state.specs.Extractions.{at, goingAt}
 use Rattle.partial_trial.specs.Expansions.{Expanding}
 use Rattle.partial_trial.specs.Expansions.Edges.{Mid, mid-start, mid-owning, mid-less, mid-again, mid-refused, mid-end}
@@ -14,7 +15,12 @@ use Rattle.partial_trial.proofs.expand.expand.Statement.{statement}
 use Rattle.partial_trial.proofs.expand.expand.Tie as tie
 
 abbrev Inv-loop : tie.InvT-loop
-Inv-loop index filing ends k item₀ work₀ words₀ frame own on₀ link₀ item work words on link = (length item ≡ length item₀) × (length work ≡ length work₀) × (length words ≡ length words₀) × (own ≡ isFile (filing .file) (fileOf (nodeRow index (ends .end)))) × ((v : Expanding 549755813888 index filing ends k item₀ (at frame on₀) work₀ words₀) → Mid 549755813888 index filing ends k item₀ (at frame on₀) work₀ words₀ v (at frame on) item work words link)
+Inv-loop index filing ends k item₀ work₀ words₀ frame own on₀ link₀ item work words on link =
+    (length item ≡ length item₀)
+    × (length work ≡ length work₀)
+    × (length words ≡ length words₀)
+    × (own ≡ isFile (filing .file) (fileOf (nodeRow index (ends .end))))
+    × ((v : Expanding lookedBefore index filing ends k item₀ (at frame on₀) work₀ words₀) → Mid v (at frame on) item work words link)
 
 abbrev μ-loop : tie.MeasureT-loop
 μ-loop index filing ends k item₀ work₀ words₀ frame own on₀ link₀ item work words on link = left index link
@@ -26,13 +32,18 @@ first-requires : tie.Need-first-requires Inv-loop μ-loop
 first-requires c κs = c .before .before .before .before .before .pre .given .loaded .long
 
 loop-holds : tie.Need-loop-holds Inv-loop μ-loop
-loop-holds c = let a = c .before .before .before .before .before .before .args in (refl, refl, refl, c .before .is-of-file .ensures, λ v. mid-start 549755813888 (a .index .now) (a .filing) (a .ends) (a .k) (a .item .now) (at (a .frame) (a .extraction)) (a .work .now) (a .words .now) v (c .first .result) (c .first .ensures))
+loop-holds c = (refl, refl, refl, c .before .is-of-file .ensures, λ v. mid-start v (c .first .ensures))
 
 sub-edge : tie.Need-sub-edge Inv-loop μ-loop
 sub-edge c = search needs
 
 look-at-requires : tie.Need-look-at-requires Inv-loop μ-loop
-look-at-requires c κs = let a = c .before .before .before .before .before .before .before .before .before .before .before .args in let p = c .before .before .before .before .before .before .before .before .before .before .before .pre in let l = c .before .before .before .before .loop in mid-owning 549755813888 (a .index .now) (a .filing) (a .ends) (a .k) (a .item .now) (at (a .frame) (a .extraction)) (a .work .now) (a .words .now) p (at (a .frame) (l .on)) (l .item) (l .work) (l .words) (l .link) (l .inv .4 p) (omega (arith, c .before .before .before .loop-test .taken)) (l .inv .2) 1099511627776 (omega arith) (c .before .before .before .before .before .before .is-of-file .result) (l .inv .3)
+look-at-requires c κs =
+    let l = c .before .before .before .before .loop in
+    let c₁ = c .before .before .before .before .before .before .before .before .before .before .before in
+    let a = c₁ .args in
+    let p = c₁ .pre in
+    mid-owning p (l .inv .4 p) (omega (arith, c .before .before .before .loop-test .taken)) (l .inv .2) lookedEver (omega arith) (l .inv .3)
 
 enum-known-going : tie.Need-enum-known-going Inv-loop μ-loop
 enum-known-going c = search needs
@@ -50,16 +61,49 @@ same-length-3 : tie.Need-same-length-3 Inv-loop μ-loop
 same-length-3 c = c .before .before .before .before .before .before .before .before .look-at .kept .1 .1 .1 .1 .1 .1 .1 .1 .1 .0 ∙ c .before .before .before .before .before .before .before .before .before .before .before .before .before .loop .inv .2
 
 returns : tie.Need-returns Inv-loop μ-loop
-returns c = let a = c .before .before .before .before .before .before .before .before .before .before .before .before .before .before .before .before .before .before .before .before .args in let l = c .before .before .before .before .before .before .before .before .before .before .before .before .before .loop in λ v. mid-refused 549755813888 (a .index .now) (a .filing) (a .ends) (a .k) (a .item .now) (at (a .frame) (a .extraction)) (a .work .now) (a .words .now) v (at (a .frame) (l .on)) (l .item) (l .work) (l .words) (l .link) (l .inv .4 v) (omega (arith, c .before .before .before .before .before .before .before .before .before .before .before .before .loop-test .taken)) (l .inv .2) 1099511627776 (omega arith) (goingAt (a .frame) (c .before .before .before .before .before .before .before .before .look-at .result)) (c .before .before .before .before .before .before .before .before .look-at .last .1 .1 .1 .1 .1 .1 .0) (c .before .before .before .before .before .before .before .before .look-at .last .1 .1 .1 .1 .1 .1 .1 .1 .0) (c .before .before .before .before .before .before .before .before .look-at .last .1 .1 .1 .1 .1 .1 .1 .1 .1 .0) (c .before .before .before .before .before .before .before .before .look-at .ensures (mid-owning 549755813888 (a .index .now) (a .filing) (a .ends) (a .k) (a .item .now) (at (a .frame) (a .extraction)) (a .work .now) (a .words .now) v (at (a .frame) (l .on)) (l .item) (l .work) (l .words) (l .link) (l .inv .4 v) (omega (arith, c .before .before .before .before .before .before .before .before .before .before .before .before .loop-test .taken)) (l .inv .2) 1099511627776 (omega arith) (c .before .before .before .before .before .before .before .before .before .before .before .before .before .before .before .is-of-file .result) (l .inv .3))) (c .enum-told .given .0 .0) (ap (goingAt (a .frame)) (c .enum-told .given .1))
+returns c =
+    let c₁ = c .before .before .before .before .before .before .before .before in
+    let look-at = c₁ .look-at in
+    let loop-test = c₁ .before .before .before .before .loop-test in
+    let l = c₁ .before .before .before .before .before .loop in
+    let a = c₁ .before .before .before .before .before .before .before .before .before .before .before .before .args in
+    λ v.
+    mid-refused v (l .inv .4 v) (omega (arith, loop-test .taken)) (l .inv .2) lookedEver (omega arith) (goingAt (a .frame) (look-at .result))
+    (look-at .last .1 .1 .1 .1 .1 .1 .0) (look-at .last .1 .1 .1 .1 .1 .1 .1 .1 .0) (look-at .last .1 .1 .1 .1 .1 .1 .1 .1 .1 .0)
+    (look-at .ensures (mid-owning v (l .inv .4 v) (omega (arith, loop-test .taken)) (l .inv .2) lookedEver (omega arith) (l .inv .3)))
+    (c .enum-told .given .0 .0) (ap (goingAt (a .frame)) (c .enum-told .given .1))
 
 next-requires : tie.Need-next-requires Inv-loop μ-loop
 next-requires c κs = c .before .before .before .before .before .before .before .before .before .before .before .before .before .before .before .before .before .before .before .before .before .pre .given .loaded .long
 
 loop-less : tie.Need-loop-less Inv-loop μ-loop
-loop-less c = let a = c .before .before .before .before .before .before .before .before .before .before .before .before .before .before .before .before .before .before .before .before .before .before .args in let p = c .before .before .before .before .before .before .before .before .before .before .before .before .before .before .before .before .before .before .before .before .before .before .pre in let l = c .before .before .before .before .before .before .before .before .before .before .before .before .before .before .before .loop in subst (λ (n : ℕ). left (a .index .now) n < left (a .index .now) (l .link)) (sym (c .next .ensures)) (mid-less 549755813888 (a .index .now) (a .filing) (a .ends) (a .k) (a .item .now) (at (a .frame) (a .extraction)) (a .work .now) (a .words .now) p (at (a .frame) (l .on)) (l .item) (l .work) (l .words) (l .link) (l .inv .4 p) (omega (arith, c .before .before .before .before .before .before .before .before .before .before .before .before .before .before .loop-test .taken)))
+loop-less c =
+    let c₁ = c .before .before .before .before .before .before .before .before .before .before .before .before .before .before in
+    let loop-test = c₁ .loop-test in
+    let l = c₁ .before .loop in
+    let c₂ = c₁ .before .before .before .before .before .before .before .before in
+    let a = c₂ .args in
+    let p = c₂ .pre in
+    subst (λ (n : ℕ). left (a .index .now) n < left (a .index .now) (l .link)) (sym (c .next .ensures))
+    (mid-less p (l .inv .4 p) (omega (arith, loop-test .taken)))
 
 loop-again : tie.Need-loop-again Inv-loop μ-loop
-loop-again c = let a = c .before .before .before .before .before .before .before .before .before .before .before .before .before .before .before .before .before .before .before .before .before .before .args in let l = c .before .before .before .before .before .before .before .before .before .before .before .before .before .before .before .loop in (c .before .before .before .before .before .before .before .before .before .before .look-at .kept .1 .1 .1 .1 .1 .1 .0 ∙ l .inv .0, c .before .before .before .before .before .before .before .before .before .before .look-at .kept .1 .1 .1 .1 .1 .1 .1 .1 .0 ∙ l .inv .1, c .before .before .before .before .before .before .before .before .before .before .look-at .kept .1 .1 .1 .1 .1 .1 .1 .1 .1 .0 ∙ l .inv .2, l .inv .3, λ v. mid-again 549755813888 (a .index .now) (a .filing) (a .ends) (a .k) (a .item .now) (at (a .frame) (a .extraction)) (a .work .now) (a .words .now) v (at (a .frame) (l .on)) (l .item) (l .work) (l .words) (l .link) (l .inv .4 v) (omega (arith, c .before .before .before .before .before .before .before .before .before .before .before .before .before .before .loop-test .taken)) (l .inv .2) 1099511627776 (omega arith) (goingAt (a .frame) (c .before .before .before .before .before .before .before .before .before .before .look-at .result)) (c .before .before .before .before .before .before .before .before .before .before .look-at .last .1 .1 .1 .1 .1 .1 .0) (c .before .before .before .before .before .before .before .before .before .before .look-at .last .1 .1 .1 .1 .1 .1 .1 .1 .0) (c .before .before .before .before .before .before .before .before .before .before .look-at .last .1 .1 .1 .1 .1 .1 .1 .1 .1 .0) (c .before .before .before .before .before .before .before .before .before .before .look-at .ensures (mid-owning 549755813888 (a .index .now) (a .filing) (a .ends) (a .k) (a .item .now) (at (a .frame) (a .extraction)) (a .work .now) (a .words .now) v (at (a .frame) (l .on)) (l .item) (l .work) (l .words) (l .link) (l .inv .4 v) (omega (arith, c .before .before .before .before .before .before .before .before .before .before .before .before .before .before .loop-test .taken)) (l .inv .2) 1099511627776 (omega arith) (c .before .before .before .before .before .before .before .before .before .before .before .before .before .before .before .before .before .is-of-file .result) (l .inv .3))) (at (a .frame) (c .before .before .going .given .0 .0)) (ap (goingAt (a .frame)) (c .before .before .going .given .1)) (c .next .result) (c .next .ensures))
+loop-again c =
+    let c₁ = c .before .before .before .before .before .before .before .before .before .before in
+    let look-at = c₁ .look-at in
+    let loop-test = c₁ .before .before .before .before .loop-test in
+    let l = c₁ .before .before .before .before .before .loop in
+    let a = c₁ .before .before .before .before .before .before .before .before .before .before .before .before .args in (
+      look-at .kept .1 .1 .1 .1 .1 .1 .0 ∙ l .inv .0,
+      look-at .kept .1 .1 .1 .1 .1 .1 .1 .1 .0 ∙ l .inv .1,
+      look-at .kept .1 .1 .1 .1 .1 .1 .1 .1 .1 .0 ∙ l .inv .2,
+      l .inv .3,
+      λ v.
+          mid-again v (l .inv .4 v) (omega (arith, loop-test .taken)) (l .inv .2) lookedEver (omega arith) (goingAt (a .frame) (look-at .result))
+          (look-at .last .1 .1 .1 .1 .1 .1 .0) (look-at .last .1 .1 .1 .1 .1 .1 .1 .1 .0) (look-at .last .1 .1 .1 .1 .1 .1 .1 .1 .1 .0)
+          (look-at .ensures (mid-owning v (l .inv .4 v) (omega (arith, loop-test .taken)) (l .inv .2) lookedEver (omega arith) (l .inv .3)))
+          (at (a .frame) (c .before .before .going .given .0 .0)) (ap (goingAt (a .frame)) (c .before .before .going .given .1)) (c .next .ensures),
+    )
 
 same-length-4 : tie.Need-same-length-4 Inv-loop μ-loop
 same-length-4 c = c .before .loop .inv .0
@@ -71,7 +115,7 @@ same-length-6 : tie.Need-same-length-6 Inv-loop μ-loop
 same-length-6 c = c .before .loop .inv .2
 
 returns-2 : tie.Need-returns-2 Inv-loop μ-loop
-returns-2 c = let a = c .before .before .before .before .before .before .before .before .args in let l = c .before .loop in λ v. mid-end 549755813888 (a .index .now) (a .filing) (a .ends) (a .k) (a .item .now) (at (a .frame) (a .extraction)) (a .work .now) (a .words .now) v (at (a .frame) (l .on)) (l .item) (l .work) (l .words) (l .link) (l .inv .4 v) (omega (arith, c .loop-test .left))
+returns-2 c = let a = c .before .before .before .before .before .before .before .before .args in let l = c .before .loop in λ v. mid-end v (l .inv .4 v) (omega (arith, c .loop-test .left))
 
 pub expand-spec : {M : Type 1} → statement M
 expand-spec =

@@ -1,11 +1,12 @@
 -- `path::judgement::is_complete_in`: the refusal of the image, or what is judged of the path on the graph that it holds.
 use borrow.Author.Needs.{needs}
 use mathlib.Core.Path.{ap, _∙_}
-use Rattle.semantics.specs.Image.{symbolBytes, checkImage}
+use Rattle.semantics.specs.Entries.{graphIn}
+use Rattle.semantics.specs.Image.{symbolBytes}
 use Rattle.semantics.specs.Told.{toldJudgement}
 use Rattle.semantics.specs.Graph.{viewOf}
-use Rattle.storage.specs.Rows.{nodeRow}
-use Rattle.storage.specs.Rows.Use.{answer-refused, answer-accepted}
+use Rattle.storage.specs.Index.{nodeRow}
+use Rattle.storage.specs.Index.Use.{answer-refused, answer-accepted}
 use Rattle.stepping.specs.Judged.{completeStep}
 use Rattle.path.specs.Replays.{judgedAs}
 use Rattle.path.specs.Replays.Calls.{accepted-jump, room, complete-image, complete-answers}
@@ -28,10 +29,30 @@ cast-get-step : tie.Need-cast-get-step
 cast-get-step c = search needs
 
 get-step-requires : tie.Need-get-step-requires
-get-step-requires c κs = let a = c .before .before .before .before .before .before .before .before .before .before .before .before .before .before .before .args in let z = answer-accepted (checkImage symbolBytes (a .image .now)) (c .before .before .before .before .before .before .before .before .before .before .load-fresh .result) (c .before .before .before .before .before .before .enum-told .given .0 .0) (c .before .before .before .before .before .before .enum-told .given .0 .1 .0) (c .before .before .before .before .before .before .enum-told .given .0 .1 .1 .0) (c .before .before .before .before .before .before .before .before .before .before .load-fresh .ensures .0) (c .before .before .before .before .before .before .enum-told .given .1) in let g = z .graph in let l = c .before .before .before .before .before .before .before .before .before .before .load-fresh .ensures .1 g (z .is) in let j = accepted-jump symbolBytes (a .image .now) g (z .is) in room (viewOf g) (a .reference) (a .edges .now) (c .before .before .before .before .replay-loaded .result) (c .before .before .before .before .replay-loaded .ensures .1 g l j)
+get-step-requires c κs =
+    let replay-loaded = c .before .before .before .before .replay-loaded in
+    let enum-told′ = c .before .before .before .before .before .before .enum-told in
+    let c₁ = c .before .before .before .before .before .before .before .before .before .before in
+    let load-fresh = c₁ .load-fresh in
+    let a = c₁ .before .before .before .before .before .args in
+    let z = answer-accepted (graphIn (a .image .now)) (enum-told′ .given .0 .0) (enum-told′ .given .0 .1 .0) (enum-told′ .given .0 .1 .1 .0)
+    (load-fresh .ensures .0) (enum-told′ .given .1) in
+    let g = z .graph in
+    let l = load-fresh .ensures .1 g (z .is) in
+    let j = accepted-jump symbolBytes (a .image .now) g (z .is) in
+    room (viewOf g) (a .reference) (a .edges .now) (replay-loaded .result) (replay-loaded .ensures .1 g l j)
 
 is-complete-requires : tie.Need-is-complete-requires
-is-complete-requires c κs = let a = c .before .before .before .before .before .before .before .before .before .before .before .before .before .before .before .before .before .args in let z = answer-accepted (checkImage symbolBytes (a .image .now)) (c .before .before .before .before .before .before .before .before .before .before .before .before .load-fresh .result) (c .before .before .before .before .before .before .before .before .enum-told .given .0 .0) (c .before .before .before .before .before .before .before .before .enum-told .given .0 .1 .0) (c .before .before .before .before .before .before .before .before .enum-told .given .0 .1 .1 .0) (c .before .before .before .before .before .before .before .before .before .before .before .before .load-fresh .ensures .0) (c .before .before .before .before .before .before .before .before .enum-told .given .1) in let g = z .graph in let l = c .before .before .before .before .before .before .before .before .before .before .before .before .load-fresh .ensures .1 g (z .is) in l .long
+is-complete-requires c κs =
+    let c₁ = c .before .before .before .before .before .before .before .before in
+    let enum-told′ = c₁ .enum-told in
+    let load-fresh = c₁ .before .before .before .before .load-fresh in
+    let a = c₁ .before .before .before .before .before .before .before .before .before .args in
+    let z = answer-accepted (graphIn (a .image .now)) (enum-told′ .given .0 .0) (enum-told′ .given .0 .1 .0) (enum-told′ .given .0 .1 .1 .0)
+    (load-fresh .ensures .0) (enum-told′ .given .1) in
+    let g = z .graph in
+    let l = load-fresh .ensures .1 g (z .is) in
+    l .long
 
 judged-requires : tie.Need-judged-requires
 judged-requires c κs = search needs
@@ -40,13 +61,31 @@ same-length : tie.Need-same-length
 same-length c = search needs
 
 returns : tie.Need-returns
-returns c = let a = c .before .before .before .before .before .before .before .before .before .before .args in let e = answer-refused (checkImage symbolBytes (a .image .now)) (c .before .before .before .before .before .load-fresh .result) (c .before .r .given .0 .0) (c .before .before .before .before .before .load-fresh .ensures .0) (c .before .r .given .1) in ap toldJudgement (complete-image (checkImage symbolBytes (a .image .now)) (c .before .r .given .0 .0) e (a .reference) (a .edges .now))
+returns c =
+    let a = c .before .before .before .before .before .before .before .before .before .before .args in
+    let e = answer-refused (graphIn (a .image .now)) (c .before .r .given .0 .0) (c .before .before .before .before .before .load-fresh .ensures .0)
+    (c .before .r .given .1) in
+    ap toldJudgement (complete-image (c .before .r .given .0 .0) e (a .reference) (a .edges .now))
 
 same-length-2 : tie.Need-same-length-2
 same-length-2 c = search needs
 
 returns-2 : tie.Need-returns-2
-returns-2 c = let a = c .before .before .before .before .before .before .before .before .before .before .before .before .before .before .before .before .before .before .before .args in let z = answer-accepted (checkImage symbolBytes (a .image .now)) (c .before .before .before .before .before .before .before .before .before .before .before .before .before .before .load-fresh .result) (c .before .before .before .before .before .before .before .before .before .before .enum-told .given .0 .0) (c .before .before .before .before .before .before .before .before .before .before .enum-told .given .0 .1 .0) (c .before .before .before .before .before .before .before .before .before .before .enum-told .given .0 .1 .1 .0) (c .before .before .before .before .before .before .before .before .before .before .before .before .before .before .load-fresh .ensures .0) (c .before .before .before .before .before .before .before .before .before .before .enum-told .given .1) in let g = z .graph in let l = c .before .before .before .before .before .before .before .before .before .before .before .before .before .before .load-fresh .ensures .1 g (z .is) in let j = accepted-jump symbolBytes (a .image .now) g (z .is) in ap toldJudgement (c .judged .ensures ∙ ap (judgedAs (c .before .before .before .before .before .before .before .before .replay-loaded .result .answer)) (c .before .is-complete .ensures ∙ ap (completeStep (nodeRow (c .before .before .before .before .before .before .before .before .before .before .before .before .before .before .load-fresh .last .1 .0))) (c .before .before .before .get-step .ensures)) ∙ complete-answers _ (checkImage symbolBytes (a .image .now)) g (z .is) l (a .reference) (a .edges .now) (c .before .before .before .before .before .before .before .before .replay-loaded .result) (c .before .before .before .before .before .before .before .before .replay-loaded .ensures .1 g l j))
+returns-2 c =
+    let c₁ = c .before .before .before .before .before .before .before .before in
+    let replay-loaded = c₁ .replay-loaded in
+    let enum-told′ = c₁ .before .before .enum-told in
+    let load-fresh = c₁ .before .before .before .before .before .before .load-fresh in
+    let a = c₁ .before .before .before .before .before .before .before .before .before .before .before .args in
+    let z = answer-accepted (graphIn (a .image .now)) (enum-told′ .given .0 .0) (enum-told′ .given .0 .1 .0) (enum-told′ .given .0 .1 .1 .0)
+    (load-fresh .ensures .0) (enum-told′ .given .1) in
+    let g = z .graph in
+    let l = load-fresh .ensures .1 g (z .is) in
+    let j = accepted-jump symbolBytes (a .image .now) g (z .is) in
+    ap toldJudgement (c .judged .ensures
+    ∙ ap (judgedAs (replay-loaded .result .answer))
+    (c .before .is-complete .ensures ∙ ap (completeStep (nodeRow (load-fresh .last .1 .0))) (c .before .before .before .get-step .ensures))
+    ∙ complete-answers (z .is) l (a .reference) (a .edges .now) (replay-loaded .result) (replay-loaded .ensures .1 g l j))
 
 pub is-complete-in-spec : {M : Type 1} → statement M
 is-complete-in-spec =

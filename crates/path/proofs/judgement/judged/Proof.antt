@@ -6,27 +6,21 @@ use borrow.Author.Needs.{needs}
 use Rattle.path.proofs.judgement.judged.Statement.{statement}
 use Rattle.path.proofs.judgement.judged.Tie as tie
 
--- src/judgement.rt:30:27
 enum-told : tie.Need-enum-told
 enum-told c = search needs
 
--- src/judgement.rt:31:25
 enum-known-answer : tie.Need-enum-known-answer
 enum-known-answer c = search needs
 
--- src/judgement.rt:32:27
 enum-known-answer-2 : tie.Need-enum-known-answer-2
 enum-known-answer-2 c = search needs
 
--- src/judgement.rt:26:1
 returns : tie.Need-returns
 returns c = ap (λ (x : Replayed). judgedAs x (c .before .before .args .holds)) (sym (c .enum-told .given .1))
 
--- src/judgement.rt:26:1
 returns-2 : tie.Need-returns-2
 returns-2 c = ap (λ (x : Replayed). judgedAs x (c .before .before .before .args .holds)) (sym (c .before .answer .given .1))
 
--- src/judgement.rt:26:1
 returns-3 : tie.Need-returns-3
 returns-3 c = ap (λ (x : Replayed). judgedAs x (c .before .before .before .args .holds)) (sym (c .before .answer2 .given .1))
 

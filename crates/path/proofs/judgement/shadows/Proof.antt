@@ -1,6 +1,6 @@
 -- `path::judgement::shadows`: the index that the image asks for.
 use borrow.Author.Needs.{needs}
-use Rattle.storage.specs.Rows.Laws.{few-records, small-takes, large-takes}
+use Rattle.storage.specs.Index.Laws.{few-records, small-takes, large-takes}
 use Rattle.path.proofs.judgement.shadows.Statement.{statement}
 use Rattle.path.proofs.judgement.shadows.Tie as tie
 

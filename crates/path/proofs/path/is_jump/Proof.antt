@@ -4,23 +4,18 @@ use borrow.Author.Needs.{needs}
 use Rattle.path.proofs.path.is_jump.Statement.{statement}
 use Rattle.path.proofs.path.is_jump.Tie as tie
 
--- src/path.rt:51:11
 edge-requires : tie.Need-edge-requires
 edge-requires c κs = search needs
 
--- src/path.rt:52:26
 enum-told : tie.Need-enum-told
 enum-told c = search needs
 
--- src/path.rt:53:33
 enum-known-target : tie.Need-enum-known-target
 enum-known-target c = search needs
 
--- src/path.rt:47:1
 returns : tie.Need-returns
 returns c = ap isJumpEdge (sym (c .enum-told .given .1) ∙ c .before .before .edge .ensures)
 
--- src/path.rt:47:1
 returns-2 : tie.Need-returns-2
 returns-2 c = ap isJumpEdge (sym (c .before .before .target .given .1) ∙ c .before .before .before .before .edge .ensures)
 

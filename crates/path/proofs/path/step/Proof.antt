@@ -1,24 +1,21 @@
 use native.Mathlib.Omega.{arith}
 use mathlib.Core.Path.{_≡_}
 use lib.ListN.{length}
+use Rattle.semantics.specs.Limits.{stepsLength}
 use Rattle.stepping.specs.StepWords.Laws.{no-step}
 use borrow.Author.Needs.{needs}
 use Rattle.path.proofs.path.step.Statement.{statement}
 use Rattle.path.proofs.path.step.Tie as tie
 
--- src/path.rt:48:9
 returns : tie.Need-returns
-returns c = let n : length (c .before .before .args .path .steps) ≡ 1024 = search needs in no-step (c .before .before .args .path .steps) (c .before .before .args .k) (omega (arith, n, c .if1 .taken))
+returns c = let n : length (c .before .before .args .path .steps) ≡ stepsLength = search needs in no-step (c .before .before .args .path .steps) (c .before .before .args .k) (omega (arith, n, c .if1 .taken))
 
--- src/path.rt:50:14
 slice-aggregate-get-step : tie.Need-slice-aggregate-get-step
 slice-aggregate-get-step c = search needs
 
--- src/path.rt:50:5
 get-step-requires : tie.Need-get-step-requires
-get-step-requires c κs = let n : length (c .before .before .before .args .path .steps) ≡ 1024 = search needs in omega (arith, n, c .before .if1 .left)
+get-step-requires c κs = let n : length (c .before .before .before .args .path .steps) ≡ stepsLength = search needs in omega (arith, n, c .before .if1 .left)
 
--- src/path.rt:43:1
 returns-2 : tie.Need-returns-2
 returns-2 c = search needs
 

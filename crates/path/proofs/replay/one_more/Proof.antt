@@ -4,7 +4,7 @@ use mathlib.Core.Path.{ap, _∙_}
 use borrow.Author.Needs.{needs}
 use Rattle.semantics.specs.declared.answer.Replayed.the-variants as Replayed
 use Rattle.semantics.specs.declared.refusal.ReplayRefusal.the-variants as ReplayRefusal
-use Rattle.storage.specs.Rows.{nodeRow, edgeRow}
+use Rattle.storage.specs.Index.{nodeRow, edgeRow}
 use Rattle.path.specs.Replays.{outcomeOf}
 use Rattle.path.specs.Replays.Laws.{may-grow, more-long, more-short}
 use Rattle.path.proofs.replay.one_more.Statement.{statement}

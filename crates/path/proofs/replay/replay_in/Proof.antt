@@ -1,7 +1,8 @@
 -- `path::replay::replay_in`: the refusal of the image, or the answer of the replay on the graph that it holds.
 use borrow.Author.Needs.{needs}
-use Rattle.semantics.specs.Image.{symbolBytes, checkImage}
-use Rattle.storage.specs.Rows.Use.{answer-refused, answer-accepted}
+use Rattle.semantics.specs.Entries.{graphIn}
+use Rattle.semantics.specs.Image.{symbolBytes}
+use Rattle.storage.specs.Index.Use.{answer-refused, answer-accepted}
 use Rattle.path.specs.Replays.Calls.{accepted-jump, replay-image, replay-answers}
 use Rattle.path.proofs.replay.replay_in.Statement.{statement}
 use Rattle.path.proofs.replay.replay_in.Tie as tie
@@ -25,13 +26,29 @@ same-length : tie.Need-same-length
 same-length c = search needs
 
 returns : tie.Need-returns
-returns c = let a = c .before .before .before .before .before .before .before .before .before .before .before .args in let e = answer-refused (checkImage symbolBytes (a .image .now)) (c .before .before .before .before .before .before .load-fresh .result) (c .before .before .r .given .0 .0) (c .before .before .before .before .before .before .load-fresh .ensures .0) (c .before .before .r .given .1) in let k = replay-image (checkImage symbolBytes (a .image .now)) (c .before .before .r .given .0 .0) e (a .reference) (a .edges .now) (c .empty .result) (c .empty .ensures) in (k .0, (k .1, k .2))
+returns c =
+    let r = c .before .before .r in
+    let load-fresh = c .before .before .before .before .before .before .load-fresh in
+    let a = c .before .before .before .before .before .before .before .before .before .before .before .args in
+    let e = answer-refused (graphIn (a .image .now)) (r .given .0 .0) (load-fresh .ensures .0) (r .given .1) in
+    let k = replay-image (r .given .0 .0) e (a .reference) (a .edges .now) (c .empty .ensures) in
+    (k .0, (k .1, k .2))
 
 same-length-2 : tie.Need-same-length-2
 same-length-2 c = search needs
 
 returns-2 : tie.Need-returns-2
-returns-2 c = let a = c .before .before .before .before .before .before .before .before .before .before .before .args in let z = answer-accepted (checkImage symbolBytes (a .image .now)) (c .before .before .before .before .before .before .load-fresh .result) (c .before .before .enum-told .given .0 .0) (c .before .before .enum-told .given .0 .1 .0) (c .before .before .enum-told .given .0 .1 .1 .0) (c .before .before .before .before .before .before .load-fresh .ensures .0) (c .before .before .enum-told .given .1) in let g = z .graph in let l = c .before .before .before .before .before .before .load-fresh .ensures .1 g (z .is) in let j = accepted-jump symbolBytes (a .image .now) g (z .is) in let k = replay-answers _ (checkImage symbolBytes (a .image .now)) g (z .is) l (a .reference) (a .edges .now) (c .replay-loaded .result) (c .replay-loaded .ensures .0) (c .replay-loaded .ensures .1 g l j) in (k .0, (k .1, k .2))
+returns-2 c =
+    let enum-told′ = c .before .before .enum-told in
+    let load-fresh = c .before .before .before .before .before .before .load-fresh in
+    let a = c .before .before .before .before .before .before .before .before .before .before .before .args in
+    let z = answer-accepted (graphIn (a .image .now)) (enum-told′ .given .0 .0) (enum-told′ .given .0 .1 .0) (enum-told′ .given .0 .1 .1 .0)
+    (load-fresh .ensures .0) (enum-told′ .given .1) in
+    let g = z .graph in
+    let l = load-fresh .ensures .1 g (z .is) in
+    let j = accepted-jump symbolBytes (a .image .now) g (z .is) in
+    let k = replay-answers (z .is) l (a .reference) (a .edges .now) (c .replay-loaded .ensures .0) (c .replay-loaded .ensures .1 g l j) in
+    (k .0, (k .1, k .2))
 
 pub replay-in-spec : {M : Type 1} → statement M
 replay-in-spec =

@@ -2,7 +2,7 @@
 use Prim.Native.Nat.{_-_}
 use native.Mathlib.Omega.{arith}
 use mathlib.Core.Path.{ap, _∙_}
-use lib.ListN.{length, getD}
+use lib.ListN.{length}
 use borrow.Author.Needs.{needs}
 use Rattle.path.specs.Replays.{outcomeOf}
 use Rattle.path.specs.Replays.Laws.{Going, begun-stops, begun-goes, more-stops, more-goes, all-replayed, loaded-says}
@@ -32,7 +32,11 @@ returns c =
     (e, loaded-says (a .index .now) (a .reference) (a .edges .now) (c .before .outcome .result) e)
 
 loop-holds : tie.Need-loop-holds Inv-loop μ-loop
-loop-holds c = let a = c .before .before .before .before .before .before .before .args in begun-goes (a .index .now) (a .reference) (a .edges .now) (c .before .before .before .outcome .result) (c .before .before .before .outcome .ensures ∙ ap outcomeOf (c .before .before .before .before .from-reference .ensures)) (c .before .enum-told .given .1)
+loop-holds c =
+    let a = c .before .before .before .before .before .before .before .args in
+    begun-goes (a .index .now) (a .reference) (a .edges .now) (c .before .before .before .outcome .result)
+    (c .before .before .before .outcome .ensures ∙ ap outcomeOf (c .before .before .before .before .from-reference .ensures))
+    (c .before .enum-told .given .1)
 
 mul-one-more : tie.Need-mul-one-more Inv-loop μ-loop
 mul-one-more c = search needs

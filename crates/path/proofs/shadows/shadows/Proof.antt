@@ -2,7 +2,7 @@ use Prim.Native.Nat.{_-_, _≤_}
 use native.Mathlib.Omega.{arith}
 use mathlib.Core.Path.{_≡_, sym, _∙_}
 use lib.ListN.{length, drop}
-use Rattle.storage.specs.Rows.{edgeRow}
+use Rattle.storage.specs.Index.{edgeRow}
 use Rattle.path.specs.Shadows.{shadowsEdges}
 use Rattle.path.specs.Shadows.Laws.{walk-decided, walk-onward, walk-left, walk-right}
 use borrow.Author.Needs.{needs}
@@ -15,62 +15,65 @@ Inv-loop index left right i₀ i = (i ≤ length left) × (shadowsEdges (edgeRow
 abbrev μ-loop : tie.MeasureT-loop
 μ-loop index left right i₀ i = length left - i
 
--- src/shadows.rt:71:5
 loop-holds : tie.Need-loop-holds Inv-loop μ-loop
 loop-holds c = search needs
 
--- src/shadows.rt:73:13
 returns : tie.Need-returns Inv-loop μ-loop
 returns c = let a = c .before .before .before .before .before .before .args in let l = c .before .before .loop in sym (walk-right (edgeRow (a .index .now)) (a .left .now) (a .right .now) (l .i) (c .if1 .taken)) ∙ l .inv .1
 
--- src/shadows.rt:75:37
 mul-meet-edges : tie.Need-mul-meet-edges Inv-loop μ-loop
 mul-meet-edges c = search needs
 
--- src/shadows.rt:75:37
 shared-slice-read-meet-edges : tie.Need-shared-slice-read-meet-edges Inv-loop μ-loop
 shared-slice-read-meet-edges c = search needs
 
--- src/shadows.rt:75:46
 mul-meet-edges-2 : tie.Need-mul-meet-edges-2 Inv-loop μ-loop
 mul-meet-edges-2 c = search needs
 
--- src/shadows.rt:75:46
 shared-slice-read-meet-edges-2 : tie.Need-shared-slice-read-meet-edges-2 Inv-loop μ-loop
 shared-slice-read-meet-edges-2 c = search needs
 
--- src/shadows.rt:75:13
 meet-edges-requires : tie.Need-meet-edges-requires Inv-loop μ-loop
 meet-edges-requires c κs = search needs
 
 enum-told : tie.Need-enum-told Inv-loop μ-loop
 enum-told c = search needs
 
--- src/shadows.rt:77:13
 enum-told-2 : tie.Need-enum-told-2 Inv-loop μ-loop
 enum-told-2 c = search needs
 
--- src/shadows.rt:77:13
 is-yes-requires : tie.Need-is-yes-requires Inv-loop μ-loop
 is-yes-requires c κs = search needs
 
--- src/shadows.rt:77:13
 returns-2 : tie.Need-returns-2 Inv-loop μ-loop
-returns-2 c = let a = c .before .before .before .before .before .before .before .before .before .before .before .before .args in let l = c .before .before .before .before .before .before .before .before .loop in c .is-yes .ensures ∙ walk-decided (edgeRow (a .index .now)) (a .left .now) (a .right .now) (c .before .before .before .meet-edges .result) (l .i) (c .before .before .before .before .before .before .before .loop-test .taken) (omega (arith, c .before .before .before .before .before .before .if1 .left)) (c .before .before .before .meet-edges .ensures) (c .before .enum-told2 .given .0 .0) (c .before .enum-told2 .given .1) ∙ l .inv .1
+returns-2 c =
+    let loop-test = c .before .before .before .before .before .before .before .loop-test in
+    let c₁ = c .before .before .before .before .before .before .before .before in
+    let l = c₁ .loop in
+    let a = c₁ .before .before .before .before .args in
+    c .is-yes .ensures
+    ∙ walk-decided (edgeRow (a .index .now)) (a .left .now) (a .right .now) (l .i) (loop-test .taken)
+    (omega (arith, c .before .before .before .before .before .before .if1 .left)) (c .before .before .before .meet-edges .ensures)
+    (c .before .enum-told2 .given .0 .0) (c .before .enum-told2 .given .1)
+    ∙ l .inv .1
 
--- src/shadows.rt:79:9
 add-i : tie.Need-add-i Inv-loop μ-loop
 add-i c = search needs
 
--- src/shadows.rt:71:5
 loop-less : tie.Need-loop-less Inv-loop μ-loop
 loop-less c = search needs
 
--- src/shadows.rt:71:5
 loop-again : tie.Need-loop-again Inv-loop μ-loop
-loop-again c = let a = c .before .before .before .before .before .before .before .before .before .before .before .args in let l = c .before .before .before .before .before .before .before .loop in (omega (arith, c .before .before .before .before .before .before .loop-test .taken), walk-onward (edgeRow (a .index .now)) (a .left .now) (a .right .now) (c .before .before .meet-edges .result) (l .i) (c .before .before .before .before .before .before .loop-test .taken) (omega (arith, c .before .before .before .before .before .if1 .left)) (c .before .before .meet-edges .ensures) (c .enum-told .given .1) ∙ l .inv .1)
+loop-again c =
+    let loop-test = c .before .before .before .before .before .before .loop-test in
+    let l = c .before .before .before .before .before .before .before .loop in
+    let a = c .before .before .before .before .before .before .before .before .before .before .before .args in (
+      omega (arith, loop-test .taken),
+      walk-onward (edgeRow (a .index .now)) (a .left .now) (a .right .now) (l .i) (loop-test .taken)
+          (omega (arith, c .before .before .before .before .before .if1 .left)) (c .before .before .meet-edges .ensures) (c .enum-told .given .1)
+          ∙ l .inv .1,
+    )
 
--- src/shadows.rt:66:1
 returns-3 : tie.Need-returns-3 Inv-loop μ-loop
 returns-3 c = let a = c .before .before .before .before .before .args in let l = c .before .loop in sym (walk-left (edgeRow (a .index .now)) (a .left .now) (a .right .now) (l .i) (c .loop-test .left)) ∙ l .inv .1
 

@@ -16,8 +16,11 @@ same-length c = search needs
 
 returns : tie.Need-returns
 returns c =
+    let put2 = c .before .before .put2 in
+    let put = c .before .before .before .before .before .before .put in
     let a = c .before .before .before .before .before .before .before .before .before .args in
-    adds-then (a .area .now) (c .before .before .before .before .before .before .put .last .0) (c .before .before .put2 .last .0) (a .at) (c .before .before .before .before .before .before .put .result) (c .before .before .put2 .result) (a .kind ∷ []) (a .number ∷ []) (c .before .before .before .before .before .before .put .ensures) (c .before .before .put2 .ensures)
+    adds-then (a .area .now) (put .last .0) (put2 .last .0) (a .at) (put .result) (put2 .result) (a .kind ∷ []) (a .number ∷ []) (put .ensures)
+    (put2 .ensures)
 
 pub put-item-spec : {M : Type 1} → statement M
 put-item-spec = tie.close (tie.spec put-requires put-requires-2 same-length returns)

@@ -4,9 +4,8 @@ use native.Mathlib.Omega.{arith}
 use mathlib.Core.Path.{_≡_}
 use mathlib.Core.List.{[], _∷_}
 use lib.ListN.{length}
-use Rattle.stepping.specs.Steps.{scopesFrom, scopesOf}
-use Rattle.stepping.specs.StepWords.{stepAt}
-use Rattle.path_words.specs.PathWords.{scopeWords}
+use Rattle.semantics.specs.ReplayedPaths.{stepAt, scopesFrom, scopesOf}
+use Rattle.semantics.specs.PathWords.{scopeWords}
 use Rattle.path_words.specs.PathWords.Laws.{Left, left-start, left-more, left-end, scopes-none, scopes-out, scopes-turn}
 use borrow.Author.Needs.{needs}
 use Rattle.path_words.proofs.stacks.write_scopes.Statement.{statement}
@@ -33,8 +32,8 @@ returns c =
     let f = stepAt (a .steps .now) in
     let l = c .before .before .before .before .before .before .loop in
     let all = scopeWords (scopesOf f (a .top)) in
-    let rest = scopeWords (scopesFrom f (l .left) (l .cell)) in
-    left-end (a .area .now) (l .area) (c .before .before .put .last .0) (a .from) (l .at) (c .before .before .put .result) all rest (scopes-none f (l .left) (l .cell) (c .before .before .before .before .if1 .taken)) (l .inv .1) (c .before .before .put .ensures)
+    left-end (a .area .now) (l .area) (c .before .before .put .last .0) (a .from) (l .at) (c .before .before .put .result) all
+    (scopes-none f (l .left) (l .cell) (c .before .before .before .before .if1 .taken)) (l .inv .1) (c .before .before .put .ensures)
 
 part-requires : tie.Need-part-requires Inv-loop μ-loop
 part-requires c κs = search needs
@@ -61,8 +60,8 @@ loop-again c =
     let all = scopeWords (scopesOf f (a .top)) in
     let rest = scopeWords (scopesFrom f (l .left) (l .cell)) in
     let next = scopeWords (scopesFrom f (l .left - 1) d) in
-    let turn = scopes-turn f (l .left) (l .cell) s d (c .before .before .before .before .before .before .before .loop-test .taken) (c .before .before .before .before .before .before .if1 .left) (c .before .before .before .before .part .ensures) (c .part2 .ensures) in
-    (search needs, left-more (a .area .now) (l .area) (c .before .before .before .put-item .last .0) (a .from) (l .at) (c .before .before .before .put-item .result) all (1 ∷ s ∷ []) rest next turn (l .inv .1) (c .before .before .before .put-item .ensures))
+    let turn = scopes-turn f (l .left) (l .cell) (c .before .before .before .before .before .before .before .loop-test .taken) (c .before .before .before .before .before .before .if1 .left) (c .before .before .before .before .part .ensures) (c .part2 .ensures) in
+    (search needs, left-more (a .area .now) (l .area) (c .before .before .before .put-item .last .0) (a .from) (l .at) (c .before .before .before .put-item .result) all (1 ∷ s ∷ []) next turn (l .inv .1) (c .before .before .before .put-item .ensures))
 
 put-requires-2 : tie.Need-put-requires-2 Inv-loop μ-loop
 put-requires-2 c κs = search needs
@@ -77,7 +76,7 @@ returns-2 c =
     let l = c .before .before .before .before .before .loop in
     let all = scopeWords (scopesOf f (a .top)) in
     let rest = scopeWords (scopesFrom f (l .left) (l .cell)) in
-    left-end (a .area .now) (l .area) (c .before .before .put2 .last .0) (a .from) (l .at) (c .before .before .put2 .result) all rest (scopes-out f (l .left) (l .cell) (omega (arith, c .before .before .before .before .loop-test .left))) (l .inv .1) (c .before .before .put2 .ensures)
+    left-end (a .area .now) (l .area) (c .before .before .put2 .last .0) (a .from) (l .at) (c .before .before .put2 .result) all (scopes-out f (l .left) (l .cell) (omega (arith, c .before .before .before .before .loop-test .left))) (l .inv .1) (c .before .before .put2 .ensures)
 
 pub write-scopes-spec : {M : Type 1} → statement M
 write-scopes-spec =

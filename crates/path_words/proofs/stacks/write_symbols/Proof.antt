@@ -3,9 +3,8 @@ use Prim.Native.Nat.{_-_}
 use native.Mathlib.Omega.{arith}
 use mathlib.Core.Path.{_≡_}
 use lib.ListN.{length}
-use Rattle.stepping.specs.Steps.{attachedOf, symbolsFrom, symbolsOf}
-use Rattle.stepping.specs.StepWords.{stepAt}
-use Rattle.path_words.specs.PathWords.{symbolWord, symbolWords}
+use Rattle.semantics.specs.ReplayedPaths.{stepAt, attachedOf, symbolsFrom, symbolsOf}
+use Rattle.semantics.specs.PathWords.{symbolWord, symbolWords}
 use Rattle.path_words.specs.PathWords.Laws.{Left, left-start, left-more, left-end, symbols-none, symbols-out, symbols-turn}
 use borrow.Author.Needs.{needs}
 use Rattle.path_words.proofs.stacks.write_symbols.Statement.{statement}
@@ -32,8 +31,8 @@ returns c =
     let f = stepAt (a .steps .now) in
     let l = c .before .before .before .before .before .before .loop in
     let all = symbolWords (symbolsOf f (a .top)) in
-    let rest = symbolWords (symbolsFrom f (l .left) (l .cell)) in
-    left-end (a .area .now) (l .area) (c .before .before .put .last .0) (a .from) (l .at) (c .before .before .put .result) all rest (symbols-none f (l .left) (l .cell) (c .before .before .before .before .if1 .taken)) (l .inv .1) (c .before .before .put .ensures)
+    left-end (a .area .now) (l .area) (c .before .before .put .last .0) (a .from) (l .at) (c .before .before .put .result) all
+    (symbols-none f (l .left) (l .cell) (c .before .before .before .before .if1 .taken)) (l .inv .1) (c .before .before .put .ensures)
 
 write-symbol-requires : tie.Need-write-symbol-requires Inv-loop μ-loop
 write-symbol-requires c κs = search needs
@@ -58,8 +57,8 @@ loop-again c =
     let top = symbolWord (f k .symbol) (attachedOf f (f k .attached)) in
     let rest = symbolWords (symbolsFrom f (l .left) (l .cell)) in
     let next = symbolWords (symbolsFrom f (l .left - 1) d) in
-    let turn = symbols-turn f (l .left) (l .cell) d (c .before .before .before .before .before .before .loop-test .taken) (c .before .before .before .before .before .if1 .left) (c .part .ensures) in
-    (search needs, left-more (a .area .now) (l .area) (c .before .before .before .write-symbol .last .1 .1 .0) (a .from) (l .at) (c .before .before .before .write-symbol .result) all top rest next turn (l .inv .1) (c .before .before .before .write-symbol .ensures))
+    let turn = symbols-turn f (l .left) (l .cell) (c .before .before .before .before .before .before .loop-test .taken) (c .before .before .before .before .before .if1 .left) (c .part .ensures) in
+    (search needs, left-more (a .area .now) (l .area) (c .before .before .before .write-symbol .last .1 .1 .0) (a .from) (l .at) (c .before .before .before .write-symbol .result) all top next turn (l .inv .1) (c .before .before .before .write-symbol .ensures))
 
 put-requires-2 : tie.Need-put-requires-2 Inv-loop μ-loop
 put-requires-2 c κs = search needs
@@ -74,7 +73,7 @@ returns-2 c =
     let l = c .before .before .before .before .before .loop in
     let all = symbolWords (symbolsOf f (a .top)) in
     let rest = symbolWords (symbolsFrom f (l .left) (l .cell)) in
-    left-end (a .area .now) (l .area) (c .before .before .put2 .last .0) (a .from) (l .at) (c .before .before .put2 .result) all rest (symbols-out f (l .left) (l .cell) (omega (arith, c .before .before .before .before .loop-test .left))) (l .inv .1) (c .before .before .put2 .ensures)
+    left-end (a .area .now) (l .area) (c .before .before .put2 .last .0) (a .from) (l .at) (c .before .before .put2 .result) all (symbols-out f (l .left) (l .cell) (omega (arith, c .before .before .before .before .loop-test .left))) (l .inv .1) (c .before .before .put2 .ensures)
 
 pub write-symbols-spec : {M : Type 1} → statement M
 write-symbols-spec =

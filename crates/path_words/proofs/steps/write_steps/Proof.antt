@@ -5,12 +5,11 @@ use mathlib.Core.Path.{_≡_, ap, subst, _∙_}
 use mathlib.Core.Bool.{Bool, false}
 use mathlib.Core.List.{List, [], _∷_, _++_}
 use lib.ListN.{length, getD}
+use Rattle.semantics.specs.ReplayedPaths.{stepAt, passagesTo}
 use Rattle.semantics.specs.Lists.{consIf}
 use Rattle.semantics.specs.Calls.{jump}
-use Rattle.stepping.specs.StepWords.{stepAt}
-use Rattle.path.specs.Values.{passagesTo}
 use Rattle.path_words.specs.Written.{Adds}
-use Rattle.path_words.specs.PathWords.{stepWords}
+use Rattle.semantics.specs.PathWords.{stepWords}
 use Rattle.path_words.specs.PathWords.Laws.{adds-none, adds-then, steps-none, steps-turn}
 use borrow.Author.Needs.{needs}
 use Rattle.path_words.proofs.steps.write_steps.Statement.{statement}
@@ -87,7 +86,7 @@ loop-again c =
     let is-end : t ≡ stepAt (p .steps) (l .i + 1) .end = c .before .before .before .before .before .before .part .ensures ∙ ap (λ (s : List ℕ). stepAt s (l .i + 1) .end) (l .inv .4) in
     let one = adds-then (l .area) b d (l .at) k n (1 ∷ e ∷ []) y (c .before .before .before .before .before .before .before .before .before .before .put-item .ensures) (c .before .before .write-jump .ensures) in
     let all = adds-then (a .area .now) (l .area) d (a .from) (l .at) n x ((1 ∷ e ∷ []) ++ y) (l .inv .5) one in
-    (search needs, search needs, l .inv .2, l .inv .3, l .inv .4, subst (λ (z : List ℕ). Adds (a .area .now) (a .from) d n z) (steps-turn p (l .i) e t j is-edge is-flag is-end) all)
+    (search needs, search needs, l .inv .2, l .inv .3, l .inv .4, subst (λ (z : List ℕ). Adds (a .area .now) (a .from) d n z) (steps-turn p (l .i) is-edge is-flag is-end) all)
 
 put-requires : tie.Need-put-requires Inv-loop μ-loop
 put-requires c κs = search needs
@@ -97,11 +96,13 @@ same-length c = search needs
 
 returns : tie.Need-returns Inv-loop μ-loop
 returns c =
-    let a = c .before .before .before .before .before .before .before .before .before .before .before .args in
+    let put = c .before .before .put in
     let l = c .before .before .before .before .before .before .loop in
+    let a = c .before .before .before .before .before .before .before .before .before .before .before .args in
     let p = a .path in
     let q : l .i ≡ p .count = omega (arith, l .inv .0, c .before .before .before .before .if1 .left) in
-    adds-then (a .area .now) (l .area) (c .before .before .put .last .0) (a .from) (l .at) (c .before .before .put .result) (stepWords (passagesTo p (p .count))) (0 ∷ []) (subst (λ (i : ℕ). Adds (a .area .now) (a .from) (l .area) (l .at) (stepWords (passagesTo p i))) q (l .inv .5)) (c .before .before .put .ensures)
+    adds-then (a .area .now) (l .area) (put .last .0) (a .from) (l .at) (put .result) (stepWords (passagesTo p (p .count))) (0 ∷ [])
+    (subst (λ (i : ℕ). Adds (a .area .now) (a .from) (l .area) (l .at) (stepWords (passagesTo p i))) q (l .inv .5)) (put .ensures)
 
 pub write-steps-spec : {M : Type 1} → statement M
 write-steps-spec =

@@ -44,13 +44,22 @@ same-length c = search needs
 
 returns : tie.Need-returns
 returns c =
-    let a = c .before .before .before .before .before .before .before .before .before .before .before .before .before .before .before .before .before .before .before .before .before .before .before .before .before .before .before .before .args in
+    let write-scopes = c .before .before .write-scopes in
+    let write-symbols = c .before .before .before .before .before .before .before .write-symbols in
+    let c₁ = c .before .before .before .before .before .before .before .before .before .before .before .before in
+    let write-steps = c₁ .write-steps in
+    let put = c₁ .before .before .before .before .put in
+    let part2 = c₁ .before .before .before .before .before .before .part2 in
+    let c₂ = c₁ .before .before .before .before .before .before .before .before in
+    let part = c₂ .part in
+    let zero′ = c₂ .before .before .before .before .before .zero in
+    let a = c₂ .before .before .before .before .before .before .before .before .args in
     let n = length (a .area .now) in
-    let u : length (c .before .before .before .before .before .before .before .before .before .before .before .before .before .before .before .before .before .before .before .before .before .before .before .before .before .zero .last .0) ≡ n = search needs in
-    let v : length (c .before .before .write-scopes .last .1 .1 .0) ≡ n = search needs in
-    path-written (a .path) n (c .before .before .before .before .before .before .before .before .before .before .before .before .before .before .before .before .before .before .before .before .part .result) (c .before .before .before .before .before .before .before .before .before .before .before .before .before .before .before .before .before .before .part2 .result) (c .before .before .before .before .before .before .before .before .before .before .before .before .before .before .before .before .before .before .before .before .before .before .before .before .before .zero .last .0) (c .before .before .before .before .before .before .before .before .before .before .before .before .before .before .before .before .put .last .0) (c .before .before .before .before .before .before .before .before .before .before .before .before .write-steps .last .1 .0) (c .before .before .before .before .before .before .before .write-symbols .last .1 .1 .0) (c .before .before .write-scopes .last .1 .1 .0)
-    (c .before .before .before .before .before .before .before .before .before .before .before .before .before .before .before .before .put .result) (c .before .before .before .before .before .before .before .before .before .before .before .before .write-steps .result) (c .before .before .before .before .before .before .before .write-symbols .result) (c .before .before .write-scopes .result) u (c .before .before .before .before .before .before .before .before .before .before .before .before .before .before .before .before .before .before .before .before .before .before .before .before .before .zero .ensures) v (c .before .before .before .before .before .before .before .before .before .before .before .before .before .before .before .before .before .before .before .before .part .ensures) (c .before .before .before .before .before .before .before .before .before .before .before .before .before .before .before .before .before .before .part2 .ensures)
-    (c .before .before .before .before .before .before .before .before .before .before .before .before .before .before .before .before .put .ensures) (c .before .before .before .before .before .before .before .before .before .before .before .before .write-steps .ensures) (c .before .before .before .before .before .before .before .write-symbols .ensures) (c .before .before .write-scopes .ensures)
+    let u : length (zero′ .last .0) ≡ n = search needs in
+    let v : length (write-scopes .last .1 .1 .0) ≡ n = search needs in
+    path-written (a .path) (put .last .0) (write-steps .last .1 .0) (write-symbols .last .1 .1 .0) (write-scopes .last .1 .1 .0) (put .result)
+    (write-steps .result) (write-symbols .result) (write-scopes .result) u (zero′ .ensures) v (part .ensures) (part2 .ensures) (put .ensures)
+    (write-steps .ensures) (write-symbols .ensures) (write-scopes .ensures)
 
 pub write-spec : {M : Type 1} → statement M
 write-spec =

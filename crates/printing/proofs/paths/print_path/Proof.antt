@@ -10,63 +10,48 @@ Inv-loop name slot count j₀ t5 j = j ≤ count
 abbrev μ-loop : tie.MeasureT-loop
 μ-loop name slot count j₀ t5 j = count - j
 
--- src/paths.rt:30:36
 shared-slice-read-wide : tie.Need-shared-slice-read-wide Inv-loop μ-loop
 shared-slice-read-wide c = search needs
 
--- src/paths.rt:30:25
 wide-requires : tie.Need-wide-requires Inv-loop μ-loop
 wide-requires c κs = search needs
 
--- src/paths.rt:30:9
 at-most-requires : tie.Need-at-most-requires Inv-loop μ-loop
 at-most-requires c κs = search needs
 
--- src/paths.rt:31:5
 print-requires : tie.Need-print-requires Inv-loop μ-loop
 print-requires c κs = search needs
 
--- src/paths.rt:32:5
 loop-holds : tie.Need-loop-holds Inv-loop μ-loop
 loop-holds c = search needs
 
--- src/paths.rt:33:26
 slice-aggregate-print-word : tie.Need-slice-aggregate-print-word Inv-loop μ-loop
 slice-aggregate-print-word c = search needs
 
--- src/paths.rt:33:37
 add-print-word : tie.Need-add-print-word Inv-loop μ-loop
 add-print-word c = search needs
 
--- src/paths.rt:33:32
 mul-print-word : tie.Need-mul-print-word Inv-loop μ-loop
 mul-print-word c = search needs
 
--- src/paths.rt:33:32
 shared-slice-read-print-word : tie.Need-shared-slice-read-print-word Inv-loop μ-loop
 shared-slice-read-print-word c = search needs
 
--- src/paths.rt:33:9
 print-word-requires : tie.Need-print-word-requires Inv-loop μ-loop
 print-word-requires c κs = search needs
 
--- src/paths.rt:32:9
 add-j : tie.Need-add-j Inv-loop μ-loop
 add-j c = search needs
 
--- src/paths.rt:32:5
 loop-less : tie.Need-loop-less Inv-loop μ-loop
 loop-less c = search needs
 
--- src/paths.rt:32:5
 loop-again : tie.Need-loop-again Inv-loop μ-loop
 loop-again c = search needs
 
--- src/paths.rt:35:5
 end-line-requires : tie.Need-end-line-requires Inv-loop μ-loop
 end-line-requires c κs = search needs
 
--- src/paths.rt:27:1
 returns : tie.Need-returns Inv-loop μ-loop
 returns c = search needs
 

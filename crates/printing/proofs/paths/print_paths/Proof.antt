@@ -10,55 +10,42 @@ Inv-loop name result paths i₀ i-end i = (i ≤ i-end) × (i-end ≤ 128)
 abbrev μ-loop : tie.MeasureT-loop
 μ-loop name result paths i₀ i-end i = i-end - i
 
--- src/paths.rt:42:17
 at-most-requires : tie.Need-at-most-requires Inv-loop μ-loop
 at-most-requires c κs = search needs
 
--- src/paths.rt:42:5
 loop-holds : tie.Need-loop-holds Inv-loop μ-loop
 loop-holds c = search needs
 
--- src/paths.rt:43:18
 mul-at : tie.Need-mul-at Inv-loop μ-loop
 mul-at c = search needs
 
--- src/paths.rt:44:38
 add-print-path : tie.Need-add-print-path Inv-loop μ-loop
 add-print-path c = search needs
 
--- src/paths.rt:44:26
 mul-print-path : tie.Need-mul-print-path Inv-loop μ-loop
 mul-print-path c = search needs
 
--- src/paths.rt:44:26
 sub-print-path : tie.Need-sub-print-path Inv-loop μ-loop
 sub-print-path c = search needs
 
--- src/paths.rt:44:26
 part-print-path-start : tie.Need-part-print-path-start Inv-loop μ-loop
 part-print-path-start c = search needs
 
--- src/paths.rt:44:26
 part-print-path-end : tie.Need-part-print-path-end Inv-loop μ-loop
 part-print-path-end c = search needs
 
--- src/paths.rt:44:9
 print-path-requires : tie.Need-print-path-requires Inv-loop μ-loop
 print-path-requires c κs = search needs
 
--- src/paths.rt:42:9
 add-i : tie.Need-add-i Inv-loop μ-loop
 add-i c = search needs
 
--- src/paths.rt:42:5
 loop-less : tie.Need-loop-less Inv-loop μ-loop
 loop-less c = search needs
 
--- src/paths.rt:42:5
 loop-again : tie.Need-loop-again Inv-loop μ-loop
 loop-again c = search needs
 
--- src/paths.rt:39:1
 returns : tie.Need-returns Inv-loop μ-loop
 returns c = search needs
 

@@ -1,8 +1,8 @@
-use Prim.Native.Nat.{_-_, _≤_}
+use Prim.Native.Nat.{_-_}
 use native.Mathlib.Omega.{arith}
 use mathlib.Core.Path.{sym, ap, _∙_}
 use lib.ListN.{length}
-use Rattle.stepping.specs.declared.step.Step.{Step}
+use Rattle.semantics.specs.declared.replayed.Step.{Step}
 use Rattle.search_state.specs.Retraces.{Shared}
 use Rattle.search_state.specs.Retraces.Laws.{shared-none, shared-more}
 use borrow.Author.Needs.{needs}
@@ -15,47 +15,40 @@ Inv-loop steps edges n i₀ i = Shared steps edges n i
 abbrev μ-loop : tie.MeasureT-loop
 μ-loop steps edges n i₀ i = length edges - i
 
--- src/retrace.rt:20:5
 loop-holds : tie.Need-loop-holds Inv-loop μ-loop
 loop-holds c = let a = c .before .before .args in shared-none (a .steps .now) (a .edges .now) (a .n)
 
--- src/retrace.rt:22:13
 returns : tie.Need-returns Inv-loop μ-loop
 returns c = c .before .before .loop .inv
 
--- src/retrace.rt:24:35
 add-get-step : tie.Need-add-get-step Inv-loop μ-loop
 add-get-step c = let p = c .before .before .before .before .before .pre in omega (arith, c .before .loop-test .taken, p .0)
 
--- src/retrace.rt:24:12
 get-step-requires : tie.Need-get-step-requires Inv-loop μ-loop
 get-step-requires c κs = let p = c .before .before .before .before .before .pre in omega (arith, c .before .loop-test .taken, p .1)
 
--- src/retrace.rt:24:50
 mul-if2 : tie.Need-mul-if2 Inv-loop μ-loop
 mul-if2 c = search needs
 
--- src/retrace.rt:24:50
 shared-slice-read-if2 : tie.Need-shared-slice-read-if2 Inv-loop μ-loop
 shared-slice-read-if2 c = search needs
 
--- src/retrace.rt:25:13
 returns-2 : tie.Need-returns-2 Inv-loop μ-loop
 returns-2 c = c .before .before .before .before .before .before .loop .inv
 
--- src/retrace.rt:27:9
 add-i : tie.Need-add-i Inv-loop μ-loop
 add-i c = let p = c .before .before .before .before .before .before .before .before .before .pre in omega (arith, c .before .before .before .before .before .loop-test .taken, p .0)
 
--- src/retrace.rt:20:5
 loop-less : tie.Need-loop-less Inv-loop μ-loop
 loop-less c = omega (arith, c .before .before .before .before .before .loop-test .taken)
 
--- src/retrace.rt:20:5
 loop-again : tie.Need-loop-again Inv-loop μ-loop
-loop-again c = let a = c .before .before .before .before .before .before .before .before .before .args in shared-more (a .steps .now) (a .edges .now) (a .n) (c .before .before .before .before .before .before .loop .i) (c .before .before .before .before .before .before .loop .inv) (omega (arith, c .before .before .before .before .if1 .left)) (omega (arith, c .before .before .before .before .before .loop-test .taken)) (ap (λ (s : Step). s .edge) (sym (c .before .before .before .get-step .ensures)) ∙ c .if2 .left)
+loop-again c =
+    let a = c .before .before .before .before .before .before .before .before .before .args in
+    shared-more (c .before .before .before .before .before .before .loop .inv) (omega (arith, c .before .before .before .before .if1 .left))
+    (omega (arith, c .before .before .before .before .before .loop-test .taken))
+    (ap (λ (s : Step). s .edge) (sym (c .before .before .before .get-step .ensures)) ∙ c .if2 .left)
 
--- src/retrace.rt:15:1
 returns-3 : tie.Need-returns-3 Inv-loop μ-loop
 returns-3 c = c .before .loop .inv
 

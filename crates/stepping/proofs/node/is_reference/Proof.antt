@@ -4,75 +4,57 @@ use borrow.Author.Needs.{needs}
 use Rattle.stepping.proofs.node.is_reference.Statement.{statement}
 use Rattle.stepping.proofs.node.is_reference.Tie as tie
 
--- src/node.rt:11:26
 enum-told : tie.Need-enum-told
 enum-told c = search needs
 
--- src/node.rt:12:23
 enum-told-2 : tie.Need-enum-told-2
 enum-told-2 c = search needs
 
--- src/node.rt:13:30
 enum-told-3 : tie.Need-enum-told-3
 enum-told-3 c = search needs
 
--- src/node.rt:14:49
 enum-told-4 : tie.Need-enum-told-4
 enum-told-4 c = search needs
 
--- src/node.rt:15:42
 enum-known-node : tie.Need-enum-known-node
 enum-known-node c = search needs
 
--- src/node.rt:16:60
 enum-told-5 : tie.Need-enum-told-5
 enum-told-5 c = search needs
 
--- src/node.rt:17:58
 enum-known-node-2 : tie.Need-enum-known-node-2
 enum-known-node-2 c = search needs
 
--- src/node.rt:18:66
 enum-told-6 : tie.Need-enum-told-6
 enum-told-6 c = search needs
 
--- src/node.rt:19:41
 enum-told-7 : tie.Need-enum-told-7
 enum-told-7 c = search needs
 
--- src/node.rt:7:1
 returns : tie.Need-returns
 returns c = search needs
 
--- src/node.rt:7:1
 returns-2 : tie.Need-returns-2
 returns-2 c = search needs
 
--- src/node.rt:7:1
 returns-3 : tie.Need-returns-3
 returns-3 c = search needs
 
--- src/node.rt:7:1
 returns-4 : tie.Need-returns-4
 returns-4 c = search needs
 
--- src/node.rt:7:1
 returns-5 : tie.Need-returns-5
 returns-5 c = search needs
 
--- src/node.rt:7:1
 returns-6 : tie.Need-returns-6
 returns-6 c = search needs
 
--- src/node.rt:7:1
 returns-7 : tie.Need-returns-7
 returns-7 c = sym (ap isReference (c .before .node2 .given .1))
 
--- src/node.rt:7:1
 returns-8 : tie.Need-returns-8
 returns-8 c = search needs
 
--- src/node.rt:7:1
 returns-9 : tie.Need-returns-9
 returns-9 c = search needs
 

@@ -6,21 +6,17 @@ use borrow.Author.Needs.{needs}
 use Rattle.stepping.proofs.step.jump.Statement.{statement}
 use Rattle.stepping.proofs.step.jump.Tie as tie
 
--- src/step.rt:71:9
 returns : tie.Need-returns
 unfolding jumpOf
 returns c = simp (eq-eqb _ 0 (c .if1 .taken))
 
--- src/step.rt:74:29
 plain-requires : tie.Need-plain-requires
 plain-requires c κs = search needs
 
--- src/step.rt:74:9
 returns-2 : tie.Need-returns-2
 unfolding jumpOf
 returns-2 c = simp (ne-eqb _ 0 (c .before .before .if1 .left), c .before .if2 .taken) (ap Done (c .plain .ensures))
 
--- src/step.rt:67:1
 returns-3 : tie.Need-returns-3
 unfolding jumpOf
 returns-3 c = simp (ne-eqb _ 0 (c .before .if1 .left), c .if2 .left)

@@ -6,26 +6,21 @@ use borrow.Author.Needs.{needs}
 use Rattle.stepping.proofs.step.pop.Statement.{statement}
 use Rattle.stepping.proofs.step.pop.Tie as tie
 
--- src/step.rt:41:9
 returns : tie.Need-returns
 unfolding popOf
 returns c = simp (eq-eqb _ 0 (c .if1 .taken))
 
--- src/step.rt:44:9
 returns-2 : tie.Need-returns-2
 unfolding popOf
 returns-2 c = simp (ne-eqb _ 0 (c .before .before .if1 .left), ne-eqb _ _ (c .if2 .taken))
 
--- src/step.rt:47:9
 returns-3 : tie.Need-returns-3
 unfolding popOf
 returns-3 c = simp (ne-eqb _ 0 (c .before .before .before .before .if1 .left), eq-eqb _ _ (c .before .before .if2 .left), ne-eqb _ 0 (c .if3 .taken))
 
--- src/step.rt:49:18
 plain-requires : tie.Need-plain-requires
 plain-requires c κs = search needs
 
--- src/step.rt:37:1
 returns-4 : tie.Need-returns-4
 unfolding popOf
 returns-4 c = simp (ne-eqb _ 0 (c .before .before .before .before .before .if1 .left), eq-eqb _ _ (c .before .before .before .if2 .left), eq-eqb _ 0 (c .before .if3 .left)) (ap Done (c .plain .ensures))

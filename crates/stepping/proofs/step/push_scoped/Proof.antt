@@ -1,4 +1,4 @@
-use mathlib.Core.Path.{ap, _∙_}
+use mathlib.Core.Path.{ap}
 use Rattle.stepping.specs.declared.step.Effect.the-variants.{Done}
 use Rattle.stepping.specs.Steps.{pushScopedOf}
 use borrow.Author.Needs.{needs}

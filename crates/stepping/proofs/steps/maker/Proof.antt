@@ -1,7 +1,7 @@
 -- `stepping::steps::maker`: the step of that number.
 use mathlib.Core.Path.{ap, _∙_}
-use Rattle.stepping.specs.StepWords.{stepAt}
 use borrow.Author.Needs.{needs}
+use Rattle.semantics.specs.ReplayedPaths.{stepAt}
 use Rattle.stepping.proofs.steps.maker.Statement.{statement}
 use Rattle.stepping.proofs.steps.maker.Tie as tie
 

@@ -3,107 +3,81 @@ use borrow.Author.Needs.{needs}
 use Rattle.stepping.proofs.steps.put_step.Statement.{statement}
 use Rattle.stepping.proofs.steps.put_step.Tie as tie
 
--- src/lib.rt:62:14
 mul-at : tie.Need-mul-at
 mul-at c = search needs
 
--- src/lib.rt:63:5
 mul-steps : tie.Need-mul-steps
 mul-steps c = search needs
 
--- src/lib.rt:63:5
 slice-write-steps : tie.Need-slice-write-steps
 slice-write-steps c = search needs
 
--- src/lib.rt:64:11
 add-steps : tie.Need-add-steps
 add-steps c = search needs
 
--- src/lib.rt:64:5
 mul-steps-2 : tie.Need-mul-steps-2
 mul-steps-2 c = search needs
 
--- src/lib.rt:64:5
 slice-write-steps-2 : tie.Need-slice-write-steps-2
 slice-write-steps-2 c = simp length-set (search needs)
 
--- src/lib.rt:65:11
 add-steps-2 : tie.Need-add-steps-2
 add-steps-2 c = search needs
 
--- src/lib.rt:65:5
 mul-steps-3 : tie.Need-mul-steps-3
 mul-steps-3 c = search needs
 
--- src/lib.rt:65:5
 slice-write-steps-3 : tie.Need-slice-write-steps-3
 slice-write-steps-3 c = simp length-set (search needs)
 
--- src/lib.rt:66:11
 add-steps-3 : tie.Need-add-steps-3
 add-steps-3 c = search needs
 
--- src/lib.rt:66:5
 mul-steps-4 : tie.Need-mul-steps-4
 mul-steps-4 c = search needs
 
--- src/lib.rt:66:5
 slice-write-steps-4 : tie.Need-slice-write-steps-4
 slice-write-steps-4 c = simp length-set (search needs)
 
--- src/lib.rt:67:11
 add-steps-4 : tie.Need-add-steps-4
 add-steps-4 c = search needs
 
--- src/lib.rt:67:5
 mul-steps-5 : tie.Need-mul-steps-5
 mul-steps-5 c = search needs
 
--- src/lib.rt:67:5
 slice-write-steps-5 : tie.Need-slice-write-steps-5
 slice-write-steps-5 c = simp length-set (search needs)
 
--- src/lib.rt:68:11
 add-steps-5 : tie.Need-add-steps-5
 add-steps-5 c = search needs
 
--- src/lib.rt:68:5
 mul-steps-6 : tie.Need-mul-steps-6
 mul-steps-6 c = search needs
 
--- src/lib.rt:68:5
 slice-write-steps-6 : tie.Need-slice-write-steps-6
 slice-write-steps-6 c = simp length-set (search needs)
 
--- src/lib.rt:69:11
 add-steps-6 : tie.Need-add-steps-6
 add-steps-6 c = search needs
 
--- src/lib.rt:69:5
 mul-steps-7 : tie.Need-mul-steps-7
 mul-steps-7 c = search needs
 
--- src/lib.rt:69:5
 slice-write-steps-7 : tie.Need-slice-write-steps-7
 slice-write-steps-7 c = simp length-set (search needs)
 
--- src/lib.rt:70:11
 add-steps-7 : tie.Need-add-steps-7
 add-steps-7 c = search needs
 
--- src/lib.rt:70:5
 mul-steps-8 : tie.Need-mul-steps-8
 mul-steps-8 c = search needs
 
--- src/lib.rt:70:5
 slice-write-steps-8 : tie.Need-slice-write-steps-8
 slice-write-steps-8 c = simp length-set (search needs)
 
--- src/lib.rt:58:1
 same-length : tie.Need-same-length
 same-length c = search needs
 
--- src/lib.rt:58:1
 returns : tie.Need-returns
 returns c = search needs
 

@@ -5,19 +5,15 @@ use borrow.Author.Needs.{needs}
 use Rattle.stitching.proofs.stitched.search.Statement.{statement}
 use Rattle.stitching.proofs.stitched.search.Tie as tie
 
--- src/stitched.rt:325:5
 search-image-requires : tie.Need-search-image-requires
 search-image-requires c κs = search needs
 
--- src/stitched.rt:312:1
 same-length : tie.Need-same-length
 same-length c = search needs
 
--- src/stitched.rt:312:1
 same-length-2 : tie.Need-same-length-2
 same-length-2 c = search needs
 
--- src/stitched.rt:312:1
 returns : tie.Need-returns
 returns c = (ap (λ (x : Resolution). toldResolution x) (c .before .before .before .before .search-image .ensures .0), (c .before .before .before .before .search-image .ensures .1, c .before .before .before .before .search-image .ensures .2))
 

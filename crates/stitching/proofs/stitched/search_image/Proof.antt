@@ -1,6 +1,6 @@
 -- `stitching::stitched::search_image`: the index that the image asks for.
 use borrow.Author.Needs.{needs}
-use Rattle.storage.specs.Rows.Laws.{few-records, small-takes, large-takes}
+use Rattle.storage.specs.Index.Laws.{few-records, small-takes, large-takes}
 use Rattle.stitching.proofs.stitched.search_image.Statement.{statement}
 use Rattle.stitching.proofs.stitched.search_image.Tie as tie
 

@@ -1,10 +1,10 @@
 -- `stitching::stitched::search_in`: the refusal of the image, or the search on the graph that it holds.
 use borrow.Author.Needs.{needs}
-use Rattle.semantics.specs.Image.{symbolBytes, checkImage}
-use Rattle.storage.specs.Rows.Use.{answer-refused, answer-accepted}
+use Rattle.semantics.specs.Entries.{graphIn, requestOf}
+use Rattle.semantics.specs.Image.{symbolBytes}
+use Rattle.storage.specs.Index.Use.{answer-refused, answer-accepted}
 use Rattle.path.specs.Replays.Calls.{accepted-jump}
-use Rattle.rounds.specs.Requests.{requestOf}
-use Rattle.stitching.specs.Requests.Laws.{image-refused, image-does}
+use Rattle.stitching.specs.StitchedAnswers.Laws.{image-refused, image-does}
 use Rattle.stitching.proofs.stitched.search_in.Statement.{statement}
 use Rattle.stitching.proofs.stitched.search_in.Tie as tie
 
@@ -24,7 +24,18 @@ enum-known-files : tie.Need-enum-known-files
 enum-known-files c = search needs
 
 search-database-requires : tie.Need-search-database-requires
-search-database-requires c κs = let a = c .before .before .before .before .before .before .before .before .before .before .before .before .before .before .before .args in let z = answer-accepted (checkImage symbolBytes (a .image .now)) (c .before .before .before .before .before .before .before .before .load-fresh .result) (c .before .before .before .before .files .given .0 .0) (c .before .before .before .before .files .given .0 .1 .0) (c .before .before .before .before .files .given .0 .1 .1 .0) (c .before .before .before .before .before .before .before .before .load-fresh .ensures .0) (c .before .before .before .before .files .given .1) in record { graph = z .graph; loaded = c .before .before .before .before .before .before .before .before .load-fresh .ensures .1 (z .graph) (z .is); node-count = z .node-count; file-count = z .file-count }
+search-database-requires c κs =
+    let files = c .before .before .before .before .files in
+    let c₁ = c .before .before .before .before .before .before .before .before in
+    let load-fresh = c₁ .load-fresh in
+    let a = c₁ .before .before .before .before .before .before .before .args in
+    let z = answer-accepted (graphIn (a .image .now)) (files .given .0 .0) (files .given .0 .1 .0) (files .given .0 .1 .1 .0) (load-fresh .ensures .0)
+    (files .given .1) in
+    record {
+      holds = record { graph = z .graph; loaded = load-fresh .ensures .1 (z .graph) (z .is) };
+      node-count = z .node-count;
+      file-count = z .file-count;
+    }
 
 same-length : tie.Need-same-length
 same-length c = search needs
@@ -36,7 +47,14 @@ same-length-3 : tie.Need-same-length-3
 same-length-3 c = search needs
 
 returns : tie.Need-returns
-returns c = let a = c .before .before .before .before .before .before .before .before .before .before .before .before .before .before .before .before .before .before .before .before .args in image-refused (a .reply) (a .words .now) (requestOf (a .order) (a .limits) (a .work .now) (a .result .now) (a .reference)) (checkImage symbolBytes (a .image .now)) (c .before .before .before .before .before .before .before .before .before .r .given .0 .0) (answer-refused (checkImage symbolBytes (a .image .now)) (c .before .before .before .before .before .before .before .before .before .before .before .before .before .load-fresh .result) (c .before .before .before .before .before .before .before .before .before .r .given .0 .0) (c .before .before .before .before .before .before .before .before .before .before .before .before .before .load-fresh .ensures .0) (c .before .before .before .before .before .before .before .before .before .r .given .1)) (c .before .before .before .before .before .before .zero .last .0) (c .before .before .zero2 .last .0) (c .before .before .before .before .before .before .zero .ensures) (c .before .before .zero2 .ensures)
+returns c =
+    let c₁ = c .before .before .before .before .before .before .before .before .before in
+    let r = c₁ .r in
+    let load-fresh = c₁ .before .before .before .before .load-fresh in
+    let a = c₁ .before .before .before .before .before .before .before .before .before .before .before .args in
+    image-refused (a .reply) (a .words .now) (requestOf (a .order) (a .limits) (a .work .now) (a .result .now) (a .reference)) (r .given .0 .0)
+    (answer-refused (graphIn (a .image .now)) (r .given .0 .0) (load-fresh .ensures .0) (r .given .1))
+    (c .before .before .before .before .before .before .zero .ensures) (c .before .before .zero2 .ensures)
 
 same-length-4 : tie.Need-same-length-4
 same-length-4 c = search needs
@@ -48,7 +66,18 @@ same-length-6 : tie.Need-same-length-6
 same-length-6 c = search needs
 
 returns-2 : tie.Need-returns-2
-returns-2 c = let a = c .before .before .before .before .before .before .before .before .before .before .before .before .before .before .before .before .before .before .before .before .args in let z = answer-accepted (checkImage symbolBytes (a .image .now)) (c .before .before .before .before .before .before .before .before .before .before .before .before .before .load-fresh .result) (c .before .before .before .before .before .before .before .before .before .files .given .0 .0) (c .before .before .before .before .before .before .before .before .before .files .given .0 .1 .0) (c .before .before .before .before .before .before .before .before .before .files .given .0 .1 .1 .0) (c .before .before .before .before .before .before .before .before .before .before .before .before .before .load-fresh .ensures .0) (c .before .before .before .before .before .before .before .before .before .files .given .1) in image-does (a .reply) (a .words .now) (requestOf (a .order) (a .limits) (a .work .now) (a .result .now) (a .reference)) (checkImage symbolBytes (a .image .now)) (z .graph) (z .is) (c .before .before .before .before .search-database .result) (c .before .before .before .before .search-database .last .1 .1 .1 .1 .1 .1 .1 .1 .0) (c .before .before .before .before .search-database .last .1 .1 .1 .1 .1 .1 .1 .1 .1 .0) ((c .before .before .before .before .search-database .ensures) (z .graph) (c .before .before .before .before .before .before .before .before .before .before .before .before .before .load-fresh .ensures .1 (z .graph) (z .is)) (accepted-jump symbolBytes (a .image .now) (z .graph) (z .is)) (z .node-count) (z .file-count))
+returns-2 c =
+    let search-database = c .before .before .before .before .search-database in
+    let c₁ = c .before .before .before .before .before .before .before .before .before in
+    let files = c₁ .files in
+    let load-fresh = c₁ .before .before .before .before .load-fresh in
+    let a = c₁ .before .before .before .before .before .before .before .before .before .before .before .args in
+    let z = answer-accepted (graphIn (a .image .now)) (files .given .0 .0) (files .given .0 .1 .0) (files .given .0 .1 .1 .0) (load-fresh .ensures .0)
+    (files .given .1) in
+    image-does (a .reply) (a .words .now) (requestOf (a .order) (a .limits) (a .work .now) (a .result .now) (a .reference)) (z .graph) (z .is)
+    (search-database .result) (search-database .last .1 .1 .1 .1 .1 .1 .1 .1 .0) (search-database .last .1 .1 .1 .1 .1 .1 .1 .1 .1 .0)
+    ((search-database .ensures) (z .graph) (load-fresh .ensures .1 (z .graph) (z .is)) (accepted-jump symbolBytes (a .image .now) (z .graph) (z .is))
+    (z .node-count) (z .file-count))
 
 pub search-in-spec : {M : Type 1} → statement M
 search-in-spec =

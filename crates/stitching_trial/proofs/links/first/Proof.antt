@@ -5,19 +5,15 @@ use borrow.Author.Needs.{needs}
 use Rattle.stitching_trial.proofs.links.first.Statement.{statement}
 use Rattle.stitching_trial.proofs.links.first.Tie as tie
 
--- src/links.rt:25:9
 mul-result : tie.Need-mul-result
 mul-result c = search needs
 
--- src/links.rt:25:9
 shared-slice-read-result : tie.Need-shared-slice-read-result
 shared-slice-read-result c = search needs
 
--- src/links.rt:20:1
 returns : tie.Need-returns
-returns c = let a = c .before .before .args in let p = c .before .before .pre in first-known (a .links .now) (a .node) _ (omega (arith, c .before .if1 .taken)) refl
+returns c = let a = c .before .before .args in let p = c .before .before .pre in first-known (a .links .now) (a .node) {v = _} (omega (arith, c .before .if1 .taken)) refl
 
--- src/links.rt:20:1
 returns-2 : tie.Need-returns-2
 returns-2 c = let a = c .before .args in let p = c .before .pre in first-none (a .links .now) (a .node) (omega (arith, c .if1 .left))
 

@@ -1,6 +1,6 @@
 use Prim.Native.Nat.{_+_, _-_, _≤_}
 use native.Mathlib.Omega.{arith}
-use mathlib.Core.Path.{_≡_, refl, sym, subst, _∙_}
+use mathlib.Core.Path.{_≡_, refl, subst, _∙_}
 use lib.ListN.{length}
 use Rattle.semantics.specs.Database.{usedIn}
 use Rattle.stitching_trial.specs.Links.{LinkedFrom}
@@ -15,37 +15,43 @@ Inv-loop words links₀ i₀ links i = (length links ≡ length links₀) × (i 
 abbrev μ-loop : tie.MeasureT-loop
 μ-loop words links₀ i₀ links i = i
 
--- src/links.rt:56:9
 number-requires : tie.Need-number-requires Inv-loop μ-loop
-number-requires c κs = let a = c .before .before .args in let p = c .before .before .pre in let w = a .words .now in let h = readable-front w (p .0) in omega (arith, h)
+number-requires c κs = let a = c .before .before .args in let p = c .before .before .pre in let w = a .words .now in let h = readable-front (p .0) in omega (arith, h)
 
--- src/links.rt:57:5
 loop-holds : tie.Need-loop-holds Inv-loop μ-loop
-loop-holds c = let a = c .before .before .before .args in let p = c .before .before .before .pre in let w = a .words .now in (refl, omega (arith, c .number .ensures .0), link-start w (a .links .now) (p .1) (c .number .result) (c .number .ensures .0))
+loop-holds c = let a = c .before .before .before .args in let p = c .before .before .before .pre in let w = a .words .now in (refl, omega (arith, c .number .ensures .0), link-start w (p .1) (c .number .ensures .0))
 
--- src/links.rt:58:9
 sub-i : tie.Need-sub-i Inv-loop μ-loop
 sub-i c = search needs
 
--- src/links.rt:59:9
 link-one-requires : tie.Need-link-one-requires Inv-loop μ-loop
-link-one-requires c κs = let a = c .before .before .before .before .before .before .args in let p = c .before .before .before .before .before .before .pre in let w = a .words .now in let l = c .before .before .loop in (p .0, omega (arith, l .inv .1, c .before .loop-test .taken), subst (λ n. LinkedFrom w (l .links) n) (let z : l .i ≡ l .i - 1 + 1 = omega (arith, c .before .loop-test .taken) in z) (l .inv .2))
+link-one-requires c κs =
+    let l = c .before .before .loop in
+    let a = c .before .before .before .before .before .before .args in
+    let p = c .before .before .before .before .before .before .pre in
+    let w = a .words .now in (
+      p .0,
+      omega (arith, l .inv .1, c .before .loop-test .taken),
+      subst (λ n. LinkedFrom w (l .links) n) (let z : l .i ≡ l .i - 1 + 1 = omega (arith, c .before .loop-test .taken) in z) (l .inv .2),
+    )
 
--- src/links.rt:57:5
 loop-less : tie.Need-loop-less Inv-loop μ-loop
 loop-less c = search needs
 
--- src/links.rt:57:5
 loop-again : tie.Need-loop-again Inv-loop μ-loop
-loop-again c = let a = c .before .before .before .before .before .before .before .before .before .args in let p = c .before .before .before .before .before .before .before .before .before .pre in let w = a .words .now in let l = c .before .before .before .before .before .loop in (c .before .before .link-one .kept .1 .0 ∙ l .inv .0, omega (arith, l .inv .1), c .before .before .link-one .ensures)
+loop-again c =
+    let l = c .before .before .before .before .before .loop in
+    let c₁ = c .before .before .before .before .before .before .before .before .before in
+    let a = c₁ .args in
+    let p = c₁ .pre in
+    let w = a .words .now in
+    (c .before .before .link-one .kept .1 .0 ∙ l .inv .0, omega (arith, l .inv .1), c .before .before .link-one .ensures)
 
--- src/links.rt:52:1
 same-length : tie.Need-same-length Inv-loop μ-loop
 same-length c = c .before .loop .inv .0
 
--- src/links.rt:52:1
 returns : tie.Need-returns Inv-loop μ-loop
-returns c = let a = c .before .before .before .before .before .args in let p = c .before .before .before .before .before .pre in let w = a .words .now in let l = c .before .loop in link-end w (l .links) (p .0) (l .i) (omega (arith, c .loop-test .left)) (l .inv .2)
+returns c = let a = c .before .before .before .before .before .args in let p = c .before .before .before .before .before .pre in let w = a .words .now in let l = c .before .loop in link-end (l .links) (p .0) (l .i) (omega (arith, c .loop-test .left)) (l .inv .2)
 
 pub link-spec : {M : Type 1} → statement M
 link-spec =

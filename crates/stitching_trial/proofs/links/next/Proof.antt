@@ -4,19 +4,15 @@ use borrow.Author.Needs.{needs}
 use Rattle.stitching_trial.proofs.links.next.Statement.{statement}
 use Rattle.stitching_trial.proofs.links.next.Tie as tie
 
--- src/links.rt:36:11
 add-result : tie.Need-add-result
 add-result c = search needs
 
--- src/links.rt:36:5
 mul-result : tie.Need-mul-result
 mul-result c = search needs
 
--- src/links.rt:36:5
 shared-slice-read-result : tie.Need-shared-slice-read-result
 shared-slice-read-result c = search needs
 
--- src/links.rt:32:1
 returns : tie.Need-returns
 returns c = let a = c .before .args in let p = c .before .pre in next-known (a .links .now) (a .i) (omega arith)
 

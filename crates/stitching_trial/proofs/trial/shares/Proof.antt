@@ -1,6 +1,6 @@
 use Prim.Native.Nat.{_-_, _≤_}
 use native.Mathlib.Omega.{arith}
-use mathlib.Core.Path.{_≡_, refl, sym, _∙_}
+use mathlib.Core.Path.{_≡_, sym, _∙_}
 use lib.ListN.{length, drop}
 use Rattle.semantics.specs.Lists.{shares}
 use Rattle.stitching_trial.specs.Trials.Laws.{shares-hit, shares-miss, shares-end}
@@ -14,39 +14,45 @@ Inv-loop edges path i₀ i-end i = (i ≤ length edges) × (i-end ≡ length edg
 abbrev μ-loop : tie.MeasureT-loop
 μ-loop edges path i₀ i-end i = length edges - i
 
--- src/trial.rt:27:5
 loop-holds : tie.Need-loop-holds Inv-loop μ-loop
 loop-holds c = search needs
 
--- src/trial.rt:28:33
 mul-contains : tie.Need-mul-contains Inv-loop μ-loop
 mul-contains c = search needs
 
--- src/trial.rt:28:33
 shared-slice-read-contains : tie.Need-shared-slice-read-contains Inv-loop μ-loop
 shared-slice-read-contains c = search needs
 
--- src/trial.rt:28:12
 contains-requires : tie.Need-contains-requires Inv-loop μ-loop
 contains-requires c κs = search needs
 
--- src/trial.rt:29:13
 returns : tie.Need-returns Inv-loop μ-loop
-returns c = let a = c .before .before .before .before .before .before .before .args in let p = c .before .before .before .before .before .before .before .pre in let l = c .before .before .before .before .loop in sym (sym (l .inv .2) ∙ shares-hit (a .edges .now) (a .path .now) (l .i) (omega (arith, c .before .before .before .loop-test .taken, l .inv .1)) (sym (c .before .contains .ensures) ∙ c .if1 .taken))
+returns c =
+    let l = c .before .before .before .before .loop in
+    let a = c .before .before .before .before .before .before .before .args in
+    let p = c .before .before .before .before .before .before .before .pre in
+    sym (sym (l .inv .2)
+    ∙ shares-hit (a .edges .now) (a .path .now) (l .i) (omega (arith, c .before .before .before .loop-test .taken, l .inv .1))
+    (sym (c .before .contains .ensures) ∙ c .if1 .taken))
 
--- src/trial.rt:27:9
 add-i : tie.Need-add-i Inv-loop μ-loop
 add-i c = search needs
 
--- src/trial.rt:27:5
 loop-less : tie.Need-loop-less Inv-loop μ-loop
 loop-less c = let a = c .before .before .before .before .before .before .before .args in let p = c .before .before .before .before .before .before .before .pre in let l = c .before .before .before .before .loop in omega (arith, c .before .before .before .loop-test .taken, l .inv .1)
 
--- src/trial.rt:27:5
 loop-again : tie.Need-loop-again Inv-loop μ-loop
-loop-again c = let a = c .before .before .before .before .before .before .before .args in let p = c .before .before .before .before .before .before .before .pre in let l = c .before .before .before .before .loop in (search needs, l .inv .1, sym (shares-miss (a .edges .now) (a .path .now) (l .i) (omega (arith, c .before .before .before .loop-test .taken, l .inv .1)) (sym (c .before .contains .ensures) ∙ c .if1 .left)) ∙ l .inv .2)
+loop-again c =
+    let l = c .before .before .before .before .loop in
+    let a = c .before .before .before .before .before .before .before .args in
+    let p = c .before .before .before .before .before .before .before .pre in (
+      search needs,
+      l .inv .1,
+      sym (shares-miss (a .edges .now) (a .path .now) (l .i) (omega (arith, c .before .before .before .loop-test .taken, l .inv .1))
+          (sym (c .before .contains .ensures) ∙ c .if1 .left))
+          ∙ l .inv .2,
+    )
 
--- src/trial.rt:24:1
 returns-2 : tie.Need-returns-2 Inv-loop μ-loop
 returns-2 c = let a = c .before .before .before .before .args in let p = c .before .before .before .before .pre in let l = c .before .loop in sym (sym (l .inv .2) ∙ shares-end (a .edges .now) (a .path .now) (l .i) (omega (arith, c .loop-test .left, l .inv .1)))
 

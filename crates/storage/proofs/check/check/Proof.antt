@@ -2,7 +2,7 @@
 use borrow.Author.Needs.{needs}
 use mathlib.Core.Path.{ap}
 use Rattle.semantics.specs.Told.{toldChecked}
-use Rattle.storage.specs.Rows.Laws.{few-records, small-takes, large-takes}
+use Rattle.storage.specs.Index.Laws.{few-records, small-takes, large-takes}
 use Rattle.storage.proofs.check.check.Statement.{statement}
 use Rattle.storage.proofs.check.check.Tie as tie
 

@@ -1,7 +1,7 @@
 -- `storage::check::is_small`: the header is there, and the two counts are tested.
 use borrow.Author.Needs.{needs}
 use native.Mathlib.Omega.{arith}
-use Rattle.storage.specs.Rows.Laws.{small-headless, small-nodes, small-edges, small-both}
+use Rattle.storage.specs.Index.Laws.{small-headless, small-nodes, small-edges, small-both}
 use Rattle.storage.proofs.check.is_small.Statement.{statement}
 use Rattle.storage.proofs.check.is_small.Tie as tie
 

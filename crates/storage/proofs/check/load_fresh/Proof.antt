@@ -2,9 +2,9 @@
 use borrow.Author.Needs.{needs}
 use mathlib.Core.Path.{_≡_, sym, ap, _∙_}
 use Rattle.semantics.specs.Answer.{ok}
-use Rattle.semantics.specs.Image.{symbolBytes, header, checkImage}
+use Rattle.semantics.specs.Image.{header}
 use Rattle.image.specs.Records.Laws.{headed}
-use Rattle.image.specs.Steps.{answerOf}
+use Rattle.image.specs.Reached.{answerOf}
 use Rattle.storage.specs.Checks.Laws.{bad-header, told-refused, none-loaded}
 use Rattle.storage.proofs.check.load_fresh.Statement.{statement}
 use Rattle.storage.proofs.check.load_fresh.Tie as tie
@@ -34,7 +34,7 @@ returns-2 : tie.Need-returns-2
 returns-2 c =
     let im = c .before .before .before .before .before .before .args .image .now in
     let e = bad-header im (c .before .r .given .0 .0) (sym (c .before .before .before .header .ensures) ∙ ap answerOf (c .before .r .given .1)) in
-    (told-refused (checkImage symbolBytes im) _ e, none-loaded (checkImage symbolBytes im) _ e)
+    (told-refused _ e, none-loaded _ e)
 
 pub load-fresh-spec : {M : Type 1} → statement M
 load-fresh-spec =

@@ -3,9 +3,9 @@ use borrow.Author.Needs.{needs}
 use native.Mathlib.Omega.{arith}
 use mathlib.Core.Path.{sym, ap, _∙_}
 use Rattle.semantics.specs.Calls.{checkCall}
-use Rattle.semantics.specs.Image.{symbolBytes, firstRecord, checkImage}
+use Rattle.semantics.specs.Image.{firstRecord}
 use Rattle.image.specs.Records.Laws.{headed}
-use Rattle.image.specs.Steps.{answerOf}
+use Rattle.image.specs.Reached.{answerOf}
 use Rattle.storage.specs.Checks.Laws.{bad-record, left-over, by-references, told-refused, none-loaded}
 use Rattle.storage.proofs.check.read.Statement.{statement}
 use Rattle.storage.proofs.check.read.Tie as tie
@@ -23,9 +23,14 @@ same-length c = search needs
 
 returns : tie.Need-returns
 returns c =
-    let im = c .before .before .before .before .before .before .before .before .before .before .args .image .now in
-    let e = left-over im (c .before .before .before .before .before .before .before .before .before .before .pre .0) (c .before .before .last .given .0 .0) (sym (c .before .before .before .before .before .before .records .ensures .0) ∙ ap answerOf (c .before .before .last .given .1)) (c .if1 .taken) in
-    (told-refused (checkImage symbolBytes im) _ e, none-loaded (checkImage symbolBytes im) _ e)
+    let c₁ = c .before .before .before .before .before .before .before .before .before .before in
+    let a = c₁ .args in
+    let p = c₁ .pre in
+    let im = a .image .now in
+    let e = left-over im (p .0) (c .before .before .last .given .0 .0)
+    (sym (c .before .before .before .before .before .before .records .ensures .0) ∙ ap answerOf (c .before .before .last .given .1))
+    (c .if1 .taken) in
+    (told-refused _ e, none-loaded _ e)
 
 refer-requires : tie.Need-refer-requires
 refer-requires c κs =
@@ -40,8 +45,14 @@ same-length-2 c = search needs
 
 returns-2 : tie.Need-returns-2
 returns-2 c =
-    let im = c .before .before .before .before .before .before .before .before .before .before .before .before .before .before .args .image .now in
-    let e = by-references im (c .before .before .before .before .before .before .before .before .before .before .before .before .before .before .pre .0) (c .before .before .before .before .before .before .last .given .0 .0) (sym (c .before .before .before .before .before .before .before .before .before .before .records .ensures .0) ∙ ap answerOf (c .before .before .before .before .before .before .last .given .1)) (c .before .before .before .before .if1 .left) in
+    let last = c .before .before .before .before .before .before .last in
+    let c₁ = c .before .before .before .before .before .before .before .before .before .before in
+    let records = c₁ .records in
+    let a = c₁ .before .before .before .before .args in
+    let p = c₁ .before .before .before .before .pre in
+    let im = a .image .now in
+    let e = by-references im (p .0) (last .given .0 .0) (sym (records .ensures .0) ∙ ap answerOf (last .given .1))
+    (c .before .before .before .before .if1 .left) in
     (c .before .before .refer .ensures .0 ∙ ap checkCall (sym e), λ g q. c .before .before .refer .ensures .1 g (sym e ∙ q))
 
 same-length-3 : tie.Need-same-length-3
@@ -51,7 +62,7 @@ returns-3 : tie.Need-returns-3
 returns-3 c =
     let im = c .before .before .before .before .before .before .before .before .before .args .image .now in
     let e = bad-record im (c .before .before .before .before .before .before .before .before .before .pre .0) (c .before .r .given .0 .0) (sym (c .before .before .before .before .before .records .ensures .0) ∙ ap answerOf (c .before .r .given .1)) in
-    (told-refused (checkImage symbolBytes im) _ e, none-loaded (checkImage symbolBytes im) _ e)
+    (told-refused _ e, none-loaded _ e)
 
 pub read-spec : {M : Type 1} → statement M
 read-spec =

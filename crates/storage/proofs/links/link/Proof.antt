@@ -46,7 +46,7 @@ returns : tie.Need-returns Inv-loop μ-loop
 returns c =
     let l = c .before .loop in
     let z : l .e ≡ 0 = omega arith in
-    λ g q k. all-linked g (l .index) (subst (Linked g (l .index)) z (l .inv .3 g q k))
+    λ g q k. all-linked (subst (Linked g (l .index)) z (l .inv .3 g q k))
 
 pub link-spec : {M : Type 1} → statement M
 link-spec =

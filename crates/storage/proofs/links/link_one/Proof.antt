@@ -2,7 +2,7 @@
 use borrow.Author.Needs.{needs}
 use native.Mathlib.Omega.{arith}
 use lib.ListN.{length-set}
-use Rattle.storage.specs.Rows.{cell, putLink}
+use Rattle.storage.specs.Index.{cell, putLink}
 use Rattle.storage.specs.References.Laws.{linked, unlinked, sources-kept}
 use Rattle.storage.proofs.links.link_one.Statement.{statement}
 use Rattle.storage.proofs.links.link_one.Tie as tie

@@ -7,7 +7,7 @@ use Rattle.semantics.specs.declared.graph.Edge.the-variants as E
 use Rattle.semantics.specs.Acceptance.{edgeFits}
 use Rattle.semantics.specs.Bytes.{signed}
 use Rattle.semantics.specs.Graph.{nodeId, viewOf}
-use Rattle.storage.specs.Rows.{PRECEDENCE, cell}
+use Rattle.storage.specs.Index.{PRECEDENCE, cell}
 use Rattle.storage.specs.References.Laws.{edge-removed, edge-live}
 use Rattle.storage.proofs.refs.edge_fits.Statement.{statement}
 use Rattle.storage.proofs.refs.edge_fits.Tie as tie

@@ -3,7 +3,7 @@ use borrow.Author.Needs.{needs}
 use mathlib.Core.Path.{sym, ap₂, _∙_}
 use Prim.Native.Nat.{ℕ}
 use lib.Dec.{eqb}
-use Rattle.storage.specs.Rows.{KIND, FILE, cell}
+use Rattle.storage.specs.Index.{KIND, FILE, cell}
 use Rattle.storage.specs.References.Laws.{ends-at, from-jump, dead-source, dead-target, shared-source, shared-target, in-files}
 use Rattle.storage.proofs.refs.ends_fit.Statement.{statement}
 use Rattle.storage.proofs.refs.ends_fit.Tie as tie
@@ -31,13 +31,27 @@ returns-3 c =
 
 returns-4 : tie.Need-returns-4
 returns-4 c =
-    let a = c .before .before .before .before .before .before .before .args in let l = a .index .now in let x = c .before .before .before .before .word .ensures in let y = c .before .before .word2 .ensures in
-    λ g p k. shared-source (a .s) (cell l KIND (a .s)) (cell l FILE (a .s)) (cell l KIND (a .t)) (cell l FILE (a .t)) (c .before .before .before .before .before .if1 .left) (λ e. c .before .before .before .if2 .left (x ∙ e)) (λ e. c .before .if3 .left (y ∙ e)) (rw x at (c .if4 .taken)) ∙ ends-at g l k (a .s) (a .t) p
+    let a = c .before .before .before .before .before .before .before .args in
+    let l = a .index .now in
+    let x = c .before .before .before .before .word .ensures in
+    let y = c .before .before .word2 .ensures in
+    λ g p k.
+    shared-source (a .s) (cell l KIND (a .s)) (cell l FILE (a .s)) (cell l KIND (a .t)) (cell l FILE (a .t))
+    (c .before .before .before .before .before .if1 .left) (λ e. c .before .before .before .if2 .left (x ∙ e)) (λ e. c .before .if3 .left (y ∙ e))
+    (rw x at (c .if4 .taken))
+    ∙ ends-at g l k (a .s) (a .t) p
 
 returns-5 : tie.Need-returns-5
 returns-5 c =
-    let a = c .before .before .before .before .before .before .before .before .args in let l = a .index .now in let x = c .before .before .before .before .before .word .ensures in let y = c .before .before .before .word2 .ensures in
-    λ g p k. shared-target (a .s) (cell l KIND (a .s)) (cell l FILE (a .s)) (cell l KIND (a .t)) (cell l FILE (a .t)) (c .before .before .before .before .before .before .if1 .left) (λ e. c .before .before .before .before .if2 .left (x ∙ e)) (λ e. c .before .before .if3 .left (y ∙ e)) (rw x at (c .before .if4 .left)) (rw y at (c .if5 .taken)) ∙ ends-at g l k (a .s) (a .t) p
+    let a = c .before .before .before .before .before .before .before .before .args in
+    let l = a .index .now in
+    let x = c .before .before .before .before .before .word .ensures in
+    let y = c .before .before .before .word2 .ensures in
+    λ g p k.
+    shared-target (a .s) (cell l KIND (a .s)) (cell l FILE (a .s)) (cell l KIND (a .t)) (cell l FILE (a .t))
+    (c .before .before .before .before .before .before .if1 .left) (λ e. c .before .before .before .before .if2 .left (x ∙ e))
+    (λ e. c .before .before .if3 .left (y ∙ e)) (rw x at (c .before .if4 .left)) (rw y at (c .if5 .taken))
+    ∙ ends-at g l k (a .s) (a .t) p
 
 word-requires-3 : tie.Need-word-requires-3
 word-requires-3 c κs = search needs
@@ -47,9 +61,19 @@ word-requires-4 c κs = search needs
 
 returns-6 : tie.Need-returns-6
 returns-6 c =
-    let a = c .before .before .before .before .before .before .before .before .before .before .args in let l = a .index .now in let x = c .before .before .before .before .before .before .before .word .ensures in let y = c .before .before .before .before .before .word2 .ensures in
-    λ g p k. ap₂ (λ (f h : ℕ). eqb f h) (c .before .word3 .ensures) (c .word4 .ensures)
-    ∙ in-files (a .s) (cell l KIND (a .s)) (cell l FILE (a .s)) (cell l KIND (a .t)) (cell l FILE (a .t)) (c .before .before .before .before .before .before .before .before .if1 .left) (λ e. c .before .before .before .before .before .before .if2 .left (x ∙ e)) (λ e. c .before .before .before .before .if3 .left (y ∙ e)) (rw x at (c .before .before .before .if4 .left)) (rw y at (c .before .before .if5 .left)) ∙ ends-at g l k (a .s) (a .t) p
+    let word = c .before .before .before .before .before .before .before .word in
+    let c₁ = c .before .before .before .before .before .before .before .before in
+    let if1 = c₁ .if1 in
+    let a = c₁ .before .before .args in
+    let l = a .index .now in
+    let x = word .ensures in
+    let y = c .before .before .before .before .before .word2 .ensures in
+    λ g p k.
+    ap₂ (λ (f h : ℕ). eqb f h) (c .before .word3 .ensures) (c .word4 .ensures)
+    ∙ in-files (a .s) (cell l KIND (a .s)) (cell l FILE (a .s)) (cell l KIND (a .t)) (cell l FILE (a .t)) (if1 .left)
+    (λ e. c .before .before .before .before .before .before .if2 .left (x ∙ e)) (λ e. c .before .before .before .before .if3 .left (y ∙ e))
+    (rw x at (c .before .before .before .if4 .left)) (rw y at (c .before .before .if5 .left))
+    ∙ ends-at g l k (a .s) (a .t) p
 
 pub ends-fit-spec : {M : Type 1} → statement M
 ends-fit-spec =

@@ -30,7 +30,12 @@ word-requires-3 c κs = search needs
 returns-3 : tie.Need-returns-3
 returns-3 c =
     let a = c .before .before .before .before .before .before .args in
-    λ g k. sym (exported-at g (a .index .now) k (a .file) (a .n) ∙ simp (eq-eqb _ 3 (sym (c .before .before .before .before .word .ensures) ∙ c .before .before .before .if1 .left), eq-eqb _ 1 (sym (c .before .before .word2 .ensures) ∙ c .before .if2 .left)) (ap (λ (f : ℕ). eqb f (a .file)) (sym (c .word3 .ensures))))
+    λ g k.
+    sym (exported-at g (a .index .now) k (a .file) (a .n)
+    ∙ simp (
+      eq-eqb _ 3 (sym (c .before .before .before .before .word .ensures) ∙ c .before .before .before .if1 .left),
+      eq-eqb _ 1 (sym (c .before .before .word2 .ensures) ∙ c .before .if2 .left),
+    ) (ap (λ (f : ℕ). eqb f (a .file)) (sym (c .word3 .ensures))))
 
 pub exported-in-spec : {M : Type 1} → statement M
 exported-in-spec =

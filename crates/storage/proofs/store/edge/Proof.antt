@@ -7,8 +7,8 @@ use mir.Syntax.{w32}
 use mir.ValLaws.{toZ-ofZ}
 use Rattle.semantics.specs.declared.graph.Edge.the-variants as E
 use Rattle.semantics.specs.Graph.{nodeId}
-use Rattle.storage.specs.Rows.Laws.{edge-in, edge-out, words-removed, words-live}
-use Rattle.storage.specs.Rows.{BLOCK, SOURCE, TARGET, PRECEDENCE}
+use Rattle.storage.specs.Index.Laws.{edge-in, edge-out, words-removed, words-live}
+use Rattle.storage.specs.Index.{BLOCK, SOURCE, TARGET, PRECEDENCE}
 use Rattle.storage.proofs.store.edge.Statement.{statement}
 use Rattle.storage.proofs.store.edge.Tie as tie
 

@@ -3,7 +3,7 @@ use borrow.Author.Needs.{needs}
 use mathlib.Core.Path.{_∙_}
 use mathlib.Core.Bool.{false}
 use mathlib.Core.List.{[], _∷_}
-use Rattle.storage.specs.Rows.Laws.{marked-one, marked-none, exported-row}
+use Rattle.storage.specs.Index.Laws.{marked-one, marked-none, exported-row}
 use Rattle.storage.proofs.store.is_exported.Statement.{statement}
 use Rattle.storage.proofs.store.is_exported.Tie as tie
 

@@ -4,7 +4,7 @@ use mathlib.Core.Path.{sym, ap, _∙_}
 use borrow.Author.Tests.{lt-ltb, le-ltb}
 use lib.Dec.{eqb}
 use Prim.Native.Nat.{ℕ}
-use Rattle.storage.specs.Rows.Laws.{file-row}
+use Rattle.storage.specs.Index.Laws.{file-row}
 use Rattle.storage.proofs.store.is_of_file.Statement.{statement}
 use Rattle.storage.proofs.store.is_of_file.Tie as tie
 

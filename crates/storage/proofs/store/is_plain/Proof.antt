@@ -3,8 +3,8 @@ use Prim.Native.Nat.{_+_, _*_}
 use mathlib.Core.Path.{sym, _∙_}
 use mathlib.Core.List.{[], _∷_}
 use lib.ListN.{getD}
-use Rattle.storage.specs.Rows.{BLOCK, KIND, cell}
-use Rattle.storage.specs.Rows.Laws.{has-one, has-none, plain-row}
+use Rattle.storage.specs.Index.{BLOCK, KIND, cell}
+use Rattle.storage.specs.Index.Laws.{has-one, has-none, plain-row}
 use borrow.Author.Needs.{needs}
 use Rattle.storage.proofs.store.is_plain.Statement.{statement}
 use Rattle.storage.proofs.store.is_plain.Tie as tie

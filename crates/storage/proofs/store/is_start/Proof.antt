@@ -4,7 +4,7 @@ use mathlib.Core.Path.{_∙_}
 use mathlib.Core.Bool.{false}
 use mathlib.Core.List.{[], _∷_}
 use mathlib.Core.Logic.{inl, inr, ⊎-elim}
-use Rattle.storage.specs.Rows.Laws.{marked-one, marked-none, start-row}
+use Rattle.storage.specs.Index.Laws.{marked-one, marked-none, start-row}
 use Rattle.storage.proofs.store.is_start.Statement.{statement}
 use Rattle.storage.proofs.store.is_start.Tie as tie
 

@@ -5,8 +5,8 @@ use mathlib.Core.Path.{refl, ap, _∙_}
 use lib.ListN.{getD}
 use Rattle.semantics.specs.declared.graph.Node.the-variants as N
 use Rattle.semantics.specs.Graph.{nodeId, fileId}
-use Rattle.storage.specs.Rows.{BLOCK, KIND, FLAG, FILE, SYMBOL, SCOPE, nodeOf}
-use Rattle.storage.specs.Rows.Laws.{node-in, node-out, no-kind}
+use Rattle.storage.specs.Index.{BLOCK, KIND, FLAG, FILE, SYMBOL, SCOPE, nodeOf}
+use Rattle.storage.specs.Index.Laws.{node-in, node-out, no-kind}
 use Rattle.storage.proofs.store.node.Statement.{statement}
 use Rattle.storage.proofs.store.node.Tie as tie
 

@@ -1,6 +1,6 @@
 -- `storage::store::target`: one word of the edge's block.
 use mathlib.Core.Path.{refl}
-use Rattle.storage.specs.Rows.{cell}
+use Rattle.storage.specs.Index.{cell}
 use borrow.Author.Needs.{needs}
 use Rattle.storage.proofs.store.target.Statement.{statement}
 use Rattle.storage.proofs.store.target.Tie as tie

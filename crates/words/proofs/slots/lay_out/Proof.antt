@@ -53,8 +53,12 @@ same-length c =
 
 returns : tie.Need-returns
 returns c =
-    let a = c .before .before .before .before .before .before .before .before .before .before .args in
-    laid-out (a .slot .now) (a .edges .now) (c .before .before .before .before .before .before .before .before .before .before .pre .0) (c .before .before .before .before .before .before .copy .last .1 .0) (c .before .before .zero .last .0) (c .before .before .before .before .before .before .copy .ensures) (c .before .before .zero .ensures)
+    let copy = c .before .before .before .before .before .before .copy in
+    let c₁ = c .before .before .before .before .before .before .before .before .before .before in
+    let a = c₁ .args in
+    let p = c₁ .pre in
+    laid-out (a .slot .now) (a .edges .now) (p .0) (copy .last .1 .0) (c .before .before .zero .last .0) (copy .ensures)
+    (c .before .before .zero .ensures)
 
 pub lay-out-spec : {M : Type 1} → statement M
 lay-out-spec =

@@ -22,11 +22,19 @@ loop-holds c =
 
 add-swap-slots : tie.Need-add-swap-slots Inv-loop μ-loop
 add-swap-slots c =
-    omega (arith, slots-few (c .before .before .before .before .args .length) (c .before .before .before .before .args .lo + c .before .before .before .before .args .n) (c .before .before .before .before .args .area .now) (c .before .before .before .before .pre .0) (c .before .before .before .before .pre .1))
+    let a = c .before .before .before .before .args in
+    omega (
+      arith,
+      slots-few (a .length) (a .lo + a .n) (a .area .now) (c .before .before .before .before .pre .0) (c .before .before .before .before .pre .1),
+    )
 
 add-swap-slots-2 : tie.Need-add-swap-slots-2 Inv-loop μ-loop
 add-swap-slots-2 c =
-    omega (arith, slots-few (c .before .before .before .before .args .length) (c .before .before .before .before .args .lo + c .before .before .before .before .args .n) (c .before .before .before .before .args .area .now) (c .before .before .before .before .pre .0) (c .before .before .before .before .pre .1))
+    let a = c .before .before .before .before .args in
+    omega (
+      arith,
+      slots-few (a .length) (a .lo + a .n) (a .area .now) (c .before .before .before .before .pre .0) (c .before .before .before .before .pre .1),
+    )
 
 swap-slots-requires : tie.Need-swap-slots-requires Inv-loop μ-loop
 swap-slots-requires c κs =

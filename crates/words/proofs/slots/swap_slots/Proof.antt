@@ -62,7 +62,9 @@ mul-area-3 c = search needs
 
 slice-write-area-2 : tie.Need-slice-write-area-2 Inv-loop μ-loop
 slice-write-area-2 c =
-    omega (arith, length-set (c .before .before .before .loop .area) (c .before .before .before .before .args .length * c .before .before .before .before .args .i + c .before .before .before .loop .k) (getD (c .before .before .before .loop .area) (c .before .before .before .before .args .length * c .before .before .before .before .args .j + c .before .before .before .loop .k) 0))
+    let loop = c .before .before .before .loop in
+    let a = c .before .before .before .before .args in
+    omega (arith, length-set (loop .area) (a .length * a .i + loop .k) (getD (loop .area) (a .length * a .j + loop .k) 0))
 
 add-k : tie.Need-add-k Inv-loop μ-loop
 add-k c = search needs

@@ -1,5 +1,5 @@
 -- `widen_slot` meets its contract: the front of the lent slot is the short one, and the whole is written.
-use mathlib.Core.Path.{refl, ap, _∙_}
+use mathlib.Core.Path.{ap, _∙_}
 use mathlib.Core.List.{List, _++_}
 use Prim.Native.Nat.{ℕ}
 use lib.ListN.{drop}
@@ -9,35 +9,27 @@ use borrow.Author.Needs.{needs}
 use Rattle.words.proofs.slots.widen_slot.Statement.{statement}
 use Rattle.words.proofs.slots.widen_slot.Tie as tie
 
--- src/slots.rt:125:31
 sub-read-slot : tie.Need-sub-read-slot
 sub-read-slot c = search needs
 
--- src/slots.rt:125:31
 part-read-slot-start : tie.Need-part-read-slot-start
 part-read-slot-start c = search needs
 
--- src/slots.rt:125:31
 part-read-slot-end : tie.Need-part-read-slot-end
 part-read-slot-end c = search needs
 
--- src/slots.rt:125:5
 read-slot-requires : tie.Need-read-slot-requires
 read-slot-requires c κs = search needs
 
--- src/slots.rt:126:5
 write-slot-requires : tie.Need-write-slot-requires
 write-slot-requires c κs = (c .before .before .before .before .before .before .before .before .before .pre .1, search needs)
 
--- src/slots.rt:120:1
 same-length : tie.Need-same-length
 same-length c = search needs
 
--- src/slots.rt:120:1
 same-length-2 : tie.Need-same-length-2
 same-length-2 c = search needs
 
--- src/slots.rt:120:1
 returns : tie.Need-returns
 returns c =
     let a = c .before .before .before .before .before .before .before .before .before .before .before .before .args in

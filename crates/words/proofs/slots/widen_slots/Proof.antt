@@ -20,59 +20,65 @@ Inv-loop area₀ short L n slot₀ i₀ area slot i =
 abbrev μ-loop : tie.MeasureT-loop
 μ-loop area₀ short L n slot₀ i₀ area slot i = i
 
--- src/slots.rt:137:5
 loop-holds : tie.Need-loop-holds Inv-loop μ-loop
 loop-holds c =
     let a = c .before .before .args in
     (refl, search needs, ap (drop (a .short)) (c .before .before .pre .3) ∙ zeros-drop (a .short) (a .length), λ h f. widening-start (a .length) (a .short) (a .n) h (a .area .now) f)
 
--- src/slots.rt:138:9
 sub-i : tie.Need-sub-i Inv-loop μ-loop
 sub-i c = search needs
 
--- src/slots.rt:139:9
 widen-slot-requires : tie.Need-widen-slot-requires Inv-loop μ-loop
 widen-slot-requires c κs =
-    let a = c .before .before .before .before .before .before .args in
     let l = c .before .before .before .loop in
+    let a = c .before .before .before .before .before .before .args in
+    let p = c .before .before .before .before .before .before .pre in
     let q : l .i ≡ l .i - 1 + 1 = omega (arith, c .before .before .loop-test .taken) in
-    let w = subst (Widening (a .length) (a .short) (a .n) (c .before .before .before .before .before .before .pre .2) (a .area .now) (c .before .before .before .before .before .before .pre .0) (l .area)) q (l .inv .3 (c .before .before .before .before .before .before .pre .2) (c .before .before .before .before .before .before .pre .0)) in
-    (widening-short (a .length) (a .short) (a .n) (c .before .before .before .before .before .before .pre .2) (a .area .now) (c .before .before .before .before .before .before .pre .0) (l .area) (l .i - 1) w, widening-long (a .length) (a .short) (a .n) (c .before .before .before .before .before .before .pre .2) (a .area .now) (c .before .before .before .before .before .before .pre .0) (l .area) (l .i - 1) w, search needs, c .before .before .before .before .before .before .pre .2)
+    let w = subst (Widening (a .length) (a .short) (a .n) (p .2) (a .area .now) (p .0) (l .area)) q (l .inv .3 (p .2) (p .0)) in (
+      widening-short (a .length) (a .short) (a .n) (p .2) (a .area .now) (p .0) (l .i - 1) w,
+      widening-long (a .length) (a .short) (a .n) (p .2) (a .area .now) (p .0) (l .i - 1) w,
+      search needs,
+      p .2,
+    )
 
--- src/slots.rt:137:5
 loop-less : tie.Need-loop-less Inv-loop μ-loop
 loop-less c = search needs
 
--- src/slots.rt:137:5
 loop-again : tie.Need-loop-again Inv-loop μ-loop
 loop-again c =
-    let a = c .before .before .before .before .before .before .before .before .before .before .before .args in
-    let l = c .before .before .before .before .before .before .before .before .loop in
     let s = c .before .before .before .before .widen-slot in
-    let q : l .i ≡ l .i - 1 + 1 = omega (arith, c .before .before .before .before .before .before .before .loop-test .taken) in
-    let w = subst (Widening (a .length) (a .short) (a .n) (c .before .before .before .before .before .before .before .before .before .before .before .pre .2) (a .area .now) (c .before .before .before .before .before .before .before .before .before .before .before .pre .0) (l .area)) q (l .inv .3 (c .before .before .before .before .before .before .before .before .before .before .before .pre .2) (c .before .before .before .before .before .before .before .before .before .before .before .pre .0)) in
-    let c₁ : length (slotAt (a .short) (l .i - 1) (l .area)) ≡ a .short = length-slotAt (a .short) (l .i - 1) (l .area) (widening-short (a .length) (a .short) (a .n) (c .before .before .before .before .before .before .before .before .before .before .before .pre .2) (a .area .now) (c .before .before .before .before .before .before .before .before .before .before .before .pre .0) (l .area) (l .i - 1) w) in (
+    let loop-test = c .before .before .before .before .before .before .before .loop-test in
+    let c₁′ = c .before .before .before .before .before .before .before .before in
+    let l = c₁′ .loop in
+    let a = c₁′ .before .before .before .args in
+    let p = c₁′ .before .before .before .pre in
+    let q : l .i ≡ l .i - 1 + 1 = omega (arith, loop-test .taken) in
+    let w = subst (Widening (a .length) (a .short) (a .n) (p .2) (a .area .now) (p .0) (l .area)) q (l .inv .3 (p .2) (p .0)) in
+    let c₁ : length (slotAt (a .short) (l .i - 1) (l .area)) ≡ a .short = length-slotAt (a .short) (l .i - 1) (l .area)
+    (widening-short (a .length) (a .short) (a .n) (p .2) (a .area .now) (p .0) (l .i - 1) w) in (
       search needs,
       search needs,
       ap (drop (a .short)) (s .ensures .0) ∙ drop-at (slotAt (a .short) (l .i - 1) (l .area)) (drop (a .short) (l .slot)) (a .short) c₁ ∙ l .inv .2,
-      λ h f. widening-more (a .length) (a .short) (a .n) h (a .area .now) f (l .area) (l .i - 1) (subst (Widening (a .length) (a .short) (a .n) h (a .area .now) f (l .area)) q (l .inv .3 h f)) (s .last .0) (slotAt (a .short) (l .i - 1) (l .area) ++ drop (a .short) (l .slot)) (ap (λ (z : List ℕ). slotAt (a .short) (l .i - 1) (l .area) ++ z) (l .inv .2)) (s .ensures .1),
+      λ h f.
+          widening-more (a .length) (a .short) (a .n) h (a .area .now) f (l .i - 1)
+          (subst (Widening (a .length) (a .short) (a .n) h (a .area .now) f (l .area)) q (l .inv .3 h f))
+          (ap (λ (z : List ℕ). slotAt (a .short) (l .i - 1) (l .area) ++ z) (l .inv .2)) (s .ensures .1),
     )
 
--- src/slots.rt:131:1
 same-length : tie.Need-same-length Inv-loop μ-loop
 same-length c = search needs
 
--- src/slots.rt:131:1
 same-length-2 : tie.Need-same-length-2 Inv-loop μ-loop
 same-length-2 c = search needs
 
--- src/slots.rt:131:1
 returns : tie.Need-returns Inv-loop μ-loop
 returns c =
-    let a = c .before .before .before .before .args in
     let l = c .before .loop in
+    let a = c .before .before .before .before .args in
+    let p = c .before .before .before .before .pre in
     let q : l .i ≡ 0 = omega (arith, c .loop-test .left) in
-    widening-end (a .length) (a .short) (a .n) (c .before .before .before .before .pre .2) (a .area .now) (c .before .before .before .before .pre .0) (l .area) (subst (Widening (a .length) (a .short) (a .n) (c .before .before .before .before .pre .2) (a .area .now) (c .before .before .before .before .pre .0) (l .area)) q (l .inv .3 (c .before .before .before .before .pre .2) (c .before .before .before .before .pre .0)))
+    widening-end (a .length) (a .short) (a .n) (p .2) (a .area .now) (p .0)
+    (subst (Widening (a .length) (a .short) (a .n) (p .2) (a .area .now) (p .0) (l .area)) q (l .inv .3 (p .2) (p .0)))
 
 pub widen-slots-spec : {M : Type 1} → statement M
 widen-slots-spec =

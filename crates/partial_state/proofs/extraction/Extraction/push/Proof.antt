@@ -3,41 +3,37 @@ use borrow.Author.Needs.{needs}
 use Rattle.partial_state.proofs.extraction.Extraction.push.Statement.{statement}
 use Rattle.partial_state.proofs.extraction.Extraction.push.Tie as tie
 
--- src/extraction.rt:171:22
 frontier-requires : tie.Need-frontier-requires
 frontier-requires c κs = search needs
 
--- src/extraction.rt:171:13
 push-requires : tie.Need-push-requires
-push-requires c κs = let a = c .before .before .before .before .args in frontier-given (a .frame) (a .self) (c .before .frontier .result) (c .before .frontier .ensures) (a .work .now) (a .item .now) (c .before .before .before .before .pre)
+push-requires c κs = let a = c .before .before .before .before .args in frontier-given (a .frame) (a .self) (c .before .frontier .ensures) (a .work .now) (a .item .now) (c .before .before .before .before .pre)
 
--- src/extraction.rt:172:26
 enum-known-pushed : tie.Need-enum-known-pushed
 enum-known-pushed c = search needs
 
--- src/extraction.rt:173:35
 enum-told : tie.Need-enum-told
 enum-told c = search needs
 
--- src/extraction.rt:173:13
 same-length : tie.Need-same-length
 same-length c = search needs
 
--- src/extraction.rt:173:13
 returns : tie.Need-returns
-returns c = let a = c .before .before .before .before .before .before .before .before .before .args in push-stops (a .frame) (a .self) (c .before .before .before .before .before .before .frontier .result) (c .before .before .before .before .before .before .frontier .ensures) (a .work .now) (a .item .now) (c .before .before .before .before .push .result) (c .before .before .before .before .push .last .1 .0) (c .before .before .before .before .push .ensures) (c .enum-told .given .1)
+returns c = let a = c .before .before .before .before .before .before .before .before .before .args in push-stops (a .frame) (a .self) (c .before .before .before .before .before .before .frontier .ensures) (c .before .before .before .before .push .ensures) (c .enum-told .given .1)
 
--- src/extraction.rt:175:19
 with-frontier-requires : tie.Need-with-frontier-requires
 with-frontier-requires c κs = search needs
 
--- src/extraction.rt:167:5
 same-length-2 : tie.Need-same-length-2
 same-length-2 c = search needs
 
--- src/extraction.rt:167:5
 returns-2 : tie.Need-returns-2
-returns-2 c = let a = c .before .before .before .before .before .before .before .before .before .before .before .args in push-goes (a .frame) (a .self) (c .before .before .before .before .before .before .before .before .frontier .result) (c .before .before .before .before .before .before .before .before .frontier .ensures) (a .work .now) (a .item .now) (c .before .before .before .before .before .before .push .result) (c .before .before .before .before .before .before .push .last .1 .0) (c .before .before .before .before .before .before .push .ensures) (c .before .before .pushed .given .0 .0) (c .before .before .pushed .given .1) (c .with-frontier .result) (c .with-frontier .ensures)
+returns-2 c =
+    let c₁ = c .before .before .before .before .before .before .before .before in
+    let frontier = c₁ .frontier in
+    let a = c₁ .before .before .before .args in
+    push-goes (a .frame) (a .self) (frontier .ensures) (c .before .before .before .before .before .before .push .ensures)
+    (c .before .before .pushed .given .0 .0) (c .before .before .pushed .given .1) (c .with-frontier .ensures)
 
 pub push-spec : {M : Type 1} → statement M
 push-spec =

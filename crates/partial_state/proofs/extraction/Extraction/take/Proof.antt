@@ -5,85 +5,99 @@ use borrow.Author.Needs.{needs}
 use Rattle.partial_state.proofs.extraction.Extraction.take.Statement.{statement}
 use Rattle.partial_state.proofs.extraction.Extraction.take.Tie as tie
 
--- src/extraction.rt:205:22
 frontier-requires : tie.Need-frontier-requires
 frontier-requires c κs = search needs
 
--- src/extraction.rt:205:13
 pop-requires : tie.Need-pop-requires
-pop-requires c κs = let a = c .before .before .before .before .before .args in let p = c .before .before .before .before .before .pre in frontier-given (a .frame) (a .self) (c .before .before .frontier .result) (c .before .before .frontier .ensures) (a .work .now) (a .item .now) (p .0, p .1)
+pop-requires c κs = let a = c .before .before .before .before .before .args in let p = c .before .before .before .before .before .pre in frontier-given (a .frame) (a .self) (c .before .before .frontier .ensures) (a .work .now) (a .item .now) (p .0, p .1)
 
--- src/extraction.rt:206:26
 enum-known-popped : tie.Need-enum-known-popped
 enum-known-popped c = search needs
 
--- src/extraction.rt:207:13
 enum-told : tie.Need-enum-told
 enum-told c = search needs
 
--- src/extraction.rt:207:13
 same-length : tie.Need-same-length
 same-length c = search needs
 
--- src/extraction.rt:207:13
 same-length-2 : tie.Need-same-length-2
 same-length-2 c = search needs
 
--- src/extraction.rt:207:13
 returns : tie.Need-returns
-returns c = let a = c .before .before .before .before .before .before .before .before .before .before .before .before .args in take-empty (a .frame) (a .self) (c .before .before .before .before .before .before .before .before .before .frontier .result) (c .before .before .before .before .before .before .before .before .before .frontier .ensures) (a .work .now) (c .before .before .before .before .before .before .pop .result) (c .before .before .before .before .before .before .pop .last .1 .1 .0) (c .before .before .before .before .before .before .pop .last .1 .0) (c .before .before .before .before .before .before .pop .ensures) (c .enum-told .given .1)
+returns c =
+    let c₁ = c .before .before .before .before .before .before .before .before .before in
+    let frontier = c₁ .frontier in
+    let a = c₁ .before .before .before .args in
+    take-empty (a .frame) (a .self) (frontier .ensures) (c .before .before .before .before .before .before .pop .ensures) (c .enum-told .given .1)
 
--- src/extraction.rt:209:21
 budget-requires : tie.Need-budget-requires
 budget-requires c κs = search needs
 
--- src/extraction.rt:209:13
 admitted-expansion-requires : tie.Need-admitted-expansion-requires
-admitted-expansion-requires c κs = let a = c .before .before .before .before .before .before .before .before .before .before .before .before .before .before .args in expansion-given (a .frame) (a .self) (c .budget .result) (c .budget .ensures) (c .before .before .before .before .before .before .before .before .before .before .before .before .before .before .pre .2)
+admitted-expansion-requires c κs =
+    let c₁ = c .before .before .before .before .before .before .before .before .before .before .before .before .before .before in
+    let a = c₁ .args in
+    let p = c₁ .pre in
+    expansion-given (a .frame) (a .self) (c .budget .ensures) (p .2)
 
--- src/extraction.rt:210:13
 with-budget-requires : tie.Need-with-budget-requires
 with-budget-requires c κs = search needs
 
--- src/extraction.rt:213:17
 same-length-3 : tie.Need-same-length-3
 same-length-3 c = search needs
 
--- src/extraction.rt:213:17
 same-length-4 : tie.Need-same-length-4
 same-length-4 c = search needs
 
--- src/extraction.rt:213:17
 returns-2 : tie.Need-returns-2
-returns-2 c = let a = c .before .before .before .before .before .before .before .before .before .before .before .before .before .before .before .before .before .before .before .args in take-many (a .frame) (a .self) (c .before .before .before .before .before .before .before .before .before .before .before .before .before .before .before .before .frontier .result) (c .before .before .before .before .before .before .before .before .before .before .before .before .before .before .before .before .frontier .ensures) (a .work .now) (c .before .before .before .before .before .before .before .before .before .before .before .before .before .pop .result) (c .before .before .before .before .before .before .before .before .before .before .before .before .before .pop .last .1 .1 .0) (c .before .before .before .before .before .before .before .before .before .before .before .before .before .pop .last .1 .0) (c .before .before .before .before .before .before .before .before .before .before .before .before .before .pop .ensures) (c .before .before .before .before .before .before .before .popped .given .0 .0) (c .before .before .before .before .before .before .before .popped .given .1) (c .before .before .before .before .before .budget .result) (c .before .before .before .before .before .budget .ensures) (c .before .before .before .before .admitted-expansion .result) (c .before .before .before .before .admitted-expansion .ensures) (c .before .before .before .with-budget .result) (c .before .before .before .with-budget .ensures) (c .before .before .if1 .taken) (omega (arith, c .if2 .taken))
+returns-2 c =
+    let popped = c .before .before .before .before .before .before .before .popped in
+    let c₁ = c .before .before .before .before .before .before .before .before .before .before .before .before .before in
+    let pop = c₁ .pop in
+    let frontier = c₁ .before .before .before .frontier in
+    let a = c₁ .before .before .before .before .before .before .args in
+    take-many (a .frame) (a .self) (frontier .ensures) (pop .ensures) (popped .given .0 .0) (popped .given .1)
+    (c .before .before .before .before .before .budget .ensures) (c .before .before .before .before .admitted-expansion .ensures)
+    (c .before .before .before .with-budget .ensures) (c .before .before .if1 .taken) (omega (arith, c .if2 .taken))
 
--- src/extraction.rt:215:34
 with-frontier-requires : tie.Need-with-frontier-requires
 with-frontier-requires c κs = search needs
 
--- src/extraction.rt:215:13
 same-length-5 : tie.Need-same-length-5
 same-length-5 c = c .before .before .before .before .before .before .before .before .before .before .before .before .before .before .pop .kept .1 .0
 
--- src/extraction.rt:215:13
 same-length-6 : tie.Need-same-length-6
 same-length-6 c = c .before .before .before .before .before .before .before .before .before .before .before .before .before .before .pop .kept .1 .1 .0
 
--- src/extraction.rt:215:13
 returns-3 : tie.Need-returns-3
-returns-3 c = let a = c .before .before .before .before .before .before .before .before .before .before .before .before .before .before .before .before .before .before .before .before .args in take-expand (a .frame) (a .self) (c .before .before .before .before .before .before .before .before .before .before .before .before .before .before .before .before .before .frontier .result) (c .before .before .before .before .before .before .before .before .before .before .before .before .before .before .before .before .before .frontier .ensures) (a .work .now) (c .before .before .before .before .before .before .before .before .before .before .before .before .before .before .pop .result) (c .before .before .before .before .before .before .before .before .before .before .before .before .before .before .pop .last .1 .1 .0) (c .before .before .before .before .before .before .before .before .before .before .before .before .before .before .pop .last .1 .0) (c .before .before .before .before .before .before .before .before .before .before .before .before .before .before .pop .ensures) (c .before .before .before .before .before .before .before .before .popped .given .0 .0) (c .before .before .before .before .before .before .before .before .popped .given .1) (c .before .before .before .before .before .before .budget .result) (c .before .before .before .before .before .before .budget .ensures) (c .before .before .before .before .before .admitted-expansion .result) (c .before .before .before .before .before .admitted-expansion .ensures) (c .before .before .before .before .with-budget .result) (c .before .before .before .before .with-budget .ensures) (c .before .before .before .if1 .taken) (omega (arith, c .before .if2 .left)) (c .with-frontier .result) (c .with-frontier .ensures)
+returns-3 c =
+    let admitted-expansion = c .before .before .before .before .before .admitted-expansion in
+    let c₁ = c .before .before .before .before .before .before .before .before in
+    let popped = c₁ .popped in
+    let pop = c₁ .before .before .before .before .before .before .pop in
+    let c₂ = c₁ .before .before .before .before .before .before .before .before .before in
+    let frontier = c₂ .frontier in
+    let a = c₂ .before .before .before .args in
+    take-expand (a .frame) (a .self) (frontier .ensures) (pop .ensures) (popped .given .0 .0) (popped .given .1)
+    (c .before .before .before .before .before .before .budget .ensures) (admitted-expansion .ensures)
+    (c .before .before .before .before .with-budget .ensures) (c .before .before .before .if1 .taken) (omega (arith, c .before .if2 .left))
+    (c .with-frontier .ensures)
 
--- src/extraction.rt:201:5
 same-length-7 : tie.Need-same-length-7
 same-length-7 c = search needs
 
--- src/extraction.rt:201:5
 same-length-8 : tie.Need-same-length-8
 same-length-8 c = search needs
 
--- src/extraction.rt:201:5
 returns-4 : tie.Need-returns-4
-returns-4 c = let a = c .before .before .before .before .before .before .before .before .before .before .before .before .before .before .before .before .before .args in take-over (a .frame) (a .self) (c .before .before .before .before .before .before .before .before .before .before .before .before .before .before .frontier .result) (c .before .before .before .before .before .before .before .before .before .before .before .before .before .before .frontier .ensures) (a .work .now) (c .before .before .before .before .before .before .before .before .before .before .before .pop .result) (c .before .before .before .before .before .before .before .before .before .before .before .pop .last .1 .1 .0) (c .before .before .before .before .before .before .before .before .before .before .before .pop .last .1 .0) (c .before .before .before .before .before .before .before .before .before .before .before .pop .ensures) (c .before .before .before .before .before .popped .given .0 .0) (c .before .before .before .before .before .popped .given .1) (c .before .before .before .budget .result) (c .before .before .before .budget .ensures) (c .before .before .admitted-expansion .result) (c .before .before .admitted-expansion .ensures) (c .before .with-budget .result) (c .before .with-budget .ensures) (c .if1 .left)
+returns-4 c =
+    let popped = c .before .before .before .before .before .popped in
+    let c₁ = c .before .before .before .before .before .before .before .before .before .before .before in
+    let pop = c₁ .pop in
+    let frontier = c₁ .before .before .before .frontier in
+    let a = c₁ .before .before .before .before .before .before .args in
+    take-over (a .frame) (a .self) (frontier .ensures) (pop .ensures) (popped .given .0 .0) (popped .given .1)
+    (c .before .before .before .budget .ensures) (c .before .before .admitted-expansion .ensures) (c .before .with-budget .ensures) (c .if1 .left)
 
 pub take-spec : {M : Type 1} → statement M
 take-spec =

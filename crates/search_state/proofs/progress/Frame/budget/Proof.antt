@@ -1,6 +1,6 @@
 -- `Frame::budget` meets its contract: the limits set one after another on a fresh budget.
 use borrow.Author.Needs.{needs}
-use Rattle.budget.specs.Budget.Laws.{limits-chained}
+use Rattle.path_budget.specs.Budget.Laws.{limits-chained}
 use Rattle.search_state.proofs.progress.Frame.budget.Statement.{statement}
 use Rattle.search_state.proofs.progress.Frame.budget.Tie as tie
 

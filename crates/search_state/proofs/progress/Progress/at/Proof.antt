@@ -9,7 +9,19 @@ frontier-requires : tie.Need-frontier-requires
 frontier-requires c κs = search needs
 
 returns : tie.Need-returns
-returns c = λ i. record { frontier = c .frontier .ensures i; state = record { budget = c .before .budget .ensures i; cycles = c .before .before .args .self .cycles; rejected = c .before .before .args .self .rejected; kept = c .before .before .args .self .kept; results = c .before .before .args .frame .results } }
+returns c =
+    let a = c .before .before .args in
+    λ i.
+    record {
+      frontier = c .frontier .ensures i;
+      state = record {
+        budget = c .before .budget .ensures i;
+        cycles = a .self .cycles;
+        rejected = a .self .rejected;
+        kept = a .self .kept;
+        results = a .frame .results;
+      };
+    }
 
 pub at-spec : {M : Type 1} → statement M
 at-spec = tie.close (tie.spec budget-requires frontier-requires returns)

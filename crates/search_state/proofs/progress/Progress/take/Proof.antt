@@ -7,7 +7,7 @@ at-requires : tie.Need-at-requires
 at-requires c κs = search needs
 
 take-requires : tie.Need-take-requires
-take-requires c κs = let a = c .before .before .before .before .before .args in let p = c .before .before .before .before .before .pre in take-given (a .frame) (a .self) (c .before .before .at .result) (c .before .before .at .ensures) (a .work .now) (a .item .now) p
+take-requires c κs = let a = c .before .before .before .before .before .args in let p = c .before .before .before .before .before .pre in take-given (a .frame) (a .self) (c .before .before .at .ensures) p
 
 next-requires : tie.Need-next-requires
 next-requires c κs = search needs
@@ -19,7 +19,11 @@ same-length-2 : tie.Need-same-length-2
 same-length-2 c = search needs
 
 returns : tie.Need-returns
-returns c = let a = c .before .before .before .before .before .before .before .before .before .before .before .args in takes-next (a .frame) (a .self) (c .before .before .before .before .before .before .before .before .at .result) (c .before .before .before .before .before .before .before .before .at .ensures) (a .work .now) (c .before .before .before .before .before .take .result) (c .before .before .before .before .before .take .last .1 .1 .0) (c .before .before .before .before .before .take .last .1 .0) (c .before .before .before .before .before .take .ensures) (c .next .result) (c .next .ensures)
+returns c =
+    let c₁ = c .before .before .before .before .before .before .before .before in
+    let at = c₁ .at in
+    let a = c₁ .before .before .before .args in
+    takes-next (a .frame) (a .self) (at .ensures) (c .before .before .before .before .before .take .ensures) (c .next .ensures)
 
 pub take-spec : {M : Type 1} → statement M
 take-spec =

@@ -8,57 +8,68 @@ use borrow.Author.Needs.{needs}
 use Rattle.search_state.proofs.search.Search.extend.Statement.{statement}
 use Rattle.search_state.proofs.search.Search.extend.Tie as tie
 
--- src/search.rt:73:17
 record-complete-requires : tie.Need-record-complete-requires
-record-complete-requires c κs = let a = c .before .before .before .before .before .before .args in let p = c .before .before .before .before .before .before .pre in (p .fits, p .room, p .pushable .slot, p .few)
+record-complete-requires c κs = let p = c .before .before .before .before .before .before .pre in (p .fits, p .room, p .pushable .slot, p .few)
 
--- src/search.rt:74:32
 enum-known-recorded : tie.Need-enum-known-recorded
 enum-known-recorded c = search needs
 
--- src/search.rt:75:39
 enum-told : tie.Need-enum-told
 enum-told c = search needs
 
--- src/search.rt:75:17
 same-length : tie.Need-same-length
 same-length c = search needs
 
--- src/search.rt:75:17
 returns : tie.Need-returns
-returns c = let a = c .before .before .before .before .before .before .before .before .before .before .before .args in let p = c .before .before .before .before .before .before .before .before .before .before .before .pre in subst (λ (b : Bool). ExtendsTo (a .self) b (a .work .now) (a .result .now) (a .item .now) (Going.Refused Search.NoResultSlot) (a .work .now) (c .before .before .before .before .record-complete .last .1 .0)) (sym (c .before .before .before .before .before .before .before .if1 .taken)) (extend-full (a .self) (a .work .now) (a .result .now) (a .item .now) (c .before .before .before .before .record-complete .result) (c .before .before .before .before .record-complete .last .1 .0) (c .before .before .before .before .record-complete .ensures .0) (c .before .before .before .before .record-complete .ensures .1) (c .enum-told .given .1))
+returns c =
+    let record-complete = c .before .before .before .before .record-complete in
+    let if1 = c .before .before .before .before .before .before .before .if1 in
+    let a = c .before .before .before .before .before .before .before .before .before .before .before .args in
+    subst (λ (b : Bool).
+    ExtendsTo (a .self) b (a .work .now) (a .result .now) (a .item .now) (Going.Refused Search.NoResultSlot) (a .work .now)
+    (record-complete .last .1 .0)) (sym (if1 .taken)) (extend-full (a .self) (a .work .now) (a .result .now) (a .item .now)
+    (record-complete .ensures .0) (record-complete .ensures .1) (c .enum-told .given .1))
 
--- src/search.rt:77:20
 with-state-requires : tie.Need-with-state-requires
 with-state-requires c κs = search needs
 
--- src/search.rt:77:13
 push-requires : tie.Need-push-requires
-push-requires c κs = let a = c .before .before .before .before .before .before .before .before .before .before .before .before .before .before .args in let p = c .before .before .before .before .before .before .before .before .before .before .before .before .before .before .pre in extend-push (a .self) (c .before .with-state .result) (c .before .before .before .recorded .given .0 .0) (a .work .now) (a .result .now) (a .item .now) p (c .before .with-state .ensures)
+push-requires c κs =
+    let p = c .before .before .before .before .before .before .before .before .before .before .before .before .before .before .pre in
+    extend-push (c .before .before .before .recorded .given .0 .0) p (c .before .with-state .ensures)
 
--- src/search.rt:77:13
 same-length-2 : tie.Need-same-length-2
 same-length-2 c = search needs
 
--- src/search.rt:77:13
 same-length-3 : tie.Need-same-length-3
 same-length-3 c = search needs
 
--- src/search.rt:77:13
 returns-2 : tie.Need-returns-2
-returns-2 c = let a = c .before .before .before .before .before .before .before .before .before .before .before .before .before .before .before .before .before .args in let p = c .before .before .before .before .before .before .before .before .before .before .before .before .before .before .before .before .before .pre in subst (λ (b : Bool). ExtendsTo (a .self) b (a .work .now) (a .result .now) (a .item .now) (c .before .before .push .result) (c .before .before .push .last .1 .0) (c .before .before .before .before .before .before .before .before .before .before .record-complete .last .1 .0)) (sym (c .before .before .before .before .before .before .before .before .before .before .before .before .before .if1 .taken)) (extend-kept (a .self) (a .work .now) (a .result .now) (a .item .now) (c .before .before .before .before .before .before .before .before .before .before .record-complete .result) (c .before .before .before .before .before .before .before .before .before .before .record-complete .last .1 .0) (c .before .before .before .before .before .before .before .before .before .before .record-complete .ensures .0) (c .before .before .before .before .before .before .before .before .before .before .record-complete .ensures .1) (c .before .before .before .before .before .before .recorded .given .0 .0) (c .before .before .before .before .before .before .recorded .given .1) (c .before .before .before .before .with-state .result) (c .before .before .before .before .with-state .ensures) (c .before .before .push .result) (c .before .before .push .last .1 .0) (c .before .before .push .ensures))
+returns-2 c =
+    let push = c .before .before .push in
+    let recorded = c .before .before .before .before .before .before .recorded in
+    let c₁ = c .before .before .before .before .before .before .before .before .before .before in
+    let record-complete = c₁ .record-complete in
+    let if1 = c₁ .before .before .before .if1 in
+    let a = c₁ .before .before .before .before .before .before .before .args in
+    subst (λ (b : Bool).
+    ExtendsTo (a .self) b (a .work .now) (a .result .now) (a .item .now) (push .result) (push .last .1 .0) (record-complete .last .1 .0))
+    (sym (if1 .taken)) (extend-kept (a .self) (a .work .now) (a .result .now) (a .item .now) (record-complete .ensures .0)
+    (record-complete .ensures .1) (recorded .given .0 .0) (recorded .given .1) (c .before .before .before .before .with-state .ensures)
+    (push .ensures))
 
--- src/search.rt:79:9
 push-requires-2 : tie.Need-push-requires-2
-push-requires-2 c κs = let a = c .before .before .before .before .before .args in let p = c .before .before .before .before .before .pre in p .pushable
+push-requires-2 c κs = let p = c .before .before .before .before .before .pre in p .pushable
 
--- src/search.rt:61:5
 same-length-4 : tie.Need-same-length-4
 same-length-4 c = search needs
 
--- src/search.rt:61:5
 returns-3 : tie.Need-returns-3
-returns-3 c = let a = c .before .before .before .before .before .before .before .before .args in let p = c .before .before .before .before .before .before .before .before .pre in subst (λ (b : Bool). ExtendsTo (a .self) b (a .work .now) (a .result .now) (a .item .now) (c .before .before .push2 .result) (c .before .before .push2 .last .1 .0) (a .result .now)) (sym (c .before .before .before .before .if1 .left)) (extend-only (a .self) (a .work .now) (a .result .now) (a .item .now) (c .before .before .push2 .result) (c .before .before .push2 .last .1 .0) (c .before .before .push2 .ensures))
+returns-3 c =
+    let push2 = c .before .before .push2 in
+    let a = c .before .before .before .before .before .before .before .before .args in
+    subst (λ (b : Bool). ExtendsTo (a .self) b (a .work .now) (a .result .now) (a .item .now) (push2 .result) (push2 .last .1 .0) (a .result .now))
+    (sym (c .before .before .before .before .if1 .left)) (extend-only (a .result .now) (push2 .ensures))
 
 pub extend-spec : {M : Type 1} → statement M
 extend-spec =

@@ -3,7 +3,7 @@ use native.Mathlib.Omega.{arith}
 use mathlib.Core.Path.{_≡_, sym, ap, subst}
 use Prim.Native.Nat.{ℕ, _-_}
 use lib.ListN.{take}
-use Rattle.graph_search.specs.Frontier.{Pushes}
+use Rattle.path_frontier.specs.Frontier.{Pushes}
 use Rattle.search_state.specs.Searches.{goingOf}
 use borrow.Author.Needs.{needs}
 use Rattle.search_state.proofs.search.Search.push.Statement.{statement}
@@ -43,13 +43,41 @@ same-length : tie.Need-same-length
 same-length c = search needs
 
 returns : tie.Need-returns
-returns c = record { roomy = c .before .before .before .before .before .before .before .before .before .make-room .result; words = c .before .before .before .before .before .before .before .before .before .make-room .last .1 .0; makes = c .before .before .before .before .before .before .before .before .before .make-room .ensures; pushed = c .before .before .before .before .push .result; pushes = let L = c .before .before .before .before .before .before .before .before .before .make-room .result .length in subst (λ (n : ℕ). Pushes (c .before .before .before .before .before .before .before .before .before .make-room .result) (c .before .before .before .before .before .before .before .before .before .make-room .last .1 .0) (take n (c .before .before .before .before .before .before .before .before .before .before .before .before .before .before .before .args .item .now)) (c .before .before .before .before .push .result) (c .before .before .before .before .push .last .1 .0)) (let z : L - 0 ≡ L = omega arith in z) (c .before .before .before .before .push .ensures); is = sym (ap (goingOf (c .before .before .before .before .before .before .before .before .before .before .before .before .before .before .before .args .self .state)) (c .enum-told .given .1)) }
+returns c =
+    let push = c .before .before .before .before .push in
+    let c₁ = c .before .before .before .before .before .before .before .before .before in
+    let make-room = c₁ .make-room in
+    let a = c₁ .before .before .before .before .before .before .args in
+    record {
+      roomy = make-room .result;
+      words = make-room .last .1 .0;
+      makes = make-room .ensures;
+      pushed = push .result;
+      pushes = let L = make-room .result .length in
+          subst (λ (n : ℕ). Pushes (make-room .result) (make-room .last .1 .0) (take n (a .item .now)) (push .result) (push .last .1 .0))
+          (let z : L - 0 ≡ L = omega arith in z) (push .ensures);
+      is = sym (ap (goingOf (a .self .state)) (c .enum-told .given .1));
+    }
 
 same-length-2 : tie.Need-same-length-2
 same-length-2 c = search needs
 
 returns-2 : tie.Need-returns-2
-returns-2 c = record { roomy = c .before .before .before .before .before .before .before .before .before .before .before .make-room .result; words = c .before .before .before .before .before .before .before .before .before .before .before .make-room .last .1 .0; makes = c .before .before .before .before .before .before .before .before .before .before .before .make-room .ensures; pushed = c .before .before .before .before .before .before .push .result; pushes = let L = c .before .before .before .before .before .before .before .before .before .before .before .make-room .result .length in subst (λ (n : ℕ). Pushes (c .before .before .before .before .before .before .before .before .before .before .before .make-room .result) (c .before .before .before .before .before .before .before .before .before .before .before .make-room .last .1 .0) (take n (c .before .before .before .before .before .before .before .before .before .before .before .before .before .before .before .before .before .args .item .now)) (c .before .before .before .before .before .before .push .result) (c .before .before .before .before .before .before .push .last .1 .0)) (let z : L - 0 ≡ L = omega arith in z) (c .before .before .before .before .before .before .push .ensures); is = sym (ap (goingOf (c .before .before .before .before .before .before .before .before .before .before .before .before .before .before .before .before .before .args .self .state)) (c .before .before .pushed .given .1)) }
+returns-2 c =
+    let push = c .before .before .before .before .before .before .push in
+    let c₁ = c .before .before .before .before .before .before .before .before .before .before .before in
+    let make-room = c₁ .make-room in
+    let a = c₁ .before .before .before .before .before .before .args in
+    record {
+      roomy = make-room .result;
+      words = make-room .last .1 .0;
+      makes = make-room .ensures;
+      pushed = push .result;
+      pushes = let L = make-room .result .length in
+          subst (λ (n : ℕ). Pushes (make-room .result) (make-room .last .1 .0) (take n (a .item .now)) (push .result) (push .last .1 .0))
+          (let z : L - 0 ≡ L = omega arith in z) (push .ensures);
+      is = sym (ap (goingOf (a .self .state)) (c .before .before .pushed .given .1));
+    }
 
 pub push-spec : {M : Type 1} → statement M
 push-spec =

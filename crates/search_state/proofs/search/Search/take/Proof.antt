@@ -6,73 +6,89 @@ use borrow.Author.Needs.{needs}
 use Rattle.search_state.proofs.search.Search.take.Statement.{statement}
 use Rattle.search_state.proofs.search.Search.take.Tie as tie
 
--- src/search.rt:58:13
 pop-requires : tie.Need-pop-requires
 pop-requires c κs = let p = c .before .before .before .before .before .before .pre in (p .framed, p .short, p .slot, p .clear)
 
--- src/search.rt:59:26
 enum-known-popped : tie.Need-enum-known-popped
 enum-known-popped c = search needs
 
--- src/search.rt:60:13
 enum-told : tie.Need-enum-told
 enum-told c = search needs
 
--- src/search.rt:60:13
 same-length : tie.Need-same-length
 same-length c = search needs
 
--- src/search.rt:60:13
 same-length-2 : tie.Need-same-length-2
 same-length-2 c = search needs
 
--- src/search.rt:60:13
 returns : tie.Need-returns
-returns c = record { popped = c .before .before .before .before .before .before .pop .result; pops = c .before .before .before .before .before .before .pop .ensures; is = sym (ap (takenOf (c .before .before .before .before .before .before .before .before .before .before .before .before .before .args .self .state)) (c .enum-told .given .1)) }
+returns c =
+    let pop = c .before .before .before .before .before .before .pop in
+    let a = c .before .before .before .before .before .before .before .before .before .before .before .before .before .args in
+    record { popped = pop .result; pops = pop .ensures; is = sym (ap (takenOf (a .self .state)) (c .enum-told .given .1)) }
 
--- src/search.rt:63:13
 admitted-expansion-requires : tie.Need-admitted-expansion-requires
 admitted-expansion-requires c κs = search needs
 
--- src/search.rt:64:13
 with-budget-requires : tie.Need-with-budget-requires
 with-budget-requires c κs = search needs
 
--- src/search.rt:67:17
 same-length-3 : tie.Need-same-length-3
 same-length-3 c = search needs
 
--- src/search.rt:67:17
 same-length-4 : tie.Need-same-length-4
 same-length-4 c = search needs
 
--- src/search.rt:67:17
 returns-2 : tie.Need-returns-2
-returns-2 c = record { popped = c .before .before .before .before .before .before .before .before .before .before .before .before .before .pop .result; pops = c .before .before .before .before .before .before .before .before .before .before .before .before .before .pop .ensures; is = take-many (c .before .before .before .before .before .before .before .before .before .before .before .before .before .before .before .before .before .before .before .before .args .self .state) (c .before .before .before .before .before .before .before .before .before .before .before .before .before .pop .result) (c .before .before .before .before .before .before .before .popped .given .0 .0) (c .before .before .before .before .before .before .before .popped .given .1) (c .before .before .before .before .admitted-expansion .result) (c .before .before .before .before .admitted-expansion .ensures) (c .before .before .before .with-budget .result) (c .before .before .before .with-budget .ensures) (c .before .before .if1 .taken) (omega (arith, c .if2 .taken)) }
+returns-2 c =
+    let popped′ = c .before .before .before .before .before .before .before .popped in
+    let c₁ = c .before .before .before .before .before .before .before .before .before .before .before .before .before in
+    let pop = c₁ .pop in
+    let a = c₁ .before .before .before .before .before .before .before .args in
+    record {
+      popped = pop .result;
+      pops = pop .ensures;
+      is = take-many (a .self .state) (popped′ .given .0 .0) (popped′ .given .1) (c .before .before .before .before .admitted-expansion .ensures)
+          (c .before .before .before .with-budget .ensures) (c .before .before .if1 .taken) (omega (arith, c .if2 .taken));
+    }
 
--- src/search.rt:69:13
 same-length-5 : tie.Need-same-length-5
 same-length-5 c = search needs
 
--- src/search.rt:69:13
 same-length-6 : tie.Need-same-length-6
 same-length-6 c = search needs
 
--- src/search.rt:69:13
 returns-3 : tie.Need-returns-3
-returns-3 c = record { popped = c .before .before .before .before .before .before .before .before .before .before .before .before .before .pop .result; pops = c .before .before .before .before .before .before .before .before .before .before .before .before .before .pop .ensures; is = take-expand (c .before .before .before .before .before .before .before .before .before .before .before .before .before .before .before .before .before .before .before .before .args .self .state) (c .before .before .before .before .before .before .before .before .before .before .before .before .before .pop .result) (c .before .before .before .before .before .before .before .popped .given .0 .0) (c .before .before .before .before .before .before .before .popped .given .1) (c .before .before .before .before .admitted-expansion .result) (c .before .before .before .before .admitted-expansion .ensures) (c .before .before .before .with-budget .result) (c .before .before .before .with-budget .ensures) (c .before .before .if1 .taken) (omega (arith, c .if2 .left)) }
+returns-3 c =
+    let popped′ = c .before .before .before .before .before .before .before .popped in
+    let c₁ = c .before .before .before .before .before .before .before .before .before .before .before .before .before in
+    let pop = c₁ .pop in
+    let a = c₁ .before .before .before .before .before .before .before .args in
+    record {
+      popped = pop .result;
+      pops = pop .ensures;
+      is = take-expand (a .self .state) (popped′ .given .0 .0) (popped′ .given .1) (c .before .before .before .before .admitted-expansion .ensures)
+          (c .before .before .before .with-budget .ensures) (c .before .before .if1 .taken) (omega (arith, c .if2 .left));
+    }
 
--- src/search.rt:52:5
 same-length-7 : tie.Need-same-length-7
 same-length-7 c = search needs
 
--- src/search.rt:52:5
 same-length-8 : tie.Need-same-length-8
 same-length-8 c = search needs
 
--- src/search.rt:52:5
 returns-4 : tie.Need-returns-4
-returns-4 c = record { popped = c .before .before .before .before .before .before .before .before .before .before .before .pop .result; pops = c .before .before .before .before .before .before .before .before .before .before .before .pop .ensures; is = take-over (c .before .before .before .before .before .before .before .before .before .before .before .before .before .before .before .before .before .before .args .self .state) (c .before .before .before .before .before .before .before .before .before .before .before .pop .result) (c .before .before .before .before .before .popped .given .0 .0) (c .before .before .before .before .before .popped .given .1) (c .before .before .admitted-expansion .result) (c .before .before .admitted-expansion .ensures) (c .before .with-budget .result) (c .before .with-budget .ensures) (c .if1 .left) }
+returns-4 c =
+    let popped′ = c .before .before .before .before .before .popped in
+    let c₁ = c .before .before .before .before .before .before .before .before .before .before .before in
+    let pop = c₁ .pop in
+    let a = c₁ .before .before .before .before .before .before .before .args in
+    record {
+      popped = pop .result;
+      pops = pop .ensures;
+      is = take-over (a .self .state) (popped′ .given .0 .0) (popped′ .given .1) (c .before .before .admitted-expansion .ensures)
+          (c .before .with-budget .ensures) (c .if1 .left);
+    }
 
 pub take-spec : {M : Type 1} → statement M
 take-spec =

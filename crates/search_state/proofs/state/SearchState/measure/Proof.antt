@@ -2,15 +2,12 @@ use borrow.Author.Needs.{needs}
 use Rattle.search_state.proofs.state.SearchState.measure.Statement.{statement}
 use Rattle.search_state.proofs.state.SearchState.measure.Tie as tie
 
--- src/state.rt:83:13
 admitted-length-requires : tie.Need-admitted-length-requires
 admitted-length-requires c κs = search needs
 
--- src/state.rt:84:9
 with-budget-requires : tie.Need-with-budget-requires
 with-budget-requires c κs = search needs
 
--- src/state.rt:79:5
 returns : tie.Need-returns
 returns c = cc
 

@@ -3,25 +3,20 @@ use borrow.Author.Needs.{needs}
 use Rattle.search_state.proofs.state.SearchState.new.Statement.{statement}
 use Rattle.search_state.proofs.state.SearchState.new.Tie as tie
 
--- src/state.rt:36:21
 new-requires : tie.Need-new-requires
 new-requires c κs = search needs
 
--- src/state.rt:36:21
 with-max-path-length-requires : tie.Need-with-max-path-length-requires
 with-max-path-length-requires c κs = search needs
 
--- src/state.rt:36:21
 with-max-path-count-requires : tie.Need-with-max-path-count-requires
 with-max-path-count-requires c κs = search needs
 
--- src/state.rt:36:21
 with-max-complete-path-count-requires : tie.Need-with-max-complete-path-count-requires
 with-max-complete-path-count-requires c κs = search needs
 
--- src/state.rt:29:5
 returns : tie.Need-returns
-returns c = let a = c .before .before .before .before .args in new-is (a .limits) (a .results) (c .before .before .before .new .result) (c .before .before .with-max-path-length .result) (c .before .with-max-path-count .result) (c .with-max-complete-path-count .result) (c .before .before .before .new .ensures) (c .before .before .with-max-path-length .ensures) (c .before .with-max-path-count .ensures) (c .with-max-complete-path-count .ensures)
+returns c = let a = c .before .before .before .before .args in new-is (a .limits) (a .results) (c .before .before .before .new .ensures) (c .before .before .with-max-path-length .ensures) (c .before .with-max-path-count .ensures) (c .with-max-complete-path-count .ensures)
 
 pub new-spec : {M : Type 1} → statement M
 new-spec =

@@ -4,37 +4,39 @@ use borrow.Author.Needs.{needs}
 use Rattle.search_state.proofs.state.SearchState.record_complete.Statement.{statement}
 use Rattle.search_state.proofs.state.SearchState.record_complete.Tie as tie
 
--- src/state.rt:95:13
 admitted-complete-requires : tie.Need-admitted-complete-requires
 admitted-complete-requires c κs = search needs
 
--- src/state.rt:96:13
 with-budget-requires : tie.Need-with-budget-requires
 with-budget-requires c κs = search needs
 
--- src/state.rt:99:17
 write-slot-requires : tie.Need-write-slot-requires
 write-slot-requires c κs = search needs
 
--- src/state.rt:100:29
 add-next : tie.Need-add-next
 add-next c = search needs
 
--- src/state.rt:101:17
 same-length : tie.Need-same-length
 same-length c = search needs
 
--- src/state.rt:101:17
 returns : tie.Need-returns
-returns c = let a = c .before .before .before .before .before .before .before .before .before .before .before .before .args in record-kept (a .self) (c .before .before .before .before .before .before .before .before .admitted-complete .result) (c .before .before .before .before .before .before .before .before .admitted-complete .ensures) (c .before .before .before .before .before .before .before .with-budget .result) (c .before .before .before .before .before .before .before .with-budget .ensures) (a .item .now) (a .result .now) (c .before .before .write-slot .last .0) (c .before .before .before .before .before .before .if1 .taken) (omega (arith, c .before .before .before .before .if2 .taken)) (c .before .before .write-slot .ensures)
+returns c =
+    let with-budget = c .before .before .before .before .before .before .before .with-budget in
+    let c₁ = c .before .before .before .before .before .before .before .before in
+    let admitted-complete = c₁ .admitted-complete in
+    let a = c₁ .before .before .before .before .args in
+    record-kept (a .self) (admitted-complete .ensures) (with-budget .ensures) (a .item .now) (a .result .now)
+    (c .before .before .before .before .before .before .if1 .taken) (omega (arith, c .before .before .before .before .if2 .taken))
+    (c .before .before .write-slot .ensures)
 
--- src/state.rt:103:13
 returns-2 : tie.Need-returns-2
-returns-2 c = let a = c .before .before .before .before .before .before .before .before .args in record-full (a .self) (c .before .before .before .before .admitted-complete .result) (c .before .before .before .before .admitted-complete .ensures) (c .before .before .before .with-budget .result) (c .before .before .before .with-budget .ensures) (a .item .now) (a .result .now) (c .before .before .if1 .taken) (omega (arith, c .if2 .left))
+returns-2 c =
+    let a = c .before .before .before .before .before .before .before .before .args in
+    record-full (a .self) (c .before .before .before .before .admitted-complete .ensures) (c .before .before .before .with-budget .ensures)
+    (a .item .now) (a .result .now) (c .before .before .if1 .taken) (omega (arith, c .if2 .left))
 
--- src/state.rt:88:5
 returns-3 : tie.Need-returns-3
-returns-3 c = let a = c .before .before .before .before .before .before .args in record-not (a .self) (c .before .before .admitted-complete .result) (c .before .before .admitted-complete .ensures) (c .before .with-budget .result) (c .before .with-budget .ensures) (a .item .now) (a .result .now) (c .if1 .left)
+returns-3 c = let a = c .before .before .before .before .before .before .args in record-not (a .self) (c .before .before .admitted-complete .ensures) (c .before .with-budget .ensures) (a .item .now) (a .result .now) (c .if1 .left)
 
 pub record-complete-spec : {M : Type 1} → statement M
 record-complete-spec =

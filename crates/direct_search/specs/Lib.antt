@@ -1,0 +1,3 @@
+pub mod DirectAnswers
+pub mod Expansions
+pub mod Passes

@@ -1,2 +1,0 @@
-// The frontier of paths that wait, which every bounded path enumeration shares. Document 01, "Budget and frontier".
-pub mod path_frontier;

@@ -1,0 +1,62 @@
+-- `image::blocks::put_edge`: three stores.
+use borrow.Author.Needs.{needs}
+use mathlib.Core.Path.{refl}
+use native.Mathlib.Omega.{arith}
+use lib.ListN.{length-set}
+use Rattle.image.specs.Index.{putEdge}
+use Rattle.image.proofs.blocks.put_edge.Statement.{statement}
+use Rattle.image.proofs.blocks.put_edge.Tie as tie
+
+mul-at : tie.Need-mul-at
+mul-at c = search needs
+
+add-index : tie.Need-add-index
+add-index c = search needs
+
+mul-index : tie.Need-mul-index
+mul-index c = search needs
+
+slice-write-index : tie.Need-slice-write-index
+slice-write-index c = search needs
+
+add-index-2 : tie.Need-add-index-2
+add-index-2 c = search needs
+
+mul-index-2 : tie.Need-mul-index-2
+mul-index-2 c = search needs
+
+slice-write-index-2 : tie.Need-slice-write-index-2
+slice-write-index-2 c = simp length-set (omega arith)
+
+add-index-3 : tie.Need-add-index-3
+add-index-3 c = search needs
+
+mul-index-3 : tie.Need-mul-index-3
+mul-index-3 c = search needs
+
+slice-write-index-3 : tie.Need-slice-write-index-3
+slice-write-index-3 c = simp length-set (omega arith)
+
+same-length : tie.Need-same-length
+same-length c = search needs
+
+returns : tie.Need-returns
+unfolding putEdge
+returns c = refl
+
+pub put-edge-spec : {M : Type 1} → statement M
+put-edge-spec =
+    tie.close
+    (tie.spec
+    mul-at
+    add-index
+    mul-index
+    slice-write-index
+    add-index-2
+    mul-index-2
+    slice-write-index-2
+    add-index-3
+    mul-index-3
+    slice-write-index-3
+    same-length
+    returns)

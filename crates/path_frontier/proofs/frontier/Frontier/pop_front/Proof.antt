@@ -1,0 +1,40 @@
+-- `Frontier::pop_front` meets its contract: the first slot is read, and the ring goes on behind it.
+use native.Mathlib.Omega.{arith}
+use Rattle.words.specs.Slots.Laws.{within}
+use Rattle.path_frontier.specs.Frontier.Held.{front-is}
+use borrow.Author.Needs.{needs}
+use Rattle.path_frontier.proofs.frontier.Frontier.pop_front.Statement.{statement}
+use Rattle.path_frontier.proofs.frontier.Frontier.pop_front.Tie as tie
+
+read-slot-requires : tie.Need-read-slot-requires
+read-slot-requires c κs =
+    let a = c .before .before .before .args in
+    let p = c .before .before .before .pre in
+    (within (a .self .length) (a .self .capacity) (a .self .first) (a .work .now) (omega (arith, p .0 .inside, p .0 .counted, p .2)) (p .0 .room), p .1)
+
+around-requires : tie.Need-around-requires
+around-requires c κs = search needs
+
+sub-next : tie.Need-sub-next
+sub-next c = search needs
+
+same-length : tie.Need-same-length
+same-length c = search needs
+
+returns : tie.Need-returns
+returns c =
+    let a = c .before .before .before .before .before .before .before .before .args in
+    let p = c .before .before .before .before .before .before .before .before .pre in
+    let next = c .before .around in
+    let read = c .before .before .before .before .read-slot in
+    front-is (a .self) (a .work .now) (p .0) (next .result) (read .last .1 .1 .1 .0) (p .3) (p .2) (next .ensures .0) (next .ensures .1) (read .ensures)
+
+pub pop-front-spec : {M : Type 1} → statement M
+pop-front-spec =
+    tie.close
+    (tie.spec
+    read-slot-requires
+    around-requires
+    sub-next
+    same-length
+    returns)

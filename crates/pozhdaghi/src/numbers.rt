@@ -1,0 +1,208 @@
+// An answer as numbers, and written into the caller's area: specs/Written.antt here and in path_words.
+ghost use mathlib.Core.Path.{_≡_};
+ghost use mathlib.Core.List.{[], _∷_};
+ghost use lib.ListN.{length, getD};
+ghost use Rattle.semantics.specs.Written.{written};
+ghost use Rattle.semantics.specs.Told.{toldFlag, toldStats, toldPartialStats, toldChecked, toldReplayed, toldJudgement, toldResolution, toldLinearResolution, toldCreation, toldReplacement};
+ghost use Rattle.told.specs.Numbers.{numbersOf};
+ghost use Rattle.pozhdaghi.specs.Written.{numbersIn};
+use semantics::answer::Checked;
+use semantics::answer::Creation;
+use semantics::answer::Judgement;
+use semantics::answer::LinearResolution;
+use semantics::answer::Replacement;
+use semantics::answer::Replayed;
+use semantics::answer::Resolution;
+use semantics::search::PartialPathStats;
+use semantics::search::SearchStats;
+use told::refusal;
+use told::refusal::Told;
+
+// The longest answer: 0, the number of paths, four counts and three flags. Nothing else names this number.
+const MOST: usize = 9;
+
+// As many of the items as are counted.
+pub struct Numbers {
+    pub count: usize,
+    pub items: [u64; MOST],
+}
+
+// A refusal has a number and at most two values.
+const TOLD: u32 = 3;
+
+fn flag(set: bool) -> u64
+    ensures { λ r. ⌜ r ≡ toldFlag set ⌝ }
+{
+    if set { 1 } else { 0 }
+}
+
+fn of_told(told: Told) -> Numbers
+    ensures { λ r. ⌜ numbersIn r ≡ numbersOf told ⌝ }
+{
+    let mut items = [0; MOST];
+    items[0] = told.number as u64;
+    items[1] = told.first as u64;
+    items[2] = told.second as u64;
+    if told.count < TOLD {
+        return Numbers {
+            count: told.count as usize,
+            items,
+        };
+    }
+    Numbers {
+        count: TOLD as usize,
+        items,
+    }
+}
+
+fn bare(number: u64) -> Numbers
+    ensures { λ r. ⌜ numbersIn r ≡ number ∷ [] ⌝ }
+{
+    let mut items = [0; MOST];
+    items[0] = number;
+    Numbers { count: 1, items }
+}
+
+pub(crate) fn pair(first: u64, second: u64) -> Numbers
+    ensures { λ r. ⌜ numbersIn r ≡ first ∷ second ∷ [] ⌝ }
+{
+    let mut items = [0; MOST];
+    items[0] = first;
+    items[1] = second;
+    Numbers { count: 2, items }
+}
+
+fn counts(files: u32, nodes: u32, edges: u32) -> Numbers
+    ensures { λ r. ⌜ numbersIn r ≡ 0 ∷ files ∷ nodes ∷ edges ∷ [] ⌝ }
+{
+    let mut items = [0; MOST];
+    items[1] = files as u64;
+    items[2] = nodes as u64;
+    items[3] = edges as u64;
+    Numbers { count: 4, items }
+}
+
+fn found(paths: u64, stats: SearchStats) -> Numbers
+    ensures { λ r. ⌜ numbersIn r ≡ 0 ∷ paths ∷ toldStats stats ⌝ }
+{
+    let mut items = [0; MOST];
+    items[1] = paths;
+    items[2] = stats.expanded;
+    items[3] = stats.complete;
+    items[4] = stats.rejected;
+    items[5] = stats.cycles;
+    items[6] = flag(stats.lengthLimited);
+    items[7] = flag(stats.countLimited);
+    items[8] = flag(stats.completeLimited);
+    Numbers { count: 9, items }
+}
+
+fn replaced(stats: PartialPathStats) -> Numbers
+    ensures { λ r. ⌜ numbersIn r ≡ 0 ∷ toldPartialStats stats ⌝ }
+{
+    let mut items = [0; MOST];
+    items[1] = stats.expanded;
+    items[2] = stats.found;
+    items[3] = stats.cycles;
+    items[4] = flag(stats.lengthLimited);
+    items[5] = flag(stats.countLimited);
+    Numbers { count: 6, items }
+}
+
+pub(crate) fn of_checked(answer: Checked) -> Numbers
+    ensures { λ r. ⌜ numbersIn r ≡ toldChecked answer ⌝ }
+{
+    match answer {
+        Checked::Accepted {
+            files,
+            nodes,
+            edges,
+        } => counts(files, nodes, edges),
+        Checked::Refused(r) => of_told(refusal::image(r)),
+    }
+}
+
+pub(crate) fn of_replayed(answer: Replayed) -> Numbers
+    ensures { λ r. ⌜ numbersIn r ≡ toldReplayed answer ⌝ }
+{
+    match answer {
+        Replayed::Done => bare(0),
+        Replayed::Image(r) => of_told(refusal::image(r)),
+        Replayed::Refused(r) => of_told(refusal::replay(r)),
+    }
+}
+
+pub(crate) fn of_judgement(answer: Judgement) -> Numbers
+    ensures { λ r. ⌜ numbersIn r ≡ toldJudgement answer ⌝ }
+{
+    match answer {
+        Judgement::Done { holds } => pair(0, flag(holds)),
+        Judgement::Image(r) => of_told(refusal::image(r)),
+        Judgement::Refused(r) => of_told(refusal::replay(r)),
+    }
+}
+
+pub(crate) fn of_resolution(answer: Resolution) -> Numbers
+    ensures { λ r. ⌜ numbersIn r ≡ toldResolution answer ⌝ }
+{
+    match answer {
+        Resolution::Done { paths, stats } => found(paths, stats),
+        Resolution::Image(r) => of_told(refusal::image(r)),
+        Resolution::Database(r) => of_told(refusal::database(r)),
+        Resolution::Refused(r) => of_told(refusal::search(r)),
+    }
+}
+
+pub(crate) fn of_linear(answer: LinearResolution) -> Numbers
+    ensures { λ r. ⌜ numbersIn r ≡ toldLinearResolution answer ⌝ }
+{
+    match answer {
+        LinearResolution::Done { paths, stats } => found(paths, stats),
+        LinearResolution::Image(r) => of_told(refusal::image(r)),
+        LinearResolution::Refused(r) => of_told(refusal::linear(r)),
+    }
+}
+
+pub(crate) fn of_creation(answer: Creation) -> Numbers
+    ensures { λ r. ⌜ numbersIn r ≡ toldCreation answer ⌝ }
+{
+    match answer {
+        Creation::Done => bare(0),
+        Creation::Image(r) => of_told(refusal::image(r)),
+        Creation::Malformed => bare(35),
+    }
+}
+
+pub(crate) fn of_replacement(answer: Replacement) -> Numbers
+    ensures { λ r. ⌜ numbersIn r ≡ toldReplacement answer ⌝ }
+{
+    match answer {
+        Replacement::Done { stats } => replaced(stats),
+        Replacement::Image(r) => of_told(refusal::image(r)),
+        Replacement::Database(r) => of_told(refusal::database(r)),
+        Replacement::Refused(r) => of_told(refusal::partial(r)),
+        Replacement::Full => bare(33),
+    }
+}
+
+// The number at a place; 0 behind the last.
+fn at(numbers: Numbers, i: usize) -> u64
+    ensures { λ r. ⌜ r ≡ getD (numbersIn numbers) i 0 ⌝ }
+{
+    if MOST <= i {
+        return 0;
+    }
+    if numbers.count <= i {
+        return 0;
+    }
+    numbers.items[i]
+}
+
+// As many as fit, and zeros behind them.
+pub(crate) fn write(numbers: Numbers, answer: &mut [u64])
+    ensures { λ _. ⌜ now (answer .exit) ≡ written (length (now (answer .entry))) (numbersIn numbers) ⌝ }
+{
+    for i in 0..answer.len() {
+        answer[i] = at(numbers, i);
+    }
+}

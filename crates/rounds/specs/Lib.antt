@@ -1,4 +1,0 @@
-pub mod Requests
-pub mod Drives
-pub mod Starts
-pub mod Finishes

@@ -1,0 +1,4 @@
+pub mod Drives
+pub mod Starts
+pub mod Finishes
+pub mod Expanding

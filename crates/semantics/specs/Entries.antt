@@ -1,0 +1,105 @@
+-- THE PUBLIC ENTRIES: for each, from the bytes, words and numbers that it is lent to its whole outcome: the answer and every word it leaves.
+-- Contracts say of an entry that it does this; Calls has the same over an image that is decoded, and for every bound.
+use Prim.Native.Nat.{ℕ}
+use mathlib.Core.Path.{_≡_}
+use mathlib.Core.List.{List}
+use lib.ListN.{length}
+use Rattle.semantics.specs.declared.search.Limit.{Limit}
+use Rattle.semantics.specs.declared.search.SearchOrder.{SearchOrder}
+use Rattle.semantics.specs.declared.search.SearchLimits.{SearchLimits}
+use Rattle.semantics.specs.declared.refusal.ImageRefusal.{ImageRefusal}
+use Rattle.semantics.specs.declared.answer.Checked.{Checked}
+use Rattle.semantics.specs.declared.answer.Judgement.{Judgement}
+use Rattle.semantics.specs.declared.answer.Resolution.{Resolution}
+use Rattle.semantics.specs.declared.answer.LinearResolution.{LinearResolution}
+use Rattle.semantics.specs.declared.answer.Creation.{Creation}
+use Rattle.semantics.specs.declared.answer.Replacement.{Replacement}
+use Rattle.semantics.specs.Limits.{base}
+use Rattle.semantics.specs.Answer.{Answer}
+use Rattle.semantics.specs.Graph.{Graph}
+use Rattle.semantics.specs.Image.{symbolBytes, checkImage}
+use Rattle.semantics.specs.Database.{Part, knownOwners, lookupPart}
+use Rattle.semantics.specs.Calls.{ReplayOutcome, Request, LinearRequest, FileRequest, Outcome, Change, Reply, checkCall, replayCall, completeCall, shadowsCall, directCall, linearCall, stitchedCall, freshCall, replaceCall}
+use Rattle.semantics.specs.Asked.{orderAsked, lengthAsked, expansionsAsked, limitsAsked}
+
+-- what a call reads of its image: an accepted graph or 1 to 5
+abbrev pub graphIn : List ℕ → Answer ImageRefusal Graph
+graphIn im = checkImage symbolBytes im
+
+-- WHAT IS ASKED: areas count by their lengths
+
+abbrev pub requestOf : SearchOrder → SearchLimits → List ℕ → List ℕ → ℕ → Request
+requestOf order limits ws rs node = record { order = order; limits = limits; work = length ws; result = length rs; node = node }
+
+abbrev pub linearRequestOf : SearchLimits → List ℕ → ℕ → LinearRequest
+linearRequestOf limits rs node = record { limits = limits; result = length rs; node = node }
+
+abbrev pub fileRequestOf : SearchOrder → Limit → Limit → List ℕ → ℕ → FileRequest
+fileRequestOf order most expansions ws file = record { order = order; length = most; expansions = expansions; work = length ws; file = file }
+
+-- THE ENTRIES
+
+abbrev pub checkOf : List ℕ → Checked
+checkOf im = checkCall (graphIn im)
+
+abbrev pub replayOf : List ℕ → ℕ → List ℕ → ReplayOutcome
+replayOf im r es = replayCall base (graphIn im) r es
+
+abbrev pub completeOf : List ℕ → ℕ → List ℕ → Judgement
+completeOf im r es = completeCall base (graphIn im) r es
+
+abbrev pub shadowsOf : List ℕ → ℕ → List ℕ → ℕ → List ℕ → Judgement
+shadowsOf im l ls r rs = shadowsCall base (graphIn im) l ls r rs
+
+-- direct search from a node: the image, the node, what is asked, the work and the result area
+abbrev pub directSearch : Reply → List ℕ → ℕ → SearchOrder → SearchLimits → List ℕ → List ℕ → Outcome Resolution
+directSearch reply im r order limits ws rs = directCall base reply (graphIn im) (requestOf order limits ws rs r)
+
+abbrev pub linearSearch : Reply → List ℕ → ℕ → SearchLimits → List ℕ → Outcome LinearResolution
+linearSearch reply im r limits rs = linearCall base reply (graphIn im) (linearRequestOf limits rs r)
+
+-- the same with the words of a database, which are only read
+abbrev pub stitchedSearch : Reply → List ℕ → List ℕ → ℕ → SearchOrder → SearchLimits → List ℕ → List ℕ → Outcome Resolution
+stitchedSearch reply im words r order limits ws rs = stitchedCall base reply knownOwners (graphIn im) words (requestOf order limits ws rs r)
+
+abbrev pub freshDatabase : List ℕ → List ℕ → Change Creation
+freshDatabase im words = freshCall (graphIn im) words
+
+-- a file replaced: the limits on length and on expansions, the work area, the words of the database
+abbrev pub replaceFile : List ℕ → ℕ → SearchOrder → Limit → Limit → List ℕ → List ℕ → Change Replacement
+replaceFile im f order most expansions ws words = replaceCall base knownOwners (graphIn im) (fileRequestOf order most expansions ws f) words
+
+abbrev pub lookupOf : ℕ → List ℕ → Part
+lookupOf i words = lookupPart base knownOwners i words
+
+-- THE SAME WHERE THE NUMBERS OF Asked SAY WHAT IS ASKED: the exported calls
+
+abbrev pub directAsked : Reply → List ℕ → ℕ → List ℕ → List ℕ → List ℕ → Outcome Resolution
+directAsked reply im r asked ws rs = directSearch reply im r (orderAsked asked) (limitsAsked asked) ws rs
+
+abbrev pub linearAsked : Reply → List ℕ → ℕ → List ℕ → List ℕ → Outcome LinearResolution
+linearAsked reply im r asked rs = linearSearch reply im r (limitsAsked asked) rs
+
+abbrev pub stitchedAsked : Reply → List ℕ → List ℕ → ℕ → List ℕ → List ℕ → List ℕ → Outcome Resolution
+stitchedAsked reply im words r asked ws rs = stitchedSearch reply im words r (orderAsked asked) (limitsAsked asked) ws rs
+
+abbrev pub replaceAsked : List ℕ → ℕ → List ℕ → List ℕ → List ℕ → Change Replacement
+replaceAsked im f asked ws words = replaceFile im f (orderAsked asked) (lengthAsked asked) (expansionsAsked asked) ws words
+
+-- WHAT IS LEFT, in one line for the functions below an entry
+
+-- the answer, and every word of the work area and of the result area
+abbrev pub Does : {A : Type 0} → Outcome A → A → List ℕ → List ℕ → Type 0
+Does o a ws rs = (a ≡ o .answer) × (ws ≡ o .work) × (rs ≡ o .result)
+
+-- a linear search has no work area
+abbrev pub DoesLinear : Outcome LinearResolution → LinearResolution → List ℕ → Type 0
+DoesLinear o a rs = (a ≡ o .answer) × (rs ≡ o .result)
+
+-- the answer, and every word of the work area and of the database
+abbrev pub Changes : {A : Type 0} → Change A → A → List ℕ → List ℕ → Type 0
+Changes o a ws db = (a ≡ o .answer) × (ws ≡ o .work) × (db ≡ o .database)
+
+-- a fresh database, and a replacement before its work area is zeroed
+abbrev pub Leaves : {A : Type 0} → Change A → A → List ℕ → Type 0
+Leaves o a db = (a ≡ o .answer) × (db ≡ o .database)
