@@ -1,12 +1,14 @@
 //! bench [--only TIMES JOB SIDE] IMAGE ..: direct, linear and stitched search from
 //! every reference, and the replacement of every file, by the proved library
-//! and by the given Rust. README.md says what a line holds.
+//! and by the given Rust. bench --names IMAGE ..: names for definitions, against
+//! the recorded searches that they make. README.md says what a line holds.
 
 use settings::Settings;
 use std::process::exit;
 
 #[path = "../../oracle/src/load.rs"]
 mod load;
+mod names;
 mod ours;
 mod report;
 mod settings;
@@ -31,12 +33,15 @@ fn main() {
     let mut words: Vec<String> = std::env::args().skip(1).collect();
     let only = (words.first().is_some_and(|word| word == "--only") && words.len() >= 4)
         .then(|| words.drain(..4).collect::<Vec<String>>());
+    let of_names = words.first().is_some_and(|word| word == "--names");
+    words.drain(..usize::from(of_names));
     let mut agreed = true;
     for name in words {
         let bytes = std::fs::read(&name).expect("the image can be read");
         let settings = Settings::read(&name, &bytes);
         match &only {
             Some(words) => run_only(&words[1..], &bytes, &settings),
+            None if of_names => agreed &= names::compare(&name, &bytes, &settings),
             None => agreed &= report::compare(&name, &bytes, &settings),
         }
     }
@@ -47,6 +52,9 @@ fn main() {
 /// loading alone, once for each call, and "check" of ours the check alone.
 fn run_only(words: &[String], bytes: &[u8], settings: &Settings) {
     let times: usize = words[0].parse().expect("a number of runs");
+    if words[1] == "names" {
+        return names::run_only(times, &words[2], bytes, settings);
+    }
     let job = match words[1].as_str() {
         "direct" => Job::Direct,
         "linear" => Job::Linear,

@@ -28,7 +28,7 @@ fn mean_of(run: &mut impl FnMut() -> Duration) -> f64 {
 
 /// The least of several such means for each of the runs. They take turns, so
 /// that what else the machine does falls on all of them alike.
-fn best_of<const N: usize>(mut runs: [&mut dyn FnMut() -> Duration; N]) -> [f64; N] {
+pub fn best_of<const N: usize>(mut runs: [&mut dyn FnMut() -> Duration; N]) -> [f64; N] {
     let begun = Instant::now();
     let mut best = [f64::INFINITY; N];
     let mut rounds = 0;
@@ -41,7 +41,7 @@ fn best_of<const N: usize>(mut runs: [&mut dyn FnMut() -> Duration; N]) -> [f64;
     best
 }
 
-fn timed(run: impl FnOnce()) -> Duration {
+pub fn timed(run: impl FnOnce()) -> Duration {
     let start = Instant::now();
     run();
     start.elapsed()

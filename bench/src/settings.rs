@@ -15,6 +15,9 @@ pub struct Settings {
     pub search: Limits,
     pub partial: Limits,
     pub references: Vec<u32>,
+    /// All of them, whatever the configuration says.
+    pub every_reference: Vec<u32>,
+    pub definitions: Vec<u32>,
     pub files: u32,
 }
 
@@ -27,7 +30,10 @@ impl Settings {
         let count: usize = words[5].parse().expect("a number of references");
         let graph = load(bytes);
         let is_reference = |&node: &StackNodeId| graph.node(node).kind().is_reference();
+        let is_definition = |&node: &StackNodeId| graph.node(node).kind().is_definition();
         let references = graph.node_ids().filter(is_reference).map(StackNodeId::raw);
+        let every_reference: Vec<u32> = references.collect();
+        let definitions = graph.node_ids().filter(is_definition);
         Settings {
             order: match words.get(6) {
                 Some(&"d") => Order::DepthFirst,
@@ -43,9 +49,13 @@ impl Settings {
                 paths: limit(4),
                 complete: None,
             },
-            references: references
+            references: every_reference
+                .iter()
+                .copied()
                 .take(if count > 0 { count } else { usize::MAX })
                 .collect(),
+            every_reference,
+            definitions: definitions.map(StackNodeId::raw).collect(),
             files: graph.file_count() as u32,
         }
     }

@@ -92,6 +92,12 @@ pub(crate) fn resolution(answer: &[u64; ANSWER]) -> Result<Resolution, Refusal> 
     refused(answer).map_or(Ok(Resolution { paths, statistics }), Err)
 }
 
+/// The reference of a name, if there is one.
+pub(crate) fn name(answer: &[u64; ANSWER]) -> Result<Option<u32>, Refusal> {
+    let &[_, is_found, reference, ..] = answer;
+    refused(answer).map_or(Ok((is_found != 0).then_some(reference as u32)), Err)
+}
+
 pub(crate) fn replacement(answer: &[u64; ANSWER]) -> Result<PartialStatistics, Refusal> {
     let &[_, expanded, found, cycles, length, count, ..] = answer;
     let statistics = PartialStatistics {

@@ -4,7 +4,7 @@
 use crate::answer::{self, Counts, PartialStatistics, Refusal, Resolution};
 use crate::link::{self, Answer, Direct, Linear, Stitched};
 use crate::replayed::{self, Replayed};
-use crate::request::Request;
+use crate::request::{Limits, Request};
 use crate::PATH_WORDS;
 
 const EMPTY: Answer = [0; answer::ANSWER];
@@ -146,6 +146,48 @@ fn search_directly(
         );
     }
     answer::resolution(&told)
+}
+
+/// A name for a definition: the lowest-numbered reference with a recorded direct
+/// path of at most so many edges that ends at the node. The first such path in
+/// breadth-first order stands in the first slot of `result`. `None` is answered
+/// only if no reference has one and no search was refused.
+///
+/// References are searched ascending, each to its end, and every complete path of
+/// the one being searched takes a result slot, wherever it ends.
+pub fn find_name(
+    image: &[u8],
+    node: u32,
+    length: Option<u64>,
+    work: &mut [u32],
+    result: &mut [u32],
+) -> Result<Option<u32>, Refusal> {
+    let request = Request {
+        limits: Limits {
+            length,
+            ..Limits::default()
+        },
+        ..Request::default()
+    };
+    let asked = request.numbers();
+    let mut told = EMPTY;
+    // SAFETY: each pointer and length is that of a slice held here.
+    unsafe {
+        link::pozhdaghi_find_name(
+            image.as_ptr(),
+            image.len(),
+            node,
+            asked.as_ptr(),
+            asked.len(),
+            work.as_mut_ptr(),
+            work.len(),
+            result.as_mut_ptr(),
+            result.len(),
+            told.as_mut_ptr(),
+            told.len(),
+        );
+    }
+    answer::name(&told)
 }
 
 /// Linear search from a reference; the returned paths stand in `result`.

@@ -5,7 +5,7 @@
 //! the path that it hands back. The caller lends the image, the areas and the
 //! database words; every call leaves them as its contract says
 //! (`crates/pozhdaghi/src`). A refusal has the number and the values of document
-//! 01, "Turned back". The library's own work takes about 200 KB of the caller's
+//! 01, "Turned back", or of document 02. The library's own work takes about 200 KB of the caller's
 //! stack.
 //!
 //! An area that a call writes overlaps no other area that it is lent: the
@@ -33,7 +33,7 @@ mod request;
 
 pub use answer::{Counts, PartialStatistics, Refusal, Resolution, Statistics};
 pub use calls::{
-    check, direct, direct_recorded, fresh, is_complete, linear, linear_recorded, lookup,
+    check, direct, direct_recorded, find_name, fresh, is_complete, linear, linear_recorded, lookup,
     replace_file, replay, shadows, stitched, stitched_recorded,
 };
 pub use replayed::{Replayed, Step, Symbol};

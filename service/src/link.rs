@@ -91,6 +91,19 @@ unsafe extern "C" {
         answer: *mut u64,
         answer_len: usize,
     );
+    pub fn pozhdaghi_find_name(
+        image: *const u8,
+        image_len: usize,
+        node: u32,
+        asked: *const u64,
+        asked_len: usize,
+        work: *mut u32,
+        work_len: usize,
+        result: *mut u32,
+        result_len: usize,
+        answer: *mut u64,
+        answer_len: usize,
+    );
     pub fn pozhdaghi_linear(
         image: *const u8,
         image_len: usize,

@@ -312,7 +312,7 @@ fn drive(
 
 // The search on a loaded graph, in a result area that is zero: the kept paths stand in its slots where the search is over, and the work area as
 // it was left. The crates above that make many searches on one graph, or ask more of one, begin here.
-fn search_kept(
+pub fn search_kept(
     index: &[u32],
     reference: u32,
     order: SearchOrder,

@@ -33,7 +33,7 @@ pub(crate) fn order(asked: &[u64]) -> SearchOrder
     SearchOrder::BreadthFirst
 }
 
-fn length(asked: &[u64]) -> Limit
+pub(crate) fn length(asked: &[u64]) -> Limit
     ensures { λ r. ⌜ r ≡ lengthAsked (now (asked .entry)) ⌝ }
 {
     limit(number(asked, 1), number(asked, 2))

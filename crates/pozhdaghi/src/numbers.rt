@@ -3,11 +3,13 @@ ghost use mathlib.Core.Path.{_≡_};
 ghost use mathlib.Core.List.{[], _∷_};
 ghost use lib.ListN.{length, getD};
 ghost use Rattle.semantics.specs.Written.{written};
-ghost use Rattle.semantics.specs.Told.{toldFlag, toldStats, toldPartialStats, toldChecked, toldReplayed, toldJudgement, toldResolution, toldLinearResolution, toldCreation, toldReplacement};
+ghost use Rattle.semantics.specs.Told.{toldFlag, toldStats, toldPartialStats};
+ghost use Rattle.semantics.specs.Told.{toldChecked, toldReplayed, toldJudgement, toldResolution, toldLinearResolution, toldCreation, toldReplacement, toldFinding};
 ghost use Rattle.told.specs.Numbers.{numbersOf};
 ghost use Rattle.pozhdaghi.specs.Written.{numbersIn};
 use semantics::answer::Checked;
 use semantics::answer::Creation;
+use semantics::answer::Finding;
 use semantics::answer::Judgement;
 use semantics::answer::LinearResolution;
 use semantics::answer::Replacement;
@@ -80,6 +82,15 @@ fn counts(files: u32, nodes: u32, edges: u32) -> Numbers
     items[2] = nodes as u64;
     items[3] = edges as u64;
     Numbers { count: 4, items }
+}
+
+fn name(reference: u32) -> Numbers
+    ensures { λ r. ⌜ numbersIn r ≡ 0 ∷ 1 ∷ reference ∷ [] ⌝ }
+{
+    let mut items = [0; MOST];
+    items[1] = 1;
+    items[2] = reference as u64;
+    Numbers { count: 3, items }
 }
 
 fn found(paths: u64, stats: SearchStats) -> Numbers
@@ -160,6 +171,18 @@ pub(crate) fn of_linear(answer: LinearResolution) -> Numbers
         LinearResolution::Done { paths, stats } => found(paths, stats),
         LinearResolution::Image(r) => of_told(refusal::image(r)),
         LinearResolution::Refused(r) => of_told(refusal::linear(r)),
+    }
+}
+
+pub(crate) fn of_finding(answer: Finding) -> Numbers
+    ensures { λ r. ⌜ numbersIn r ≡ toldFinding answer ⌝ }
+{
+    match answer {
+        Finding::Found { reference } => name(reference.0),
+        Finding::Nothing => pair(0, 0),
+        Finding::Image(r) => of_told(refusal::image(r)),
+        Finding::NotDefinition(node) => of_told(refusal::not_definition(node)),
+        Finding::Refused(r) => of_told(refusal::search(r)),
     }
 }
 

@@ -9,7 +9,7 @@ use semantics::bounds::SLOT_WORDS;
 use words::slots;
 
 // Slot `to` becomes what slot i holds. A slot that stands right is not copied.
-pub(crate) fn move_down(result: &mut [u32], i: usize, to: usize)
+pub fn move_down(result: &mut [u32], i: usize, to: usize)
     requires { ⌜ InArea slotLength i (now result) × (to ≤ i) ⌝ }
     ensures { λ _. ⌜ now (result .exit) ≡ putSlot slotLength to (slotAt slotLength i (now (result .entry))) (now (result .entry)) ⌝ }
 {
@@ -19,7 +19,7 @@ pub(crate) fn move_down(result: &mut [u32], i: usize, to: usize)
 }
 
 // The slots from `from` to before `to` become zeros.
-pub(crate) fn clear(result: &mut [u32], from: usize, to: usize)
+pub fn clear(result: &mut [u32], from: usize, to: usize)
     requires { ⌜ SlotsIn slotLength to (now result) × (from ≤ to) ⌝ }
     ensures { λ _. ⌜ now (result .exit) ≡ clearSlots slotLength from to (now (result .entry)) ⌝ }
 {

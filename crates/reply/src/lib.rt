@@ -1,9 +1,9 @@
 // The end of a search: the recorded paths without copies, and without those that another one shadows.
 // Document 01, "Answer": `from_complete`.
 mod ascending;
-mod closing_up;
+pub mod closing_up;
 pub mod copies;
 pub mod finish;
-mod lists;
+pub mod lists;
 mod rivals;
 pub mod shadowed;

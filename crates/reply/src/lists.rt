@@ -21,7 +21,7 @@ fn unmarked(word: u32) -> u32
 }
 
 // How many edges slot i holds.
-pub(crate) fn edge_count(result: &[u32], i: usize) -> usize
+pub fn edge_count(result: &[u32], i: usize) -> usize
     requires { ⌜ InArea slotLength i (now result) ⌝ }
     ensures { λ r. ⌜ r ≡ countOf slotLength (getD (now (result .entry)) (slotLength * i) 0) ⌝ }
 {

@@ -35,12 +35,12 @@ use Rattle.search_rounds.specs.Drives.{Ends}
 over-refused : (st : SearchState) (x : SearchRefusal) → SearchEnd.Over st ≡ SearchEnd.Refused x → ⊥
 over-refused st x e = let z : _≡_ {A = ℕ} 0 1 = cc in omega arith
 
-ends-over : (d : SearchEnd) (rs : List ℕ) (t : Answer SearchRefusal (State Path)) (st : SearchState) → Ends d rs t → d ≡ SearchEnd.Over st → (u : State Path) × (t ≡ ok u) × Counts st rs u
+pub ends-over : (d : SearchEnd) (rs : List ℕ) (t : Answer SearchRefusal (State Path)) (st : SearchState) → Ends d rs t → d ≡ SearchEnd.Over st → (u : State Path) × (t ≡ ok u) × Counts st rs u
 ends-over (SearchEnd.Over s) rs (ok u) st h e = let z : s ≡ st = cc in (u, refl, subst (λ (x : SearchState). Counts x rs u) z h)
 ends-over (SearchEnd.Over s) rs (refuse y) st h e = absurd h
 ends-over (SearchEnd.Refused x) rs t st h e = absurd (over-refused st x (sym e))
 
-ends-refused : (d : SearchEnd) (rs : List ℕ) (t : Answer SearchRefusal (State Path)) (x : SearchRefusal) → Ends d rs t → d ≡ SearchEnd.Refused x → t ≡ refuse x
+pub ends-refused : (d : SearchEnd) (rs : List ℕ) (t : Answer SearchRefusal (State Path)) (x : SearchRefusal) → Ends d rs t → d ≡ SearchEnd.Refused x → t ≡ refuse x
 ends-refused (SearchEnd.Over s) rs t x h e = absurd (over-refused s x e)
 ends-refused (SearchEnd.Refused y) rs (ok u) x h e = absurd h
 ends-refused (SearchEnd.Refused y) rs (refuse z) x h e = let w : y ≡ x = cc in ap (λ (v : SearchRefusal). refuse v) (sym h ∙ w)

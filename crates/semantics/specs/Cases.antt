@@ -17,6 +17,7 @@ pub mod Images
 pub mod Paths
 pub mod Searches
 pub mod Linear
+pub mod Names
 pub mod Partials
 pub mod Databases
 pub mod Stitching

@@ -14,12 +14,14 @@ use Rattle.semantics.specs.declared.answer.Resolution.{Resolution}
 use Rattle.semantics.specs.declared.answer.LinearResolution.{LinearResolution}
 use Rattle.semantics.specs.declared.answer.Creation.{Creation}
 use Rattle.semantics.specs.declared.answer.Replacement.{Replacement}
+use Rattle.semantics.specs.declared.answer.Finding.{Finding}
 use Rattle.semantics.specs.Limits.{base}
 use Rattle.semantics.specs.Answer.{Answer}
 use Rattle.semantics.specs.Graph.{Graph}
 use Rattle.semantics.specs.Image.{symbolBytes, checkImage}
 use Rattle.semantics.specs.Database.{Part, knownOwners, lookupPart}
 use Rattle.semantics.specs.Calls.{ReplayOutcome, Request, LinearRequest, FileRequest, Outcome, Change, Reply, checkCall, replayCall, completeCall, shadowsCall, directCall, linearCall, stitchedCall, freshCall, replaceCall}
+use Rattle.semantics.specs.Finding.{FindRequest, findCall}
 use Rattle.semantics.specs.Asked.{orderAsked, lengthAsked, expansionsAsked, limitsAsked}
 
 -- what a call reads of its image: an accepted graph or 1 to 5
@@ -36,6 +38,9 @@ linearRequestOf limits rs node = record { limits = limits; result = length rs; n
 
 abbrev pub fileRequestOf : SearchOrder → Limit → Limit → List ℕ → ℕ → FileRequest
 fileRequestOf order most expansions ws file = record { order = order; length = most; expansions = expansions; work = length ws; file = file }
+
+abbrev pub nameRequestOf : Limit → List ℕ → List ℕ → ℕ → FindRequest
+nameRequestOf most ws rs node = record { length = most; work = length ws; result = length rs; node = node }
 
 -- THE ENTRIES
 
@@ -62,6 +67,10 @@ linearSearch reply im r limits rs = linearCall base reply (graphIn im) (linearRe
 abbrev pub stitchedSearch : Reply → List ℕ → List ℕ → ℕ → SearchOrder → SearchLimits → List ℕ → List ℕ → Outcome Resolution
 stitchedSearch reply im words r order limits ws rs = stitchedCall base reply knownOwners (graphIn im) words (requestOf order limits ws rs r)
 
+-- a name for a definition: the image, the node, the limit on length, the work and the result area
+abbrev pub findName : List ℕ → ℕ → Limit → List ℕ → List ℕ → Outcome Finding
+findName im n most ws rs = findCall base (graphIn im) (nameRequestOf most ws rs n)
+
 abbrev pub freshDatabase : List ℕ → List ℕ → Change Creation
 freshDatabase im words = freshCall (graphIn im) words
 
@@ -82,6 +91,10 @@ linearAsked reply im r asked rs = linearSearch reply im r (limitsAsked asked) rs
 
 abbrev pub stitchedAsked : Reply → List ℕ → List ℕ → ℕ → List ℕ → List ℕ → List ℕ → Outcome Resolution
 stitchedAsked reply im words r asked ws rs = stitchedSearch reply im words r (orderAsked asked) (limitsAsked asked) ws rs
+
+-- of the numbers only those of the limit on length are read
+abbrev pub nameAsked : List ℕ → ℕ → List ℕ → List ℕ → List ℕ → Outcome Finding
+nameAsked im n asked ws rs = findName im n (lengthAsked asked) ws rs
 
 abbrev pub replaceAsked : List ℕ → ℕ → List ℕ → List ℕ → List ℕ → Change Replacement
 replaceAsked im f asked ws words = replaceFile im f (orderAsked asked) (lengthAsked asked) (expansionsAsked asked) ws words

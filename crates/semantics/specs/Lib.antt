@@ -17,6 +17,7 @@ pub mod Acceptance
 pub mod Words
 pub mod Database
 pub mod Calls
+pub mod Finding
 pub mod ReplayedPaths
 pub mod Asked
 pub mod Written

@@ -34,6 +34,8 @@ use Rattle.semantics.specs.declared.answer.Creation.{Creation}
 use Rattle.semantics.specs.declared.answer.Creation.the-variants as Creation
 use Rattle.semantics.specs.declared.answer.Replacement.{Replacement}
 use Rattle.semantics.specs.declared.answer.Replacement.the-variants as Replacement
+use Rattle.semantics.specs.declared.answer.Finding.{Finding}
+use Rattle.semantics.specs.declared.answer.Finding.the-variants as Finding
 pub mod Laws
 
 -- THE REFUSALS, row by row of document 01's table
@@ -132,6 +134,14 @@ toldReplacement (Replacement.Image r) = toldImage r
 toldReplacement (Replacement.Database r) = toldDatabase r
 toldReplacement (Replacement.Refused r) = toldPartial r
 toldReplacement Replacement.Full = 33 ∷ []
+
+-- 0, then 1 and the reference, or 0; document 02's 37 with the node
+abbrev pub toldFinding : Finding → List ℕ
+toldFinding (Finding.Found n) = 0 ∷ 1 ∷ n .0 ∷ []
+toldFinding Finding.Nothing = 0 ∷ 0 ∷ []
+toldFinding (Finding.Image r) = toldImage r
+toldFinding (Finding.NotDefinition n) = 37 ∷ n .0 ∷ []
+toldFinding (Finding.Refused r) = toldSearch r
 
 -- where a part begins, and how many words it has
 abbrev pub toldPart : Part → List ℕ

@@ -1,4 +1,5 @@
 // What the public calls answer. Document 01's number and values for each case stand in specs/Told.antt.
+use crate::graph::NodeId;
 use crate::refusal::DatabaseRefusal;
 use crate::refusal::ImageRefusal;
 use crate::refusal::LinearRefusal;
@@ -57,4 +58,13 @@ pub enum Replacement {
     Database(DatabaseRefusal),
     Refused(PartialPathRefusal),
     Full,
+}
+
+// A name for a definition: the reference whose path stands in the first result slot, or none. 10 is told as the path rules tell it; 37 has its case.
+pub enum Finding {
+    Found { reference: NodeId },
+    Nothing,
+    Image(ImageRefusal),
+    NotDefinition(NodeId),
+    Refused(SearchRefusal),
 }

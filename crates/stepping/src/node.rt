@@ -41,7 +41,7 @@ pub fn is_reference(node: Node) -> bool
 }
 
 // A record that is not there.
-pub(crate) fn is_removed(node: Node) -> bool
+pub fn is_removed(node: Node) -> bool
     ensures { λ r. ⌜ r ≡ (traits node) .removed ⌝ }
 {
     match node {

@@ -4,7 +4,7 @@ ghost use mathlib.Core.Path.{_≡_};
 ghost use Prim.Native.Nat.{_+_, _*_, _<_};
 ghost use lib.Dec.{eqb};
 ghost use lib.ListN.{length, getD};
-ghost use Rattle.semantics.specs.Graph.{fileOf, isFile, isDefinition, isExported, isStart, isEndpoint};
+ghost use Rattle.semantics.specs.Graph.{fileOf, isFile, isReference, isDefinition, isExported, isStart, isEndpoint};
 ghost use Rattle.storage.specs.Index.{FLAG, BLOCK, Blocks, cell, nodeRow, edgeRow, firstRow, nextRow, targetRow, isPlain};
 use crate::blocks;
 use semantics::graph::Edge;
@@ -134,6 +134,17 @@ pub fn is_definition(index: &[u32], n: NodeId) -> bool
 {
     match blocks::word(index, blocks::KIND, n.0) {
         kinds::POP | kinds::POP_SCOPED => is_marked(index, n),
+        _ => false,
+    }
+}
+
+// A push or a push-scoped node that is marked so.
+pub fn is_reference(index: &[u32], n: NodeId) -> bool
+    requires { ⌜ Blocks (now index) ⌝ }
+    ensures { λ r. ⌜ r ≡ isReference (nodeRow (now (index .entry)) (n .0)) ⌝ }
+{
+    match blocks::word(index, blocks::KIND, n.0) {
+        kinds::PUSH | kinds::PUSH_SCOPED => is_marked(index, n),
         _ => false,
     }
 }

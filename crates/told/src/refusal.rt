@@ -136,3 +136,10 @@ pub fn database(refusal: DatabaseRefusal) -> Told
         DatabaseRefusal::Outgrown => bare(34),
     }
 }
+
+// Document 02's 37: the node is live and no definition.
+pub fn not_definition(node: NodeId) -> Told
+    ensures { λ r. ⌜ numbersOf r ≡ 37 ∷ node .0 ∷ [] ⌝ }
+{
+    valued(37, node.0)
+}

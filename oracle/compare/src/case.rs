@@ -13,6 +13,7 @@ pub enum Call {
     DirectRecorded,
     Linear,
     LinearRecorded,
+    FindName,
     Fresh,
     ReplaceFile,
     Lookup,
@@ -34,7 +35,8 @@ impl Call {
 pub struct Case {
     pub call: Call,
     pub image: Vec<u8>,
-    /// The reference, the file or the partial path; of the left path in `shadows`.
+    /// The reference, the node to be named, the file or the partial path; of the
+    /// left path in `shadows`.
     pub number: u32,
     pub edges: Vec<u32>,
     pub right_number: u32,

@@ -18,6 +18,7 @@ use cfglib::graph::stack::{
 /// Whether the given library has what led to an answer of this number.
 pub fn has(case: &Case, number: u64) -> bool {
     match case.call {
+        Call::FindName => false,
         Call::Lookup => is_buildable(&case.words),
         Call::ReplaceFile | Call::Stitched | Call::StitchedRecorded => {
             is_answer(number) && is_buildable(&case.words)

@@ -1,5 +1,5 @@
 //! compare SEED CASES [SCENE]: the given Rust, our static library and a second
-//! implementation of document 01 on the same drawn input. With SCENE only the
+//! implementation of documents 01 and 02 on the same drawn input. With SCENE only the
 //! calls of that scene. Ends with 1 if there is a difference.
 
 mod budget;
@@ -13,6 +13,7 @@ mod given;
 mod graph;
 mod lists;
 mod load;
+mod names;
 mod ours;
 mod partials;
 mod path;

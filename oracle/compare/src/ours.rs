@@ -20,6 +20,9 @@ unsafe extern "C" {
     fn pozhdaghi_direct_recorded(image: *const u8, image_len: usize, reference: u32,
         asked: *const u64, asked_len: usize, work: *mut u32, work_len: usize,
         result: *mut u32, result_len: usize, answer: *mut u64, answer_len: usize);
+    fn pozhdaghi_find_name(image: *const u8, image_len: usize, node: u32,
+        asked: *const u64, asked_len: usize, work: *mut u32, work_len: usize,
+        result: *mut u32, result_len: usize, answer: *mut u64, answer_len: usize);
     fn pozhdaghi_linear(image: *const u8, image_len: usize, reference: u32,
         asked: *const u64, asked_len: usize,
         result: *mut u32, result_len: usize, answer: *mut u64, answer_len: usize);
@@ -79,6 +82,8 @@ fn call(c: &Case, o: &mut Outcome) {
             Call::Direct => pozhdaghi_direct(image, n, c.number, asked, asked_n,
                 work, work_n, result, result_n, answer, answer_n),
             Call::DirectRecorded => pozhdaghi_direct_recorded(image, n, c.number, asked, asked_n,
+                work, work_n, result, result_n, answer, answer_n),
+            Call::FindName => pozhdaghi_find_name(image, n, c.number, asked, asked_n,
                 work, work_n, result, result_n, answer, answer_n),
             Call::Linear => pozhdaghi_linear(image, n, c.number, asked, asked_n,
                 result, result_n, answer, answer_n),

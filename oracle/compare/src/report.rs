@@ -1,11 +1,15 @@
 //! What a run counted, and a difference shown whole.
 
+use crate::budget::{Asked, Slots};
 use crate::case::{Call, Case, Outcome};
 use crate::check::check;
 use crate::comparison::{Compared, compare};
 use crate::database::lookup;
+use crate::names::{Named, find_name};
 use crate::path::replay;
 use crate::replayed::Passage;
+use crate::search::direct;
+use crate::second::lent;
 use std::collections::BTreeMap;
 
 #[derive(Default)]
@@ -20,6 +24,8 @@ pub struct Counts {
     empty_parts: u64,
     paths: u64,
     flags: [u64; 3],
+    /// Names: all, and those of a reference behind others, those of a shadowed path.
+    names: [u64; 3],
     /// Replayed paths: all, and those with jumps, symbols, attached scopes, scopes.
     replayed: [u64; 5],
 }
@@ -41,12 +47,44 @@ impl Counts {
             self.add_replayed(case);
             return;
         }
+        if case.call == Call::FindName && compared.number == 0 {
+            self.add_name(case);
+            return;
+        }
         let is_search = !case.result.is_empty() && compared.number == 0;
         if is_search && let [_, paths, _, _, _, _, flags @ ..] = &compared.second.answer[..] {
             self.paths += paths;
             for (count, flag) in self.flags.iter_mut().zip(flags) {
                 *count += flag;
             }
+        }
+    }
+
+    fn add_name(&mut self, case: &Case) {
+        let (graph, asked) = (check(&case.image), case.meaning());
+        let graph = graph.expect("it was searched");
+        let Ok(Named {
+            name: Some((reference, path)),
+            ..
+        }) = find_name(&graph, case.number, asked.length, lent(case))
+        else {
+            return;
+        };
+        let asked = Asked {
+            depth_first: false,
+            count: None,
+            complete: None,
+            ..asked
+        };
+        let found = direct(&graph, reference, asked, Slots::ENDLESS);
+        let is_returned = found.is_ok_and(|found| found.returned().contains(&path));
+        let has = [
+            true,
+            graph.references().first() != Some(&reference),
+            !is_returned,
+        ];
+        for (count, has) in self.names.iter_mut().zip(has) {
+            *count += u64::from(has);
         }
     }
 
@@ -82,6 +120,10 @@ impl Counts {
         let [length, count, complete] = self.flags;
         println!("lookups with an empty part {}", self.empty_parts);
         println!("paths in result slots {}", self.paths);
+        let [names, behind, shadowed] = self.names;
+        println!(
+            "names found {names}: of a reference behind others {behind}, of a shadowed path {shadowed}"
+        );
         let [replayed, jumps, symbols, attached, scopes] = self.replayed;
         println!(
             "replayed paths {replayed}: with jumps {jumps}, with symbols {symbols}, \

@@ -4,7 +4,8 @@
 use crate::budget::{Asked, Budget, SLOT, Slots};
 use crate::case::{Call, Case, LONGEST_ANSWER};
 use crate::check::check;
-use crate::graph::Graph;
+use crate::graph::{Graph, Node};
+use crate::names::find_name;
 use crate::partials::compute;
 use crate::path::replay;
 use crate::random::Random;
@@ -45,6 +46,15 @@ pub fn reference(random: &mut Random, graph: &Graph) -> u32 {
     number_about(random, graph.nodes.len())
 }
 
+/// A definition, sometimes another node, sometimes no node at all.
+pub fn definition(random: &mut Random, graph: &Graph) -> u32 {
+    let definitions = graph.nodes_where(Node::is_definition);
+    if !definitions.is_empty() && random.percent(85) {
+        return *random.one_of(&definitions);
+    }
+    number_about(random, graph.nodes.len())
+}
+
 /// Below the bound, at it or far behind it, also where 16 bits would wrap.
 pub fn number_about(random: &mut Random, bound: usize) -> u32 {
     match random.below(18) {
@@ -66,7 +76,11 @@ pub fn complete(random: &mut Random, case: &mut Case) -> bool {
     };
     case.asked = numbers(asked);
     let mut needs = needs(case);
-    if needs.is_endless {
+    if needs.is_endless && case.call == Call::FindName {
+        asked.length = Some(random.below(5) as u64);
+        case.asked = numbers(asked);
+        needs = self::needs(case);
+    } else if needs.is_endless {
         asked.count = Some(random.below(300) as u64);
         case.asked = numbers(asked);
         needs = self::needs(case);
@@ -134,6 +148,9 @@ fn oddly_written(random: &mut Random, numbers: &[u64]) -> Vec<u64> {
 }
 
 fn needs(case: &Case) -> Needs {
+    if case.call == Call::FindName {
+        return needs_of_name(case);
+    }
     let outcome = if case.call == Call::ReplaceFile {
         let graph = check(&case.image);
         let computed = |graph: Graph| compute(&graph, case.number, case.meaning(), usize::MAX);
@@ -147,6 +164,35 @@ fn needs(case: &Case) -> Needs {
             is_endless: refusal[0] == 36,
             ..GUESS
         },
+    }
+}
+
+/// What the hungriest of the searches needs; a node that is none or no definition
+/// needs nothing.
+fn needs_of_name(case: &Case) -> Needs {
+    let length = case.meaning().length;
+    let named =
+        check(&case.image).and_then(|graph| find_name(&graph, case.number, length, Slots::ENDLESS));
+    let searched = match named {
+        Ok(named) => named.searched,
+        Err(refusal) => {
+            return Needs {
+                is_endless: refusal[0] == 36,
+                ..GUESS
+            };
+        }
+    };
+    let most = |need: fn(&Needs) -> usize| {
+        let each = searched.iter().map(|budget| need(&needs_of(budget)));
+        each.max().unwrap_or(0)
+    };
+    Needs {
+        longest: most(|needs| needs.longest),
+        expanded: most(|needs| needs.expanded),
+        complete: most(|needs| needs.complete),
+        kept: most(|needs| needs.kept),
+        waiting: most(|needs| needs.waiting),
+        is_endless: false,
     }
 }
 

@@ -32,7 +32,7 @@ pub fn scene(random: &mut Random) -> Vec<Case> {
     cases
 }
 
-/// Direct and linear searches, replays, and what is judged of paths.
+/// Direct and linear searches, names, replays, and what is judged of paths.
 fn searches(random: &mut Random, graph: &Graph) -> Vec<Case> {
     let image = graph.image();
     let mut cases = Vec::new();
@@ -41,6 +41,7 @@ fn searches(random: &mut Random, graph: &Graph) -> Vec<Case> {
         cases.extend(search(random, graph, &image, call, &[]));
     }
     for _ in 0..4 {
+        cases.extend(name(random, graph, &image));
         cases.push(judgement(random, graph, &image));
         cases.push(replay(random, graph, &image));
     }
@@ -58,6 +59,13 @@ fn search(
     let mut case = Case::new(call, image);
     case.number = requests::reference(random, graph);
     case.words = words.to_vec();
+    requests::complete(random, &mut case).then_some(case)
+}
+
+/// None for one with a search without end within reason.
+fn name(random: &mut Random, graph: &Graph, image: &[u8]) -> Option<Case> {
+    let mut case = Case::new(Call::FindName, image);
+    case.number = requests::definition(random, graph);
     requests::complete(random, &mut case).then_some(case)
 }
 
@@ -211,9 +219,10 @@ fn other_call(random: &mut Random, graph: &Graph, image: &[u8]) -> Option<Case> 
     if random.percent(30) {
         slots::spoil(random, &mut words);
     }
-    match random.below(7) {
+    match random.below(8) {
         0 => Some(judgement(random, graph, image)),
         6 => Some(replay(random, graph, image)),
+        7 => name(random, graph, image),
         1 => Some(fresh(random, image, words.len())),
         2 => {
             let file = number_about(random, graph.files);

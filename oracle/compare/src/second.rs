@@ -1,9 +1,10 @@
-//! A call answered by the second implementation of document 01.
+//! A call answered by the second implementation of documents 01 and 02.
 
 use crate::budget::{SLOT, Slots};
 use crate::case::{Call, Case, Outcome};
 use crate::check::{Refusal, check};
 use crate::database::{check_database, fresh, lookup, partial_paths, replace_file};
+use crate::names::find_name;
 use crate::path::replay;
 use crate::search::{Found, direct, linear, stitched};
 
@@ -24,6 +25,7 @@ fn answered(case: &Case) -> Result<Outcome, Refusal> {
         | Call::LinearRecorded
         | Call::Stitched
         | Call::StitchedRecorded => searched(case),
+        Call::FindName => named(case),
         Call::Fresh => created(case),
         Call::ReplaceFile => replaced(case),
         Call::Lookup => Ok(looked_up(case)),
@@ -79,12 +81,16 @@ pub fn found(case: &Case, slots: Slots) -> Result<Found, Refusal> {
     }
 }
 
-fn searched(case: &Case) -> Result<Outcome, Refusal> {
-    let slots = Slots {
+/// The whole slots of both areas.
+pub fn lent(case: &Case) -> Slots {
+    Slots {
         waiting: case.work.len() / SLOT,
         results: case.result.len() / SLOT,
-    };
-    let found = found(case, slots)?;
+    }
+}
+
+fn searched(case: &Case) -> Result<Outcome, Refusal> {
+    let found = found(case, lent(case))?;
     let paths = if case.call.is_recorded() {
         found.recorded.clone()
     } else {
@@ -93,6 +99,18 @@ fn searched(case: &Case) -> Result<Outcome, Refusal> {
     let told = [vec![0, paths.len() as u64], found.told()].concat();
     let mut outcome = Outcome::new(case, told);
     outcome.put_paths(&paths.into_iter().map(|path| path.edges).collect::<Vec<_>>());
+    Ok(outcome)
+}
+
+/// "The path is put in the first result slot, all else zero."
+fn named(case: &Case) -> Result<Outcome, Refusal> {
+    let graph = check(&case.image)?;
+    let named = find_name(&graph, case.number, case.meaning().length, lent(case))?;
+    let Some((reference, path)) = named.name else {
+        return Ok(Outcome::new(case, vec![0, 0]));
+    };
+    let mut outcome = Outcome::new(case, vec![0, 1, reference.into()]);
+    outcome.put_paths(&[path.edges]);
     Ok(outcome)
 }
 

@@ -11,8 +11,9 @@ use Rattle.semantics.specs.declared.answer.Resolution.{Resolution}
 use Rattle.semantics.specs.declared.answer.LinearResolution.{LinearResolution}
 use Rattle.semantics.specs.declared.answer.Creation.{Creation}
 use Rattle.semantics.specs.declared.answer.Replacement.{Replacement}
+use Rattle.semantics.specs.declared.answer.Finding.{Finding}
 use Rattle.semantics.specs.Limits.{Bounds, base, slotWords, recordWords}
-use Rattle.semantics.specs.Told.{toldChecked, toldReplayed, toldJudgement, toldResolution, toldLinearResolution, toldCreation, toldReplacement}
+use Rattle.semantics.specs.Told.{toldChecked, toldReplayed, toldJudgement, toldResolution, toldLinearResolution, toldCreation, toldReplacement, toldFinding}
 use Rattle.semantics.specs.Path.{Path}
 use Rattle.semantics.specs.Enumeration.{State}
 use Rattle.semantics.specs.PartialPaths.{Slot, dead, slot}
@@ -21,6 +22,7 @@ use Rattle.semantics.specs.Image.{symbolBytes, checkImage}
 use Rattle.semantics.specs.Words.{zeros, listsIn}
 use Rattle.semantics.specs.Database.{slotsIn, knownOwners, lookupPart, wordsOf}
 use Rattle.semantics.specs.Calls.{Request, LinearRequest, FileRequest, Outcome, Change, ReplayedPath, checkCall, replayCall, completeCall, shadowsCall, directCall, stitchedCall, linearCall, freshCall, replaceCall}
+use Rattle.semantics.specs.Finding.{FindRequest, findCall}
 use Rattle.semantics.specs.Cases.Graphs.{joined}
 
 -- bounds other than the base's, so that few edges or expansions reach them
@@ -146,6 +148,33 @@ linearAreas q im = toldLinearResolution ((linear base q im) .answer) ∷ (linear
 unfoldable pub linearly : Limit → Limit → Limit → List ℕ → List (List ℕ)
 unfolding linearIn
 linearly length count complete im = linearIn base 2 length count complete 128 im
+
+-- A NAME
+
+-- for a node, with so many words in the areas
+abbrev pub nameRequest : Limit → ℕ → ℕ → ℕ → FindRequest
+nameRequest length work result node = record { length = length; work = work; result = result; node = node }
+
+unfoldable pub naming : Bounds → FindRequest → List ℕ → Outcome Finding
+unfolding findCall checkImage
+naming bd q im = findCall bd (checkImage symbolBytes im) q
+
+-- with so many whole slots: the answer's number and values, then the lists in the used result slots
+unfoldable pub namingIn : Bounds → Limit → ℕ → ℕ → List ℕ → ℕ → List (List ℕ)
+unfolding naming listsIn
+namingIn bd length waiting results im node =
+    let o = naming bd (nameRequest length (slotWords bd * waiting) (slotWords bd * results) node) im in
+    toldFinding (o .answer) ∷ listsIn (slotWords bd) (o .result)
+
+-- with 8 of each, and no limit
+unfoldable pub namingOf : List ℕ → ℕ → List (List ℕ)
+unfolding namingIn
+namingOf im node = namingIn base Absent 8 8 im node
+
+-- every word of both areas
+unfoldable pub namingAreas : FindRequest → List ℕ → List (List ℕ)
+unfolding naming
+namingAreas q im = toldFinding ((naming base q im) .answer) ∷ (naming base q im) .work ∷ (naming base q im) .result ∷ []
 
 -- THE DATABASE
 

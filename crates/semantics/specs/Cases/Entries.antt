@@ -16,14 +16,15 @@ use Rattle.semantics.specs.Limits.{base, maxEdges, slotLength, recordLen
 use Rattle.semantics.specs.Words.{zeros}
 use Rattle.semantics.specs.Recorded.{returned, recorded}
 use Rattle.semantics.specs.Image.{symbolBytes, checkImage}
-use Rattle.semantics.specs.Told.{toldChecked, toldReplayed, toldJudgement, toldResolution, toldLinearResolution, toldCreation, toldReplacement, toldPart}
+use Rattle.semantics.specs.Told.{toldChecked, toldReplayed, toldJudgement, toldResolution, toldLinearResolution, toldCreation, toldReplacement, toldFinding, toldPart}
 use Rattle.semantics.specs.Database.{knownOwners, lookupPart}
 use Rattle.semantics.specs.Calls.{edge, jump, noPath, checkCall, replayCall, completeCall, shadowsCall, directCall, linearCall, stitchedCall, freshCall, replaceCall}
+use Rattle.semantics.specs.Finding.{findCall}
 use Rattle.semantics.specs.Asked.{orderAsked, limitsAsked, lengthAsked, expansionsAsked}
 use Rattle.semantics.specs.Written.{written}
 use Rattle.semantics.specs.PathWords.{pathWords}
 use Rattle.semantics.specs.ReplayedPaths.{scopesFrom, symbolsFrom, passagesTo, readPath}
-use Rattle.semantics.specs.Entries.{checkOf, replayOf, completeOf, shadowsOf, lookupOf, freshDatabase, directAsked, linearAsked, stitchedAsked, replaceAsked}
+use Rattle.semantics.specs.Entries.{checkOf, replayOf, completeOf, shadowsOf, lookupOf, freshDatabase, directAsked, linearAsked, stitchedAsked, nameAsked, replaceAsked}
 use Rattle.semantics.specs.Cases.Rows.{Row, _gives_, Agreed}
 use Rattle.semantics.specs.Cases.Graphs.{imageA, imageB}
 use Rattle.semantics.specs.Cases.Asked.{firstFiled}
@@ -95,7 +96,7 @@ writing-cases = refl
 
 -- EACH ENTRY: its arguments in their places, every number of what is asked another one
 pub entered : List (Row (List ℕ))
-unfolding checkCall replayCall completeCall shadowsCall directCall linearCall stitchedCall freshCall replaceCall lookupPart checkImage firstFiled returned recorded
+unfolding checkCall replayCall completeCall shadowsCall directCall linearCall stitchedCall findCall freshCall replaceCall lookupPart checkImage firstFiled returned recorded
 entered =
     (toldChecked (checkOf imageA) gives 0 ∷ 1 ∷ 6 ∷ 3 ∷ [])
     ∷ (toldReplayed (replayOf imageA 2 (0 ∷ 2 ∷ []) .answer) gives 15 ∷ 5 ∷ [])
@@ -113,6 +114,12 @@ entered =
     ∷ (toldLinearResolution (linearAsked returned imageA 2 (9 ∷ 1 ∷ 1 ∷ []) (zeros slotLength) .answer) gives 0 ∷ 0 ∷ 2 ∷ 0 ∷ 0 ∷ 0 ∷ 1 ∷ 0 ∷ 0 ∷ [])
     ∷ (toldResolution (stitchedAsked returned imageA (firstFiled imageA) 2 [] (zeros (8 * slotLength)) (zeros (8 * slotLength)) .answer) gives 0 ∷ 1 ∷ 4 ∷ 2 ∷ 2 ∷ 0 ∷ 0 ∷ 0 ∷ 0 ∷ [])
     ∷ (toldResolution (stitchedAsked returned imageA (9 ∷ 8 ∷ 1 ∷ 0 ∷ []) 2 [] (zeros 3) (zeros 5) .answer) gives 35 ∷ [])
+    -- a name: of what is asked the limit on length alone; the node, then the area that waits and the one that keeps
+    ∷ (toldFinding (nameAsked imageA 4 (9 ∷ 1 ∷ 2 ∷ 1 ∷ 0 ∷ 1 ∷ 0 ∷ []) (zeros (8 * slotLength)) (zeros (8 * slotLength)) .answer) gives 0 ∷ 1 ∷ 2 ∷ [])
+    ∷ (toldFinding (nameAsked imageA 4 (0 ∷ 1 ∷ 1 ∷ []) (zeros (8 * slotLength)) (zeros (8 * slotLength)) .answer) gives 0 ∷ 0 ∷ [])
+    ∷ (toldFinding (nameAsked imageA 3 [] (zeros slotLength) (zeros slotLength) .answer) gives 37 ∷ 3 ∷ [])
+    ∷ (toldFinding (nameAsked imageB 4 [] (zeros slotLength) (zeros (8 * slotLength)) .answer) gives 31 ∷ [])
+    ∷ (toldFinding (nameAsked imageB 4 [] (zeros (8 * slotLength)) (zeros slotLength) .answer) gives 32 ∷ [])
     ∷ (freshDatabase imageA (9 ∷ 9 ∷ 9 ∷ 9 ∷ []) .database gives 0 ∷ 6 ∷ 1 ∷ 0 ∷ [])
     ∷ (toldCreation (freshDatabase imageA (9 ∷ 9 ∷ []) .answer) gives 35 ∷ [])
     -- a replacement of file 0: unlimited, with a length limit of 1, with an expansion limit of 2; of a file that is none

@@ -1,6 +1,6 @@
 -- An instance of demand 3: all its premises hold of graph C and a database that was filed by the public calls.
--- So the demand is not empty, and its conclusion there is what document 01 says of C.
-use Prim.Native.Nat.{_+_, _*_}
+-- So the demand is not empty, and its conclusion there is what document 01 says of C. Likewise what is said of names (document 02, order 1).
+use Prim.Native.Nat.{ℕ, _+_, _*_}
 use native.Mathlib.Omega.{arith}
 use mathlib.Core.Path.{_≡_, refl}
 use mathlib.Core.Bool.{true, false}
@@ -9,15 +9,20 @@ use Rattle.semantics.specs.declared.graph.Node.the-variants as N
 use Rattle.semantics.specs.declared.search.Limit.the-variants.{Absent}
 use Rattle.semantics.specs.declared.search.SearchOrder.the-variants.{BreadthFirst}
 use Rattle.semantics.specs.Limits.{base, slotLength, recordLength}
-use Rattle.semantics.specs.Graph.{fileId, Graph}
+use Rattle.semantics.specs.Answer.{ok}
+use Rattle.semantics.specs.Graph.{fileId, Graph, viewOf, isReference}
+use Rattle.semantics.specs.Path.{Path}
+use Rattle.semantics.specs.Enumeration.{State}
 use Rattle.semantics.specs.Recorded.{recorded}
 use Rattle.semantics.specs.Image.{symbolBytes, checkImage}
 use Rattle.semantics.specs.Words.{zeros}
 use Rattle.semantics.specs.Calls.{Request, directCall, stitchedCall, freshCall, replaceCall}
 use Rattle.semantics.specs.Calls.Filing.{Filed, begun, refiled}
 use Rattle.semantics.specs.Calls.Whole.{Premises, filed-premise, Refiling}
-use Rattle.semantics.specs.Cases.Graphs.{imageA, imageC, live}
-use Rattle.semantics.specs.Cases.Asked.{request, firstFiled, replacing, freshly}
+use Rattle.semantics.specs.Finding.{Name, FindRequest, findCall}
+use Rattle.semantics.specs.Finding.Laws.{Unnamed, Lowest, searchBy, nothing-answered, found-answered}
+use Rattle.semantics.specs.Cases.Graphs.{imageA, graphA, imageC, live}
+use Rattle.semantics.specs.Cases.Asked.{request, nameRequest, firstFiled, replacing, freshly}
 
 -- DEMAND 3 HAS INSTANCES: its premises hold together of C, whose file was filed into a fresh database of 8 slots
 abbrev pub askedC : Request
@@ -52,16 +57,8 @@ premises-c = record {
 }
 
 -- THE DAILY REFILING HAS ONE TOO: a database that was filed on C, and then its file replaced on A
-graphA : Graph
-graphA =
-    record {
-      files = 1;
-      nodes = N.Root ∷ N.JumpToScope ∷ N.Push (fileId 0) 7 true ∷ N.Scope (fileId 0) true ∷ N.Pop (fileId 0) 7 true ∷ N.Pop (fileId 0) 8 true ∷ [];
-      edges = live 2 3 0 ∷ live 3 4 0 ∷ live 3 5 1 ∷ [];
-    }
-
 pub refiling-a : Refiling symbolBytes base imageA (firstFiled imageC) ((replacing imageA 0 (firstFiled imageC)) .database) askedC askedC
-unfolding checkImage graphA firstFiled replacing freshly freshCall replaceCall directCall stitchedCall recorded
+unfolding checkImage firstFiled replacing freshly freshCall replaceCall directCall stitchedCall recorded
 refiling-a = record {
   graph = graphA;
   accepted = refl;
@@ -73,3 +70,15 @@ refiling-a = record {
   direct-finished = record { paths = 1; stats = record { expanded = 3; complete = 1; rejected = 1; cycles = 0; lengthLimited = false; countLimited = false; completeLimited = false }; answered = refl; uncounted = refl; uncut = refl };
   stitched-finished = record { paths = 1; stats = record { expanded = 4; complete = 2; rejected = 2; cycles = 0; lengthLimited = false; countLimited = false; completeLimited = false }; answered = refl; uncounted = refl; uncut = refl };
 }
+
+-- WHAT IS SAID OF NAMES HAS INSTANCES: on A node 5 has no name, and node 4 has one
+abbrev onA : ℕ → FindRequest
+onA node = nameRequest Absent (8 * slotLength) (8 * slotLength) node
+
+pub a-unnamed : (r : ℕ) → isReference ((viewOf graphA) .node r) ≡ true → ((s : State Path) × (searchBy base graphA (onA 5) r ≡ ok s)) × Unnamed base Absent (viewOf graphA) 5 r
+unfolding findCall viewOf
+a-unnamed = nothing-answered base graphA (onA 5) refl refl refl
+
+pub a-named : (m : Name) × (m .reference ≡ 2) × Lowest base Absent (viewOf graphA) 4 m
+unfolding findCall viewOf
+a-named = let f = found-answered base graphA (onA 4) refl refl 2 refl in (f .0, f .1, f .3)

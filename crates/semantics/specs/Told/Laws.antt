@@ -36,9 +36,11 @@ use Rattle.semantics.specs.declared.answer.Creation.{Creation}
 use Rattle.semantics.specs.declared.answer.Creation.the-variants as Creation
 use Rattle.semantics.specs.declared.answer.Replacement.{Replacement}
 use Rattle.semantics.specs.declared.answer.Replacement.the-variants as Replacement
+use Rattle.semantics.specs.declared.answer.Finding.{Finding}
+use Rattle.semantics.specs.declared.answer.Finding.the-variants as Finding
 use Rattle.semantics.specs.Lists.{or, pick}
 use Rattle.semantics.specs.Graph.{nodeId, edgeId, fileId}
-use Rattle.semantics.specs.Told.{toldFlag, toldImage, toldPath, toldReplayRefusal, toldSearch, toldLinear, toldPartial, toldDatabase, toldStats, toldPartialStats, toldChecked, toldReplayed, toldJudgement, toldResolution, toldLinearResolution, toldCreation, toldReplacement}
+use Rattle.semantics.specs.Told.{toldFlag, toldImage, toldPath, toldReplayRefusal, toldSearch, toldLinear, toldPartial, toldDatabase, toldStats, toldPartialStats, toldChecked, toldReplayed, toldJudgement, toldResolution, toldLinearResolution, toldCreation, toldReplacement, toldFinding}
 
 -- what can be read back is told without loss
 told-alike : {A : Type 0} (told : A → List ℕ) (read : List ℕ → A) → ((a : A) → read (told a) ≡ a) → (a b : A) → told a ≡ told b → a ≡ b
@@ -318,3 +320,39 @@ linear-never-31 (Linear.MultipleEdges n) = refl
 linear-never-31 Linear.TooLong = refl
 linear-never-31 Linear.NoResultSlot = refl
 linear-never-31 Linear.TooManyExpansions = refl
+
+-- 37 is no number of a search's refusal
+not-37 : (r : SearchRefusal) → eqb (number (toldSearch r)) 37 ≡ false
+not-37 (Search.Path (Path.UnknownNode n)) = refl
+not-37 (Search.Path (Path.NotReference n)) = refl
+not-37 (Search.Path (Path.UnknownEdge e)) = refl
+not-37 (Search.Path (Path.IncorrectSource x y)) = refl
+not-37 (Search.Path (Path.EmptySymbolStack n)) = refl
+not-37 (Search.Path (Path.IncorrectPoppedSymbol n)) = refl
+not-37 (Search.Path (Path.UnexpectedAttachedScopes n)) = refl
+not-37 (Search.Path (Path.MissingAttachedScopes n)) = refl
+not-37 (Search.Path (Path.EmptyScopeStack n)) = refl
+not-37 (Search.Path (Path.UnknownAttachedScope n)) = refl
+not-37 Search.TooLong = refl
+not-37 Search.NoWaitingSlot = refl
+not-37 Search.NoResultSlot = refl
+not-37 Search.TooManyExpansions = refl
+
+abbrev readFound : List ℕ → Finding
+readFound t = pick (eqb (value 0 t) 1) (Finding.Found (nodeId (value 1 t))) Finding.Nothing
+
+abbrev readUnfound : List ℕ → Finding
+readUnfound t = pick (eqb (number t) 37) (Finding.NotDefinition (nodeId (value 0 t))) (Finding.Refused (readSearch t))
+
+abbrev readFinding : List ℕ → Finding
+readFinding = readAnswer readFound Finding.Image readUnfound
+
+finding-back : (a : Finding) → readFinding (toldFinding a) ≡ a
+finding-back (Finding.Found n) = refl
+finding-back Finding.Nothing = refl
+finding-back (Finding.Image r) = image-answer readFound Finding.Image readUnfound r
+finding-back (Finding.NotDefinition n) = refl
+finding-back (Finding.Refused r) = let k = search-back r in rw (k .image, not-37 r) (ap Finding.Refused (k .same))
+
+pub finding-alike : (a b : Finding) → toldFinding a ≡ toldFinding b → a ≡ b
+finding-alike = told-alike toldFinding readFinding finding-back

@@ -19,7 +19,7 @@ use Rattle.semantics.specs.declared.graph.Edge.the-variants as E
 use Rattle.semantics.specs.Bytes.{signed}
 use Rattle.semantics.specs.Lists.{pick, or, has}
 use Rattle.semantics.specs.Lists.Laws.{or-true, and-true}
-use Rattle.semantics.specs.Graph.{nodeId, fileId, fileOf, isFile, isDefinition, isExported, isStart, isEndpoint}
+use Rattle.semantics.specs.Graph.{nodeId, fileId, fileOf, isFile, isReference, isDefinition, isExported, isStart, isEndpoint}
 use Rattle.semantics.specs.Image.{firstRecord, nodesOf, edgesOf}
 pub use Rattle.image.specs.Index.Laws.{cell-out, cell-same, cell-other}
 use Rattle.storage.specs.Index.{BLOCK, KIND, FLAG, FILE, SYMBOL, SCOPE, SOURCE, TARGET, PRECEDENCE, INDEX, FEW, SMALL, cell, nodeOf, edgeOf, nodeRow, edgeRow, targetRow, isPlain, Fresh, Takes, isSmall}
@@ -214,6 +214,12 @@ module _ (l : List ℕ) (n : ℕ) where
   definition-row =
       by-kind (λ k x. pick (has k (5 ∷ 7 ∷ [])) (eqb (cell l FLAG n) 1) false ≡ isDefinition x) l n
       refl refl refl refl refl refl refl refl refl (λ k h. rw (other k 5 h (omega arith), other k 7 h (omega arith)))
+
+  pub reference-row : marked (4 ∷ 6 ∷ []) false l n ≡ isReference (nodeRow l n)
+  unfolding has
+  reference-row =
+      by-kind (λ k x. pick (has k (4 ∷ 6 ∷ [])) (eqb (cell l FLAG n) 1) false ≡ isReference x) l n
+      refl refl refl refl refl refl refl refl refl (λ k h. rw (other k 4 h (omega arith), other k 6 h (omega arith)))
 
   pub plain-row : has (cell l KIND n) (1 ∷ 3 ∷ []) ≡ isPlain (nodeRow l n)
   unfolding has
