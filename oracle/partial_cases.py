@@ -39,7 +39,8 @@ where nothing is refused, then
 - behind a refusal its values;
 - behind 0 of a replaced file how many paths were expanded, were found and were
   cut as cycles, each as two numbers, the high one first; the flags of the
-  limits on length and path count, 1 or 0;
+  limits on length and path count, 1 or 0; how many routes ever waited
+  together, of which the Rust knows nothing;
 - in either case what the call altered in the database, and how many words it
   has: each run of altered words that became the same word as the place of its
   first, how many they are, and the word. A word in no run is as before;
@@ -269,7 +270,8 @@ class CaseList:
         self.compare_replaced(asked, found, after)
         self.flags["".join(map(str, found.flags))] += 1
         self.paths[min(len(found.paths), 10)] += 1
-        return [0] + [half for count in found.counts for half in wide(count)] + found.flags, after
+        told = [0] + [half for count in found.counts for half in wide(count)] + found.flags
+        return told + [found.most_waiting], after
 
     def replace(self, file, order="b", length=None, count=None, work=20 * SLOT):
         """A file replaced; the work area is given in words."""

@@ -35,7 +35,8 @@ number, 0 where nothing is refused, then
 - behind a refusal its values;
 - behind 0 the number of paths, and how many were expanded, were complete, were
   rejected and were cut as cycles, each as two numbers, the high one first; the
-  flags of the limits on length, path count and complete paths, 1 or 0;
+  flags of the limits on length, path count and complete paths, 1 or 0; how many
+  paths ever waited together, of which the Rust knows nothing;
 - in either case each word of the result area after the call that is not 0, as
   its place and the word, and the length of the area; and the same of the work
   area, in direct search.
@@ -139,12 +140,17 @@ def rust_told(answer):
 
 
 def model_told(graph, request, recorded):
-    """The same of searches.py."""
+    """The same of searches.py, and how many paths ever waited together."""
     try:
         found = searched(graph, request)
     except Refused as refusal:
         return refusal.told
-    return found.counts, found.flags, edge_lists(found, recorded)
+    return found.counts, found.flags, edge_lists(found, recorded), found.most_waiting
+
+
+def as_rust(told):
+    """Without how many waited, which the Rust does not count."""
+    return told[:3] if isinstance(told, tuple) else told
 
 
 class CaseList:
@@ -180,7 +186,7 @@ class CaseList:
         limits = map(limit_word, (request.length, request.count, request.complete))
         asked = f"{kind} {request.reference} {request.order} {' '.join(limits)}"
         rust = rust_told(self.oracle.ask(asked))
-        model = model_told(self.graph, request.unbounded(), kind.islower())
+        model = as_rust(model_told(self.graph, request.unbounded(), kind.islower()))
         if rust != model:
             raise ValueError(f"{self.graph} {asked}: {rust} by the Rust, {model} by searches.py")
         self.compared += 1
@@ -192,10 +198,11 @@ class CaseList:
             self.compare(kind, request)
             told = model_told(self.graph, request, kind.islower())
         if isinstance(told, tuple):
-            counts, flags, paths = told
+            counts, flags, paths, waited = told
             self.flags["".join(map(str, flags))] += 1
             self.paths[min(len(paths), 10)] += 1
             told = [0] + [half for count in [len(paths)] + counts for half in wide(count)] + flags
+            told.append(waited)
         self.numbers[kind][told[0]] += 1
         areas = area_told(area(paths, result))
         return told + areas + ([] if request.linear else area_told([0] * work))
@@ -476,7 +483,7 @@ def add_passed_twice(cases):
     for graph, wanted in ((ONCE_ROUND, ([6, 1, 1, 1], [0, 0, 0], [[0, 1, 2, 3, 4]])),
                           (ON_FIRST, ([6, 1, 1, 1], [0, 0, 0], [[0, 2, 3, 1, 4]])),
                           (ON_TWICE, [20, 3])):
-        if model_told(graph, Request(2, True), False) != wanted:
+        if as_rust(model_told(graph, Request(2, True), False)) != wanted:
             raise ValueError(f"{graph}: not {wanted}")
         cases.load(graph)
         cases.every(2)

@@ -77,8 +77,8 @@ from path_cases import (BESIDE_JUMPS, CHAINS, LAST, LOOPS, PRECEDENCES, RULES,
 from refusals import Refused, checked
 from search_cases import (FAN, FILLS, SCOPED, SLOT, TWICE_COMPLETE, TWO_LOOPS,
                           any_area, any_limit, any_reference, area, area_told,
-                          around, at_end, at_two_ends, chain, edge_lists,
-                          limit_bytes, limit_word, rust_told, wide)
+                          around, as_rust, at_end, at_two_ends, chain,
+                          edge_lists, limit_bytes, limit_word, rust_told, wide)
 from searches import MOST_EDGES, Request, direct
 from stitched import stitched
 from stored_lists import MOST_NUMBERS, write_list
@@ -93,13 +93,13 @@ MANY = 1_000
 
 
 def model_told(graph, words, request, recorded):
-    """Counts, flags and edge lists of stitched.py, or the refusal."""
+    """Counts, flags, edge lists and how many ever waited of stitched.py, or the refusal."""
     try:
         check_database(graph, words)
         found = stitched(graph, slots(words), request)
     except Refused as refusal:
         return refusal.told
-    return found.counts, found.flags, edge_lists(found, recorded)
+    return found.counts, found.flags, edge_lists(found, recorded), found.most_waiting
 
 
 def all_filed(graph, records, limits=(None, None)):
@@ -172,7 +172,7 @@ class CaseList:
         limits = map(limit_word, (request.length, request.count, request.complete))
         asked = f"{kind} {request.reference} {request.order} {' '.join(limits)}"
         rust = rust_told(self.oracle.ask_all([database_request(self.words), asked])[1])
-        model = model_told(self.graph, self.words, request.unbounded(), kind.islower())
+        model = as_rust(model_told(self.graph, self.words, request.unbounded(), kind.islower()))
         if rust != model:
             raise ValueError(f"{self.graph} {asked}: {rust} by the Rust, {model} by stitched.py")
         self.compared += 1
@@ -185,11 +185,12 @@ class CaseList:
                 self.compare(kind, request)
             told = model_told(self.graph, self.words, request, kind.islower())
         if isinstance(told, tuple):
-            counts, flags, paths = told
+            counts, flags, paths, waited = told
             self.flags["".join(map(str, flags))] += 1
             self.paths[min(len(paths), 10)] += 1
             self.copies += kind == "s" and flags[2] == 0 and counts[1] > len(paths)
             told = [0] + [half for count in [len(paths)] + counts for half in wide(count)] + flags
+            told.append(waited)
         self.numbers[kind][told[0]] += 1
         return told + area_told(area(paths, result)) + area_told([0] * work)
 

@@ -1,8 +1,9 @@
 //! What the calls answer, from the numbers that the library writes: 0 and the
 //! values of a call that is not refused, or the refusal's number and values.
 
-/// The longest answer: 0, the number of paths, four counts and three flags.
-pub(crate) const ANSWER: usize = 9;
+/// The longest answer: 0, the number of paths, four counts, three flags and the
+/// waiting figure.
+pub(crate) const ANSWER: usize = 10;
 
 /// A refusal of document 01: its number, and the values returned with it, 0
 /// where it has fewer than two.
@@ -30,6 +31,10 @@ pub struct Statistics {
     pub length_limited: bool,
     pub count_limited: bool,
     pub complete_limited: bool,
+    /// How many paths ever waited together: with as many waiting slots the same
+    /// search gives the same answer, with fewer it is 31. 0 of a linear search,
+    /// in which nothing waits.
+    pub waited: u64,
 }
 
 /// A search that is over: how many paths stand in the result slots.
@@ -48,6 +53,8 @@ pub struct PartialStatistics {
     pub cycles: u64,
     pub length_limited: bool,
     pub count_limited: bool,
+    /// As of a search.
+    pub waited: u64,
 }
 
 fn refused(answer: &[u64; ANSWER]) -> Option<Refusal> {
@@ -79,7 +86,7 @@ pub(crate) fn done(answer: &[u64; ANSWER]) -> Result<(), Refusal> {
 }
 
 pub(crate) fn resolution(answer: &[u64; ANSWER]) -> Result<Resolution, Refusal> {
-    let &[_, paths, expanded, complete, rejected, cycles, length, count, kept] = answer;
+    let &[_, paths, expanded, complete, rejected, cycles, length, count, kept, waited] = answer;
     let statistics = Statistics {
         expanded,
         complete,
@@ -88,6 +95,7 @@ pub(crate) fn resolution(answer: &[u64; ANSWER]) -> Result<Resolution, Refusal> 
         length_limited: length != 0,
         count_limited: count != 0,
         complete_limited: kept != 0,
+        waited,
     };
     refused(answer).map_or(Ok(Resolution { paths, statistics }), Err)
 }
@@ -99,13 +107,14 @@ pub(crate) fn name(answer: &[u64; ANSWER]) -> Result<Option<u32>, Refusal> {
 }
 
 pub(crate) fn replacement(answer: &[u64; ANSWER]) -> Result<PartialStatistics, Refusal> {
-    let &[_, expanded, found, cycles, length, count, ..] = answer;
+    let &[_, expanded, found, cycles, length, count, waited, ..] = answer;
     let statistics = PartialStatistics {
         expanded,
         found,
         cycles,
         length_limited: length != 0,
         count_limited: count != 0,
+        waited,
     };
     refused(answer).map_or(Ok(statistics), Err)
 }

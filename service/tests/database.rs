@@ -59,11 +59,12 @@ fn one_file_of_two() {
     let both: [Slot; 2] = [Some((1, 3, 3, &[1])), Some((0, 2, 2, &[0]))];
     for (file, used) in [(1, 1), (0, 2)] {
         let replaced = pozhdaghi::replace_file(&image, file, &request, &mut slots(4), &mut words);
-        // root, the scope, its loop; the loop is cut once
+        // root, the scope, its loop; the loop is cut once; root and the scope wait
         let statistics = PartialStatistics {
             expanded: 3,
             found: 1,
             cycles: 1,
+            waited: 2,
             ..PartialStatistics::default()
         };
         assert_eq!(replaced, Ok(statistics));
@@ -95,18 +96,21 @@ fn limits() {
     let done = PartialStatistics {
         expanded: 8,
         found: 5,
+        waited: 4,
         ..PartialStatistics::default()
     };
     let short = PartialStatistics {
         expanded: 6,
         found: 3,
         length_limited: true,
+        waited: 3,
         ..done
     };
     let few = PartialStatistics {
         expanded: 2,
         found: 1,
         count_limited: true,
+        waited: 3,
         ..done
     };
     assert_eq!(counted(None, None), done);

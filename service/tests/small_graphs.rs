@@ -52,12 +52,14 @@ fn stitched(image: &[u8]) -> (Resolution, Vec<Vec<u32>>, Vec<Vec<u32>>) {
     (found, returned, paths(&result))
 }
 
-/// What the three numbers of a search without limits and cuts make.
-fn counted(paths: u64, [expanded, complete, rejected]: [u64; 3]) -> Resolution {
+/// What the four numbers of a search without limits and cuts make: the last is
+/// how many paths ever waited together.
+fn counted(paths: u64, [expanded, complete, rejected, waited]: [u64; 4]) -> Resolution {
     let statistics = Statistics {
         expanded,
         complete,
         rejected,
+        waited,
         ..Statistics::default()
     };
     Resolution { paths, statistics }
@@ -76,7 +78,7 @@ fn graph_a_directly() {
     for order in [Order::BreadthFirst, Order::DepthFirst] {
         let limits = Limits::default();
         let (found, paths) = direct(&image, &Request { order, limits });
-        assert_eq!(found, counted(1, [3, 1, 1]));
+        assert_eq!(found, counted(1, [3, 1, 1, 1]));
         assert_eq!(paths, [[0, 1]]);
     }
     assert_eq!(recorded(&image), [[0, 1]]);
@@ -109,7 +111,7 @@ fn graph_a_linearly() {
     let mut result = slots(2);
     for call in [pozhdaghi::linear, pozhdaghi::linear_recorded] {
         let found = call(&image, 2, &request, &mut result);
-        assert_eq!(found, Ok(counted(1, [3, 1, 1])));
+        assert_eq!(found, Ok(counted(1, [3, 1, 1, 0])));
         assert_eq!(paths(&result), [[0, 1]]);
     }
 }
@@ -130,7 +132,7 @@ fn graph_a_in_parts() {
         assert_eq!(pozhdaghi::lookup(&words, number as u32), *part);
     }
     let (found, returned, recorded) = stitched(&image);
-    assert_eq!(found, counted(1, [4, 2, 2]));
+    assert_eq!(found, counted(1, [4, 2, 2, 2]));
     assert_eq!((returned, recorded), (vec![vec![0, 1]], vec![vec![0, 1]]));
 }
 
@@ -143,6 +145,7 @@ fn graph_a_file_counted() {
     let statistics = PartialStatistics {
         expanded: 8,
         found: 5,
+        waited: 4,
         ..PartialStatistics::default()
     };
     assert_eq!(replaced, Ok(statistics));
@@ -167,7 +170,7 @@ fn graph_b_returned_and_recorded() {
     let image = graph_b();
     let all = [[0, 2], [0, 3], [1, 2], [1, 3]];
     let (found, returned) = direct(&image, &Request::default());
-    assert_eq!(found, counted(1, [7, 4, 0]));
+    assert_eq!(found, counted(1, [7, 4, 0, 4]));
     assert_eq!(returned, [[1, 3]]);
     assert_eq!(recorded(&image), all);
     let (_, returned, recorded) = stitched(&image);

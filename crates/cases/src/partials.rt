@@ -13,10 +13,10 @@ use pozhdaghi::filing::pozhdaghi_fresh;
 use pozhdaghi::filing::pozhdaghi_replace_file;
 use semantics::graph::PartialPathId;
 
-// 0, three counts of 64 bits and two flags.
+// 0, three counts of 64 bits, two flags, and how many routes ever waited together.
 const WIDE: usize = 3;
 
-const NUMBERS: usize = 6;
+const NUMBERS: usize = 7;
 
 // A fresh database and what it alters.
 fn answer_fresh(image: &[u8], words: &mut [u32], before: &[u32], out: &mut [u32]) -> usize {

@@ -14,10 +14,10 @@ use pozhdaghi::searching::pozhdaghi_linear_recorded;
 use pozhdaghi::searching::pozhdaghi_stitched;
 use pozhdaghi::searching::pozhdaghi_stitched_recorded;
 
-// 0, the number of paths and four counts of 64 bits, three flags.
+// 0, the number of paths and four counts of 64 bits, three flags, and how many paths ever waited together.
 const WIDE: usize = 5;
 
-const NUMBERS: usize = 9;
+const NUMBERS: usize = 10;
 
 fn is_linear(kind: usize) -> bool {
     if kind == kinds::LINEAR {

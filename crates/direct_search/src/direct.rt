@@ -294,7 +294,7 @@ fn drive(
     let mut laid: usize = 0;
     loop {
         match on.take(work, item, frame) {
-            Next::Over(state) => return SearchEnd::Over(state),
+            Next::Over(finished) => return SearchEnd::Over(finished),
             Next::TooMany => return SearchEnd::Refused(SearchRefusal::TooManyExpansions),
             Next::Expand(next) => {
                 let k = item[0] as usize;

@@ -113,8 +113,8 @@ fn try_reference(
         result,
     );
     match driven {
-        SearchEnd::Over(state) => {
-            let kept = state.kept;
+        SearchEnd::Over(finished) => {
+            let kept = finished.state.kept;
             let at = first_to(index, result, kept, node);
             if at < kept {
                 keep_only(result, at, kept);

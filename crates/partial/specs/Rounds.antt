@@ -77,7 +77,7 @@ abbrev pub isFiled : Filing → ℕ → Bool
 isFiled f found = and (ltb 0 (f .room)) (leb (f .room) found)
 
 abbrev pub nothingCounted : PartialPathStats
-nothingCounted = record { expanded = 0; found = 0; cycles = 0; lengthLimited = false; countLimited = false }
+nothingCounted = record { expanded = 0; found = 0; cycles = 0; lengthLimited = false; countLimited = false; waited = 0 }
 
 -- it has ended with this state, whose found routes are filed, or is refused alike. Without room for any, the counts are those of the state;
 -- with room it ends as soon as that is taken, whatever would come behind

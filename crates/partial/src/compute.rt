@@ -40,6 +40,7 @@ fn uncounted() -> PartialPathStats
         cycles: 0,
         lengthLimited: false,
         countLimited: false,
+        waited: 0,
     }
 }
 
@@ -162,7 +163,7 @@ fn drive(
         }
         let within = frame.with_slot(slot);
         match take_front(on, work, item, within) {
-            ExtractionTurn::Over(last) => return Computed::Done(last.stats()),
+            ExtractionTurn::Over(last) => return Computed::Done(last.stats(within)),
             ExtractionTurn::TooMany => return Computed::Refused(
                 PartialPathRefusal::TooManyExpansions,
             ),

@@ -17,7 +17,7 @@ use Rattle.path_frontier.specs.declared.frontier.Pushed.the-variants as Pushed
 use Rattle.path_frontier.specs.declared.frontier.Popped.{Popped}
 use Rattle.path_frontier.specs.declared.frontier.Popped.the-variants as Popped
 use Rattle.path_budget.specs.Budget.{fresh, withMaxLength, withMaxPaths, expansion, statsOf}
-use Rattle.path_frontier.specs.Frontier.{shortSlot, empty, Pushes, Pops, Widens}
+use Rattle.path_frontier.specs.Frontier.{shortSlot, empty, greatestIn, Pushes, Pops, Widens}
 use Rattle.semantics.specs.declared.refusal.PartialPathRefusal.{PartialPathRefusal}
 use Rattle.partial_state.specs.declared.extraction.Config.{Config}
 use Rattle.partial_state.specs.declared.extraction.ExtractionFrame.{ExtractionFrame}
@@ -42,7 +42,7 @@ abbrev pub budgetIn : ExtractionFrame → Budget
 budgetIn fr = withMaxPaths (fr .expansions) (withMaxLength (fr .length) fresh)
 
 abbrev pub nothingYet : Extraction
-nothingYet = record { first = 0; count = 0; pending = 0; expanded = 0; cycles = 0; found = 0; lengthLimited = false; countLimited = false }
+nothingYet = record { first = 0; count = 0; pending = 0; most = 0; expanded = 0; cycles = 0; found = 0; lengthLimited = false; countLimited = false }
 
 -- a budget with the counts and flags that a computation has come to
 abbrev pub resumed : Extraction → Budget → Budget
@@ -50,20 +50,17 @@ resumed p b = record { maxLength = b .maxLength; maxPaths = b .maxPaths; maxComp
 
 -- with the counts and flags of this budget
 abbrev pub countedBy : Budget → Extraction → Extraction
-countedBy b p = record { first = p .first; count = p .count; pending = p .pending; expanded = b .expanded; cycles = p .cycles; found = p .found; lengthLimited = b .lengthLimited; countLimited = b .countLimited }
+countedBy b p = record { first = p .first; count = p .count; pending = p .pending; most = p .most; expanded = b .expanded; cycles = p .cycles; found = p .found; lengthLimited = b .lengthLimited; countLimited = b .countLimited }
 
 -- with the place of this frontier
 abbrev pub placedBy : Frontier → Extraction → Extraction
-placedBy f p = record { first = f .first; count = f .count; pending = f .pending; expanded = p .expanded; cycles = p .cycles; found = p .found; lengthLimited = p .lengthLimited; countLimited = p .countLimited }
+placedBy f p = record { first = f .first; count = f .count; pending = f .pending; most = f .most; expanded = p .expanded; cycles = p .cycles; found = p .found; lengthLimited = p .lengthLimited; countLimited = p .countLimited }
 
 abbrev pub cutIn : Extraction → Extraction
-cutIn p = record { first = p .first; count = p .count; pending = p .pending; expanded = p .expanded; cycles = p .cycles + 1; found = p .found; lengthLimited = p .lengthLimited; countLimited = p .countLimited }
+cutIn p = record { first = p .first; count = p .count; pending = p .pending; most = p .most; expanded = p .expanded; cycles = p .cycles + 1; found = p .found; lengthLimited = p .lengthLimited; countLimited = p .countLimited }
 
 abbrev pub foundIn : Extraction → Extraction
-foundIn p = record { first = p .first; count = p .count; pending = p .pending; expanded = p .expanded; cycles = p .cycles; found = p .found + 1; lengthLimited = p .lengthLimited; countLimited = p .countLimited }
-
-abbrev pub partialIn : Extraction → PartialPathStats
-partialIn p = record { expanded = p .expanded; found = p .found; cycles = p .cycles; lengthLimited = p .lengthLimited; countLimited = p .countLimited }
+foundIn p = record { first = p .first; count = p .count; pending = p .pending; most = p .most; expanded = p .expanded; cycles = p .cycles; found = p .found + 1; lengthLimited = p .lengthLimited; countLimited = p .countLimited }
 
 -- ---- the whole of it
 
@@ -88,7 +85,7 @@ pub data Opening : Type 0 where
 -- what is handed on, in its frame
 abbrev pub at : ExtractionFrame → Extraction → Computation
 at fr p = record {
-  frontier = record { order = fr .order; length = fr .slot; first = p .first; count = p .count; pending = p .pending; capacity = fr .waiting };
+  frontier = record { order = fr .order; length = fr .slot; first = p .first; count = p .count; pending = p .pending; capacity = fr .waiting; most = p .most };
   budget = resumed p (budgetIn fr);
   cycles = p .cycles;
   found = p .found;
@@ -120,14 +117,15 @@ foundOne x = record { frontier = x .frontier; budget = x .budget; cycles = x .cy
 
 -- statistics with so many complete paths, none of them refused by a limit
 abbrev pub counting : ℕ → SearchStats → SearchStats
-counting n s = record { expanded = s .expanded; complete = n; rejected = s .rejected; cycles = s .cycles; lengthLimited = s .lengthLimited; countLimited = s .countLimited; completeLimited = false }
+counting n s = record { expanded = s .expanded; complete = n; rejected = s .rejected; cycles = s .cycles; lengthLimited = s .lengthLimited; countLimited = s .countLimited; completeLimited = false; waited = s .waited }
 
 -- what is counted, as an enumeration counts it: a found path is a complete one
 abbrev pub statsIn : Computation → SearchStats
 statsIn x = counting (x .found) (statsOf (x .budget) 0 (x .cycles))
 
+-- what a computation that is over tells
 abbrev pub partialOf : Computation → PartialPathStats
-partialOf x = record { expanded = x .budget .expanded; found = x .found; cycles = x .cycles; lengthLimited = x .budget .lengthLimited; countLimited = x .budget .countLimited }
+partialOf x = record { expanded = x .budget .expanded; found = x .found; cycles = x .cycles; lengthLimited = x .budget .lengthLimited; countLimited = x .budget .countLimited; waited = greatestIn (x .frontier) }
 
 abbrev pub courseOf : Computation → Pushed → Course
 courseOf x (Pushed.Done f) = goes (withFrontier f x)

@@ -6,7 +6,7 @@ ghost use lib.ListN.{length};
 ghost use Rattle.semantics.specs.Limits.{slotLength};
 ghost use Rattle.words.specs.Slots.{IsSlot};
 ghost use Rattle.path_frontier.specs.Frontier.{Framed, Wider};
-ghost use Rattle.partial_state.specs.Extractions.{at, frameWith, budgetIn, nothingYet, countedBy, placedBy, cutIn, foundIn, goingAt, takenAt, partialIn, Extends, Taking, slottedBy, Grows};
+ghost use Rattle.partial_state.specs.Extractions.{at, frameWith, budgetIn, nothingYet, countedBy, placedBy, cutIn, foundIn, goingAt, takenAt, partialOf, Extends, Taking, slottedBy, Grows};
 ghost use Rattle.partial_state.specs.Reps.{Extendable, ExtendsTo};
 use crate::filing;
 use crate::filing::Filing;
@@ -44,6 +44,7 @@ pub struct Extraction {
     pub first: usize,
     pub count: usize,
     pub pending: usize,
+    pub most: usize,
     pub expanded: u64,
     pub cycles: u64,
     pub found: u64,
@@ -118,6 +119,7 @@ impl Extraction {
             first: 0,
             count: 0,
             pending: 0,
+            most: 0,
             expanded: 0,
             cycles: 0,
             found: 0,
@@ -137,6 +139,7 @@ impl Extraction {
             count: self.count,
             pending: self.pending,
             capacity: frame.waiting,
+            most: self.most,
         }
     }
 
@@ -168,6 +171,7 @@ impl Extraction {
         self.first = frontier.first;
         self.count = frontier.count;
         self.pending = frontier.pending;
+        self.most = frontier.most;
         self
     }
 
@@ -243,8 +247,9 @@ impl Extraction {
         ExtractionTurn::Over(after)
     }
 
-    pub fn stats(self) -> PartialPathStats
-        ensures { λ r. ⌜ r ≡ partialIn self ⌝ }
+    // Of a computation that is over: its place is that before the last pop, so that the frontier there tells how many ever waited together.
+    pub fn stats(self, frame: ExtractionFrame) -> PartialPathStats
+        ensures { λ r. ⌜ r ≡ partialOf (at frame self) ⌝ }
     {
         PartialPathStats {
             expanded: self.expanded,
@@ -252,6 +257,7 @@ impl Extraction {
             cycles: self.cycles,
             lengthLimited: self.lengthLimited,
             countLimited: self.countLimited,
+            waited: self.frontier(frame).greatest() as u64,
         }
     }
 }

@@ -68,9 +68,9 @@ lengthening length b = answerBy (within length (b .maxLength)) b (refusedLength 
 unfoldable pub completion : ℕ → Budget → Admitted
 completion kept b = answerBy (below kept (b .maxComplete)) (oneComplete b) (refusedComplete (oneComplete b))
 
--- what the search tells of its work; rejections and cycle cuts are counted beside the budget
+-- what the search tells of its work; rejections and cycle cuts are counted beside the budget, and what waits beside both
 abbrev pub statsOf : Budget → ℕ → ℕ → SearchStats
-statsOf b rejected cycles = record { expanded = b .expanded; complete = b .complete; rejected = rejected; cycles = cycles; lengthLimited = b .lengthLimited; countLimited = b .countLimited; completeLimited = b .completeLimited }
+statsOf b rejected cycles = record { expanded = b .expanded; complete = b .complete; rejected = rejected; cycles = cycles; lengthLimited = b .lengthLimited; countLimited = b .countLimited; completeLimited = b .completeLimited; waited = 0 }
 
 -- the limits that were set
 abbrev pub limitsOf : Budget → SearchLimits

@@ -233,7 +233,8 @@ impl Budget {
         Admitted::new(allowed, self)
     }
 
-    // What the search tells: the budget's counts and flags, with the rejections and the cycle cuts that the search counts itself.
+    // What the search tells: the budget's counts and flags, with the rejections and the cycle cuts that the search counts itself. How many paths
+    // waited is the frontier's to tell, and 0 here.
     pub fn stats(self, rejected: u64, cycles: u64) -> SearchStats
         ensures { λ r. ⌜ r ≡ statsOf self rejected cycles ⌝ }
     {
@@ -245,6 +246,7 @@ impl Budget {
             lengthLimited: self.lengthLimited,
             countLimited: self.countLimited,
             completeLimited: self.completeLimited,
+            waited: 0,
         }
     }
 }

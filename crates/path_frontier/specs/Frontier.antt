@@ -9,6 +9,7 @@ use lib.ListN.{length}
 use Rattle.semantics.specs.Limits.{slotLength}
 use Rattle.semantics.specs.declared.search.SearchOrder.{SearchOrder}
 use Rattle.semantics.specs.declared.search.SearchOrder.the-variants.{BreadthFirst, DepthFirst}
+use Rattle.semantics.specs.Enumeration.{greater}
 use Rattle.semantics.specs.Words.{slotsOf}
 use Rattle.words.specs.Ring.{ring}
 use Rattle.words.specs.Reversal.{revRange}
@@ -44,15 +45,19 @@ shortSlot = 16
 
 -- nothing waits
 abbrev pub empty : SearchOrder → ℕ → ℕ → Frontier
-empty order length capacity = record { order = order; length = length; first = 0; count = 0; pending = 0; capacity = capacity }
+empty order length capacity = record { order = order; length = length; first = 0; count = 0; pending = 0; capacity = capacity; most = 0 }
 
 -- one more waits
 abbrev pub pushed : Frontier → Frontier
-pushed f = record { order = f .order; length = f .length; first = f .first; count = f .count + 1; pending = f .pending + 1; capacity = f .capacity }
+pushed f = record { order = f .order; length = f .length; first = f .first; count = f .count + 1; pending = f .pending + 1; capacity = f .capacity; most = f .most }
 
--- one was taken, slot i is the first now, and none was pushed since
+-- how many ever waited together: what was noted at the pops, or those that wait now
+abbrev pub greatestIn : Frontier → ℕ
+greatestIn f = greater (f .most) (f .count)
+
+-- one was taken, slot i is the first now, and none was pushed since; how many ever waited together is noted
 abbrev pub taken : Frontier → ℕ → Frontier
-taken f i = record { order = f .order; length = f .length; first = i; count = f .count - 1; pending = 0; capacity = f .capacity }
+taken f i = record { order = f .order; length = f .length; first = i; count = f .count - 1; pending = 0; capacity = f .capacity; most = greatestIn f }
 
 -- the frontier's slots lie in the area, and those that wait among them; without slots the first is 0, and a stack starts there always
 pub record Framed (f : Frontier) (ws : List ℕ) : Type 0 where
@@ -73,11 +78,12 @@ pub record Kept (f r : Frontier) : Type 0 where
   pub length : r .length ≡ f .length
   pub capacity : r .capacity ≡ f .capacity
 
--- one fewer waits, and none was pushed since
+-- one fewer waits, none was pushed since, and how many waited before is noted
 pub record Shrunk (f r : Frontier) : Type 0 where
   pub kept : Kept f r
   pub count : r .count + 1 ≡ f .count
   pub pending : r .pending ≡ 0
+  pub most : r .most ≡ greatestIn f
 
 -- the first slot is taken
 pub record Front (f : Frontier) (ws s : List ℕ) (r : Frontier) : Type 0 where
@@ -148,7 +154,7 @@ pub record Wider (f : Frontier) (ws : List ℕ) (L : ℕ) : Type 0 where
   pub room : SlotsIn L (f .capacity) ws
 
 abbrev pub widened : Frontier → ℕ → Frontier
-widened f L = record { order = f .order; length = L; first = f .first; count = f .count; pending = f .pending; capacity = f .capacity }
+widened f L = record { order = f .order; length = L; first = f .first; count = f .count; pending = f .pending; capacity = f .capacity; most = f .most }
 
 -- the same items wait in them, with zeros behind
 pub record Widens (f : Frontier) (ws : List ℕ) (L : ℕ) (r : Frontier) (ws′ : List ℕ) : Type 0 where

@@ -5,9 +5,10 @@ ghost use mathlib.Core.Logic.{_⊎_};
 ghost use Prim.Native.Nat.{_+_, _≤_, _<_};
 ghost use lib.ListN.{length};
 ghost use Rattle.semantics.specs.Limits.{slotLength};
+ghost use Rattle.semantics.specs.Enumeration.{greater};
 ghost use Rattle.semantics.specs.Words.{zeros};
 ghost use Rattle.words.specs.Slots.{IsSlot};
-ghost use Rattle.path_frontier.specs.Frontier.{empty, Framed, Front, Back, Pushes, Pops, Wider, Widens, MakesRoom};
+ghost use Rattle.path_frontier.specs.Frontier.{empty, greatestIn, taken, Framed, Front, Back, Pushes, Pops, Wider, Widens, MakesRoom};
 use semantics::bounds::SLOT_WORDS;
 use semantics::search::SearchOrder;
 use words::slots;
@@ -15,7 +16,8 @@ use words::slots;
 // The words of a waiting slot while no item has more than fit in them: thousands may wait, and most have few edges.
 pub const SHORT_SLOT: usize = 16;
 
-// `count` slots of `length` words wait, from slot `first` on; the newest `pending` of them were pushed since the last pop.
+// `count` slots of `length` words wait, from slot `first` on; the newest `pending` of them were pushed since the last pop. No more than `most`
+// waited together before that pop: between two pops their number only grows, so that it is looked at there and a push stays short.
 pub struct Frontier {
     pub order: SearchOrder,
     pub length: usize,
@@ -23,6 +25,7 @@ pub struct Frontier {
     pub count: usize,
     pub pending: usize,
     pub capacity: usize,
+    pub most: usize,
 }
 
 pub enum Pushed {
@@ -61,6 +64,16 @@ pub fn longer(slot: usize, words: usize) -> usize
     SLOT_WORDS
 }
 
+// The greater of two.
+fn greater(m: usize, n: usize) -> usize
+    ensures { λ r. ⌜ r ≡ greater m n ⌝ }
+{
+    if m < n {
+        return n;
+    }
+    m
+}
+
 impl Frontier {
     // Nothing waits.
     pub fn new(order: SearchOrder, length: usize, capacity: usize) -> Frontier
@@ -73,6 +86,7 @@ impl Frontier {
             count: 0,
             pending: 0,
             capacity,
+            most: 0,
         }
     }
 
@@ -107,17 +121,34 @@ impl Frontier {
         Popped::Empty
     }
 
+    // How many ever waited together: more may wait now than at any pop.
+    pub fn greatest(self) -> usize
+        ensures { λ r. ⌜ r ≡ greatestIn self ⌝ }
+    {
+        greater(self.most, self.count)
+    }
+
+    // One was taken, and slot `first` is the first now. How many waited with it is noted.
+    fn taken(self, first: usize) -> Frontier
+        requires { ⌜ 0 < self .count ⌝ }
+        ensures { λ r. ⌜ r ≡ taken self first ⌝ }
+    {
+        let mut next = self;
+        next.first = first;
+        next.count = self.count - 1;
+        next.pending = 0;
+        let most = self.greatest();
+        next.most = most;
+        next
+    }
+
     // The first slot of the ring is taken.
     fn pop_front(self, work: &[u32], into: &mut [u32]) -> Frontier
         requires { ⌜ Framed self (now work) × IsSlot (self .length) (now into) × (0 < self .count) × (self .order ≡ SearchOrder.BreadthFirst) ⌝ }
         ensures { λ r. ⌜ Front self (now (work .entry)) (now (into .exit)) r ⌝ }
     {
         slots::read_slot(work, self.length, self.first, into);
-        let mut next = self;
-        next.first = around(self.first, 1, self.capacity);
-        next.count = self.count - 1;
-        next.pending = 0;
-        next
+        self.taken(around(self.first, 1, self.capacity))
     }
 
     // The newest stand in the order of their pushes. A stack takes the last, so they are turned round for the first of them to come first.
@@ -128,10 +159,7 @@ impl Frontier {
         let last = self.count - 1;
         slots::reverse_slots(work, self.length, self.count - self.pending, self.pending);
         slots::read_slot(work, self.length, last, into);
-        let mut next = self;
-        next.count = last;
-        next.pending = 0;
-        next
+        self.taken(self.first)
     }
 
     // How many of the first slots are in use: all where the ring goes round its end. The sum is taken only where it stays inside.

@@ -11,4 +11,4 @@ numbersIn a = take (a .count) (a .items)
 
 -- the numbers of the longest answer
 abbrev pub MOST : ℕ
-MOST = 9
+MOST = 10

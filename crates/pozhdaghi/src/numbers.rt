@@ -20,8 +20,8 @@ use semantics::search::SearchStats;
 use told::refusal;
 use told::refusal::Told;
 
-// The longest answer: 0, the number of paths, four counts and three flags. Nothing else names this number.
-const MOST: usize = 9;
+// The longest answer: 0, the number of paths, four counts, three flags and the waiting figure. Nothing else names this number.
+const MOST: usize = 10;
 
 // As many of the items as are counted.
 pub struct Numbers {
@@ -105,7 +105,8 @@ fn found(paths: u64, stats: SearchStats) -> Numbers
     items[6] = flag(stats.lengthLimited);
     items[7] = flag(stats.countLimited);
     items[8] = flag(stats.completeLimited);
-    Numbers { count: 9, items }
+    items[9] = stats.waited;
+    Numbers { count: 10, items }
 }
 
 fn replaced(stats: PartialPathStats) -> Numbers
@@ -117,7 +118,8 @@ fn replaced(stats: PartialPathStats) -> Numbers
     items[3] = stats.cycles;
     items[4] = flag(stats.lengthLimited);
     items[5] = flag(stats.countLimited);
-    Numbers { count: 6, items }
+    items[6] = stats.waited;
+    Numbers { count: 7, items }
 }
 
 pub(crate) fn of_checked(answer: Checked) -> Numbers

@@ -68,10 +68,10 @@ pub record Driving (index steps item : List ℕ) (s : S.Search) (ws rs : List �
   pub looked : model .tally .looked ≤ 4096 * s .state .budget .expanded
   pub expanded : s .state .budget .expanded ≤ maxExpansions
 
--- the search is over with this state, or refused alike
+-- the search is over with this state and waiting figure, or refused alike
 abbrev pub Ends : SearchEnd → List ℕ → Answer SearchRefusal (State Path) → Type 0
-Ends (Over st) rs (ok u) = Counts st rs u
-Ends (Over st) rs (refuse y) = ⊥
+Ends (Over f) rs (ok u) = Counts (f .state) rs u × (f .waited ≡ u .tally .waited)
+Ends (Over f) rs (refuse y) = ⊥
 Ends (Refused x) rs (ok u) = ⊥
 Ends (Refused x) rs (refuse y) = x ≡ y
 

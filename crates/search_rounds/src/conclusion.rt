@@ -10,14 +10,14 @@ ghost use Rattle.reply.specs.Replies.{replyOf};
 ghost use Rattle.search_rounds.specs.Finishes.{Concluding};
 use reply::finish::Reply;
 use reply::finish::finish;
-use search_state::state::SearchState;
+use search_state::search::Finished;
 use semantics::answer::Resolution;
 use semantics::refusal::SearchRefusal;
 use words::slots;
 
 // The search is over, or refused.
 pub enum SearchEnd {
-    Over(SearchState),
+    Over(Finished),
     Refused(SearchRefusal),
 }
 
@@ -35,11 +35,12 @@ pub fn conclude(
 {
     slots::zero(work);
     match driven {
-        SearchEnd::Over(state) => {
+        SearchEnd::Over(finished) => {
+            let state = finished.state;
             let paths = finish(index, reply, result, state.kept);
             Resolution::Done {
                 paths: paths as u64,
-                stats: state.stats(),
+                stats: finished.stats(),
             }
         }
         SearchEnd::Refused(r) => {

@@ -29,6 +29,7 @@ progressOf s = record {
   first = s .frontier .first;
   count = s .frontier .count;
   pending = s .frontier .pending;
+  most = s .frontier .most;
   slot = s .frontier .length;
   expanded = s .state .budget .expanded;
   complete = s .state .budget .complete;
@@ -47,7 +48,7 @@ resumed p b = record { maxLength = b .maxLength; maxPaths = b .maxPaths; maxComp
 -- the search that has come so far in a frame
 abbrev pub at : Frame → Progress → S.Search
 at f p = record {
-  frontier = record { order = f .order; length = p .slot; first = p .first; count = p .count; pending = p .pending; capacity = f .waiting };
+  frontier = record { order = f .order; length = p .slot; first = p .first; count = p .count; pending = p .pending; capacity = f .waiting; most = p .most };
   state = record {
     budget = resumed p (budgetOf (f .limits));
     cycles = p .cycles;
@@ -66,12 +67,12 @@ courseAt f (Course.On p) = Going.On (at f p)
 courseAt f (Course.Refused x) = Going.Refused x
 
 abbrev pub nextOf : Taken → Next
-nextOf (Taken.Over st) = Next.Over st
+nextOf (Taken.Over f) = Next.Over f
 nextOf (Taken.Expand s) = Next.Expand (progressOf s)
 nextOf Taken.TooMany = Next.TooMany
 
 abbrev pub nextAt : Frame → Next → Taken
-nextAt f (Next.Over st) = Taken.Over st
+nextAt f (Next.Over e) = Taken.Over e
 nextAt f (Next.Expand p) = Taken.Expand (at f p)
 nextAt f Next.TooMany = Taken.TooMany
 
@@ -81,6 +82,7 @@ countedOn b d p = record {
   first = p .first;
   count = p .count;
   pending = p .pending;
+  most = p .most;
   slot = p .slot;
   expanded = p .expanded;
   complete = p .complete;

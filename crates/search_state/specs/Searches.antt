@@ -7,7 +7,9 @@ use lib.Dec.{leb}
 use lib.ListN.{take, getD}
 use Rattle.semantics.specs.Limits.{slotLength, maxExpansions}
 use Rattle.semantics.specs.declared.refusal.SearchRefusal.the-variants as Search
+use Rattle.semantics.specs.declared.search.SearchStats.{SearchStats}
 use Rattle.semantics.specs.Lists.{pick}
+use Rattle.semantics.specs.Enumeration.{figured}
 use Rattle.path_frontier.specs.declared.frontier.Frontier.{Frontier}
 use Rattle.path_frontier.specs.declared.frontier.Pushed.{Pushed}
 use Rattle.path_frontier.specs.declared.frontier.Pushed.the-variants as Pushed
@@ -15,19 +17,28 @@ use Rattle.path_frontier.specs.declared.frontier.Popped.{Popped}
 use Rattle.path_frontier.specs.declared.frontier.Popped.the-variants as Popped
 use Rattle.path_budget.specs.Budget.{expansion}
 use Rattle.words.specs.Slots.{IsSlot, padded}
-use Rattle.path_frontier.specs.Frontier.{Framed, Wider, MakesRoom, Pushes, Pops}
+use Rattle.path_frontier.specs.Frontier.{greatestIn, Framed, Wider, MakesRoom, Pushes, Pops}
 use Rattle.search_state.specs.declared.state.SearchState.{SearchState}
 use Rattle.search_state.specs.declared.search.Search as S
+use Rattle.search_state.specs.declared.search.Finished.{Finished}
 use Rattle.search_state.specs.declared.search.Going.{Going}
 use Rattle.search_state.specs.declared.search.Going.the-variants.{On, Refused}
 use Rattle.search_state.specs.declared.search.Taken.{Taken}
 use Rattle.search_state.specs.declared.search.Taken.the-variants.{Over, Expand, TooMany}
-use Rattle.search_state.specs.States.{withBudget}
+use Rattle.search_state.specs.States.{withBudget, statsIn}
 use Rattle.search_state.specs.Items.{Clear}
 pub mod Laws
 
 abbrev pub withState : SearchState → S.Search → S.Search
 withState t s = record { frontier = s .frontier; state = t }
+
+-- what a search that is over tells
+abbrev pub reportIn : Finished → SearchStats
+reportIn f = figured (f .waited) (statsIn (f .state))
+
+-- it is over with this frontier
+abbrev pub overBy : Frontier → SearchState → Taken
+overBy f t = Over (record { state = t; waited = greatestIn f })
 
 abbrev pub goingOf : SearchState → Pushed → Going
 goingOf s (Pushed.Done f) = On (record { frontier = f; state = s })
@@ -55,15 +66,15 @@ Clears (On s) item = Clear (s .frontier .length) item
 Clears (Refused x) item = Unit {0}
 
 -- the expansion is put to the budget, then to the bound
-abbrev pub admittedOf : SearchState → Frontier → Taken
+abbrev pub admittedOf : S.Search → Frontier → Taken
 admittedOf s f =
-    pick (expansion (s .budget) .allowed)
-    (pick (leb maxExpansions (s .budget .expanded)) TooMany (Expand (record { frontier = f; state = withBudget (expansion (s .budget) .budget) s })))
-    (Over (withBudget (expansion (s .budget) .budget) s))
+    pick (expansion (s .state .budget) .allowed)
+    (pick (leb maxExpansions (s .state .budget .expanded)) TooMany (Expand (record { frontier = f; state = withBudget (expansion (s .state .budget) .budget) (s .state) })))
+    (overBy (s .frontier) (withBudget (expansion (s .state .budget) .budget) (s .state)))
 
-abbrev pub takenOf : SearchState → Popped → Taken
+abbrev pub takenOf : S.Search → Popped → Taken
 takenOf s (Popped.Item f) = admittedOf s f
-takenOf s Popped.Empty = Over s
+takenOf s Popped.Empty = overBy (s .frontier) (s .state)
 
 -- a slot has its place in the front of the item, behind which are zeros, and one more expansion can be counted
 pub record Takeable (s : S.Search) (ws item : List ℕ) : Type 0 where
@@ -83,4 +94,4 @@ pub record PopsInto (f : Frontier) (ws : List ℕ) (a : Popped) (item ws′ : Li
 pub record Taking (s : S.Search) (ws : List ℕ) (a : Taken) (item ws′ : List ℕ) : Type 0 where
   pub popped : Popped
   pub pops : PopsInto (s .frontier) ws popped item ws′
-  pub is : a ≡ takenOf (s .state) popped
+  pub is : a ≡ takenOf s popped

@@ -7,6 +7,7 @@ ghost use Rattle.search_state.specs.Progresses.{frameOf, at, progressOf,
 ghost use Rattle.search_state.specs.Searches.{Takeable, Taking};
 ghost use Rattle.search_state.specs.Extensions.{Extendable, ExtendsTo};
 use crate::dead_ends::DeadEnds;
+use crate::search::Finished;
 use crate::search::Going;
 use crate::search::Search;
 use crate::search::Taken;
@@ -30,6 +31,7 @@ pub struct Progress {
     pub first: usize,
     pub count: usize,
     pub pending: usize,
+    pub most: usize,
     pub slot: usize,
     pub expanded: u64,
     pub complete: u64,
@@ -49,7 +51,7 @@ pub enum Course {
 
 // At the top of a round, as `Taken` is.
 pub enum Next {
-    Over(SearchState),
+    Over(Finished),
     Expand(Progress),
     TooMany,
 }
@@ -87,6 +89,7 @@ impl Search {
             first: frontier.first,
             count: frontier.count,
             pending: frontier.pending,
+            most: frontier.most,
             slot: frontier.length,
             expanded: budget.expanded,
             complete: budget.complete,
@@ -132,7 +135,7 @@ impl Taken {
         ensures { λ r. ⌜ r ≡ nextOf self ⌝ }
     {
         match self {
-            Taken::Over(state) => Next::Over(state),
+            Taken::Over(finished) => Next::Over(finished),
             Taken::Expand(search) => Next::Expand(search.progress()),
             Taken::TooMany => Next::TooMany,
         }
@@ -151,6 +154,7 @@ impl Progress {
             count: self.count,
             pending: self.pending,
             capacity: frame.waiting,
+            most: self.most,
         }
     }
 

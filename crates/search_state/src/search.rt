@@ -5,7 +5,7 @@ ghost use Rattle.semantics.specs.Limits.{slotLength};
 ghost use Rattle.words.specs.Slots.{IsSlot};
 ghost use Rattle.path_frontier.specs.Frontier.{Framed};
 ghost use Rattle.search_state.specs.Items.{Clear};
-ghost use Rattle.search_state.specs.Searches.{withState, Pushable, Extends, PopsInto, Takeable, Taking};
+ghost use Rattle.search_state.specs.Searches.{withState, reportIn, overBy, Pushable, Extends, PopsInto, Takeable, Taking};
 ghost use Rattle.search_state.specs.Extensions.{Extendable, ExtendsTo};
 use crate::state::Recorded;
 use crate::state::SearchState;
@@ -14,6 +14,7 @@ use path_frontier::frontier::Popped;
 use path_frontier::frontier::Pushed;
 use semantics::bounds::MAX_EXPANSIONS;
 use semantics::refusal::SearchRefusal;
+use semantics::search::SearchStats;
 
 pub struct Search {
     pub frontier: Frontier,
@@ -26,9 +27,15 @@ pub enum Going {
     Refused(SearchRefusal),
 }
 
+// A search that is over: what was counted and kept, and how many paths ever waited together.
+pub struct Finished {
+    pub state: SearchState,
+    pub waited: u64,
+}
+
 // At the top of a round: the search is over, or the path in the item is to be expanded, or it would be one expansion too many.
 pub enum Taken {
-    Over(SearchState),
+    Over(Finished),
     Expand(Search),
     TooMany,
 }
@@ -40,6 +47,27 @@ pub fn pop(frontier: Frontier, work: &mut [u32], item: &mut [u32]) -> Popped
 {
     let slot = frontier.length;
     frontier.pop(work, &mut item[0..slot])
+}
+
+// The search is over: nothing waits, or the path count ends it. The frontier is that before the pop.
+pub fn over(frontier: Frontier, state: SearchState) -> Taken
+    ensures { λ r. ⌜ r ≡ overBy frontier state ⌝ }
+{
+    Taken::Over(Finished {
+        state,
+        waited: frontier.greatest() as u64,
+    })
+}
+
+impl Finished {
+    pub fn stats(self) -> SearchStats
+        ensures { λ r. ⌜ r ≡ reportIn self ⌝ }
+    {
+        let state = self.state;
+        let mut stats = state.stats();
+        stats.waited = self.waited;
+        stats
+    }
 }
 
 impl Search {
@@ -95,7 +123,7 @@ impl Search {
         let state = self.state;
         let popped = pop(frontier, work, item);
         let Popped::Item(next) = popped else {
-            return Taken::Over(state);
+            return over(frontier, state);
         };
         let budget = state.budget;
         let asked = budget.admitted_expansion();
@@ -109,6 +137,6 @@ impl Search {
                 state,
             });
         }
-        Taken::Over(state)
+        over(frontier, state)
     }
 }

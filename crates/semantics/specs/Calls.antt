@@ -32,7 +32,7 @@ use Rattle.semantics.specs.Limits.{Bounds, slotWords}
 use Rattle.semantics.specs.Answer.{Answer, ok, refuse}
 use Rattle.semantics.specs.Graph.{Graph, View, viewOf}
 use Rattle.semantics.specs.Path.{Symbol, Step, along, jumped, Path, replay, isComplete, shadows}
-use Rattle.semantics.specs.Enumeration.{Setting, State}
+use Rattle.semantics.specs.Enumeration.{Setting, State, figured, reportOf}
 use Rattle.semantics.specs.Recorded.{edgeLists}
 use Rattle.semantics.specs.Direct.{direct, searchSetting}
 use Rattle.semantics.specs.Linear.{linear, linearSetting}
@@ -42,6 +42,7 @@ use Rattle.semantics.specs.Words.{zeros, wholeSlots, area}
 use Rattle.semantics.specs.Database.{checkDatabase, freshWords, hasRoom, replaceWords}
 pub mod Laws
 pub mod Statistics
+pub mod Waiting
 pub mod Filing
 pub mod Whole
 pub mod Refused
@@ -158,7 +159,7 @@ Reply = State Path → List Path
 -- what a finished or refused search leaves
 unfoldable pub searchOutcome : (bd : Bounds) (reply : Reply) → Request → Answer SearchRefusal (State Path) → Outcome Resolution
 unfolding area
-searchOutcome bd reply q (ok s) = record { answer = Resolution.Done (length (reply s)) (s .stats); work = zeros (q .work); result = area (slotWords bd) (q .result) (edgeLists (reply s)) }
+searchOutcome bd reply q (ok s) = record { answer = Resolution.Done (length (reply s)) (reportOf s); work = zeros (q .work); result = area (slotWords bd) (q .result) (edgeLists (reply s)) }
 searchOutcome bd reply q (refuse r) = refused q (Resolution.Refused r)
 
 -- the image, then the node
@@ -178,9 +179,10 @@ unfolding stitchedOutcome checkDatabase
 stitchedCall bd reply known (ok g) words q = stitchedOutcome bd reply g q (checkDatabase bd known g words)
 stitchedCall bd reply known (refuse x) words q = refused q (Resolution.Image x)
 
+-- nothing waits in a linear search: its figure is 0
 unfoldable pub linearOutcome : (bd : Bounds) (reply : Reply) → LinearRequest → Answer LinearRefusal (State Path) → Outcome LinearResolution
 unfolding area
-linearOutcome bd reply q (ok s) = record { answer = Linear.Done (length (reply s)) (s .stats); work = []; result = area (slotWords bd) (q .result) (edgeLists (reply s)) }
+linearOutcome bd reply q (ok s) = record { answer = Linear.Done (length (reply s)) (figured 0 (s .stats)); work = []; result = area (slotWords bd) (q .result) (edgeLists (reply s)) }
 linearOutcome bd reply q (refuse r) = refusedLinear q (Linear.Refused r)
 
 unfoldable pub linearCall : (bd : Bounds) (reply : Reply) → Answer ImageRefusal Graph → LinearRequest → Outcome LinearResolution

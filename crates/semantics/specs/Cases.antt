@@ -16,6 +16,7 @@ pub mod Asked
 pub mod Images
 pub mod Paths
 pub mod Searches
+pub mod Waiting
 pub mod Linear
 pub mod Names
 pub mod Partials

@@ -9,12 +9,14 @@ use Rattle.semantics.specs.declared.search.SearchOrder.{SearchOrder}
 use Rattle.semantics.specs.declared.search.SearchOrder.the-variants.{BreadthFirst, DepthFirst}
 use Rattle.semantics.specs.declared.search.Limit.{Limit}
 use Rattle.semantics.specs.declared.search.SearchStats.{SearchStats}
+use Rattle.semantics.specs.Lists.{pick}
 use Rattle.semantics.specs.Limits.{below}
 use Rattle.semantics.specs.Answer.{Answer, ok, refuse, andThen, okIf}
 pub mod Laws
 pub mod Statistics
 pub mod Simulation
 pub mod Room
+pub mod Waiting
 pub mod Held
 
 -- what becomes of one edge, or of one partial path, looked at from a waiting item
@@ -44,11 +46,13 @@ pub record Setting (R : Type 0) : Type 0 where
   pub results : Area R
   pub tooMany : R
 
--- counts that no call returns, but that the identities of document 01 speak of
+-- what is counted beside the statistics: the first three are in the identities of document 01, and no call returns them; the last, how many items
+-- ever waited together at most, is put into the statistics of a search that is over
 pub record Tally : Type 0 where
   pub looked : ℕ
   pub overlong : ℕ
   pub pushed : ℕ
+  pub waited : ℕ
 
 -- waiting items in the order of taking, those pushed by the present expansion, the kept ones
 pub record State (W : Type 0) : Type 0 where
@@ -68,9 +72,12 @@ raised b = true
 abbrev pub stays : {A : Type 0} → A → A
 stays x = x
 
+abbrev pub greater : ℕ → ℕ → ℕ
+greater m n = pick (ltb m n) n m
+
 -- the statistics with each count and each flag changed so: here alone do their fields stand side by side
-abbrev pub changed : (expanded complete rejected cycles : ℕ → ℕ) (length count completes : Bool → Bool) → SearchStats → SearchStats
-changed expanded complete rejected cycles length count completes s =
+abbrev pub changed : (expanded complete rejected cycles : ℕ → ℕ) (length count completes : Bool → Bool) (waited : ℕ → ℕ) → SearchStats → SearchStats
+changed expanded complete rejected cycles length count completes waited s =
     record {
       expanded = expanded (s .expanded);
       complete = complete (s .complete);
@@ -79,47 +86,53 @@ changed expanded complete rejected cycles length count completes s =
       lengthLimited = length (s .lengthLimited);
       countLimited = count (s .countLimited);
       completeLimited = completes (s .completeLimited);
+      waited = waited (s .waited);
     }
 
 abbrev pub addExpanded : SearchStats → SearchStats
-addExpanded = changed more stays stays stays stays stays stays
+addExpanded = changed more stays stays stays stays stays stays stays
 
 abbrev pub addComplete : SearchStats → SearchStats
-addComplete = changed stays more stays stays stays stays stays
+addComplete = changed stays more stays stays stays stays stays stays
 
 abbrev pub addRejected : SearchStats → SearchStats
-addRejected = changed stays stays more stays stays stays stays
+addRejected = changed stays stays more stays stays stays stays stays
 
 abbrev pub addCycle : SearchStats → SearchStats
-addCycle = changed stays stays stays more stays stays stays
+addCycle = changed stays stays stays more stays stays stays stays
 
 abbrev pub flagLength : SearchStats → SearchStats
-flagLength = changed stays stays stays stays raised stays stays
+flagLength = changed stays stays stays stays raised stays stays stays
 
 abbrev pub flagCount : SearchStats → SearchStats
-flagCount = changed stays stays stays stays stays raised stays
+flagCount = changed stays stays stays stays stays raised stays stays
 
 abbrev pub flagComplete : SearchStats → SearchStats
-flagComplete = changed stays stays stays stays stays stays raised
+flagComplete = changed stays stays stays stays stays stays raised stays
 
--- the same of the counts that no call returns
-abbrev pub tallied : (looked tooLong pushed : ℕ → ℕ) → Tally → Tally
-tallied looked tooLong pushed t = record { looked = looked (t .looked); overlong = tooLong (t .overlong); pushed = pushed (t .pushed) }
+-- with this waiting figure
+abbrev pub figured : ℕ → SearchStats → SearchStats
+figured n = changed stays stays stays stays stays stays stays (λ w. n)
+
+-- the same of what is counted beside them
+abbrev pub tallied : (looked tooLong pushed waited : ℕ → ℕ) → Tally → Tally
+tallied looked tooLong pushed waited t = record { looked = looked (t .looked); overlong = tooLong (t .overlong); pushed = pushed (t .pushed); waited = waited (t .waited) }
 
 abbrev pub addLooked : Tally → Tally
-addLooked = tallied more stays stays
+addLooked = tallied more stays stays stays
 
 abbrev pub addOverlong : Tally → Tally
-addOverlong = tallied stays more stays
+addOverlong = tallied stays more stays stays
 
-abbrev pub addPushed : Tally → Tally
-addPushed = tallied stays stays more
+-- one more is pushed, and with it n wait
+abbrev pub addPushed : ℕ → Tally → Tally
+addPushed n = tallied stays stays more (λ w. greater w n)
 
 abbrev pub noStats : SearchStats
-noStats = record { expanded = 0; complete = 0; rejected = 0; cycles = 0; lengthLimited = false; countLimited = false; completeLimited = false }
+noStats = record { expanded = 0; complete = 0; rejected = 0; cycles = 0; lengthLimited = false; countLimited = false; completeLimited = false; waited = 0 }
 
 abbrev pub noTally : Tally
-noTally = record { looked = 0; overlong = 0; pushed = 0 }
+noTally = record { looked = 0; overlong = 0; pushed = 0; waited = 0 }
 
 -- THE LOOP, beside the lines of `try_compute`:
 --     while let Some(path) = frontier.pop() {                      turn, popped
@@ -154,8 +167,12 @@ module _ {W : Type 0} where
   abbrev pub withTally : State W → Tally → State W
   withTally s t = record { rest = s .rest; pending = s .pending; kept = s .kept; stats = s .stats; tally = t }
 
+  -- how many wait: a popped item does not
+  abbrev pub waiting : State W → ℕ
+  waiting s = length (s .rest) + length (s .pending)
+
   abbrev pub withPending : W → State W → State W
-  withPending w s = record { rest = s .rest; pending = s .pending ++ (w ∷ []); kept = s .kept; stats = s .stats; tally = addPushed (s .tally) }
+  withPending w s = record { rest = s .rest; pending = s .pending ++ (w ∷ []); kept = s .kept; stats = s .stats; tally = addPushed (waiting s + 1) (s .tally) }
 
   abbrev pub withKept : W → State W → State W
   withKept w s = record { rest = s .rest; pending = s .pending; kept = s .kept ++ (w ∷ []); stats = s .stats; tally = s .tally }
@@ -173,7 +190,7 @@ module _ {R W : Type 0} where
   -- 31 when the waiting slots are all taken
   unfoldable pub pushItem : Setting R → W → State W → Answer R (State W)
   unfolding place
-  pushItem c w s = place (c .waiting) (length (s .rest) + length (s .pending)) (withPending w s)
+  pushItem c w s = place (c .waiting) (waiting s) (withPending w s)
 
   -- 32 when the result slots are all taken
   unfoldable pub keepIf : Bool → Setting R → State W → W → Answer R (State W)
@@ -238,3 +255,7 @@ module _ {R W : Type 0} where
   unfoldable pub enumerate : Setting R → (W → List (Try R W)) → ℕ → List W → Answer R (State W)
   unfolding seed run merge
   enumerate c tries expansions starts = andThen (seed c blank starts) (λ s. run c tries expansions (merge (c .order) s))
+
+-- THE STATISTICS OF A SEARCH THAT IS OVER: the greatest number of items that ever waited together is among them
+abbrev pub reportOf : {W : Type 0} → State W → SearchStats
+reportOf s = figured (s .tally .waited) (s .stats)

@@ -110,6 +110,7 @@ partialStats s =
       cycles = s .stats .cycles;
       lengthLimited = s .stats .lengthLimited;
       countLimited = s .stats .countLimited;
+      waited = s .tally .waited;
     }
 
 unfoldable pub deadIf : Bool → Slot → Slot

@@ -86,16 +86,16 @@ abbrev pub toldDatabase : DatabaseRefusal → List ℕ
 toldDatabase Database.Outgrown = 34 ∷ []
 toldDatabase Database.Malformed = 35 ∷ []
 
--- STATISTICS: the four counts, then the flags of the limits on length, on the path count and on complete paths
+-- STATISTICS: the four counts, then the flags of the limits on length, on the path count and on complete paths, then the waiting figure
 abbrev pub toldFlag : Bool → ℕ
 toldFlag true = 1
 toldFlag false = 0
 
 abbrev pub toldStats : SearchStats → List ℕ
-toldStats s = s .expanded ∷ s .complete ∷ s .rejected ∷ s .cycles ∷ toldFlag (s .lengthLimited) ∷ toldFlag (s .countLimited) ∷ toldFlag (s .completeLimited) ∷ []
+toldStats s = s .expanded ∷ s .complete ∷ s .rejected ∷ s .cycles ∷ toldFlag (s .lengthLimited) ∷ toldFlag (s .countLimited) ∷ toldFlag (s .completeLimited) ∷ s .waited ∷ []
 
 abbrev pub toldPartialStats : PartialPathStats → List ℕ
-toldPartialStats s = s .expanded ∷ s .found ∷ s .cycles ∷ toldFlag (s .lengthLimited) ∷ toldFlag (s .countLimited) ∷ []
+toldPartialStats s = s .expanded ∷ s .found ∷ s .cycles ∷ toldFlag (s .lengthLimited) ∷ toldFlag (s .countLimited) ∷ s .waited ∷ []
 
 -- THE ANSWERS OF THE CALLS
 abbrev pub toldChecked : Checked → List ℕ

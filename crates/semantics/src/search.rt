@@ -25,6 +25,8 @@ pub struct SearchStats {
     pub lengthLimited: bool,
     pub countLimited: bool,
     pub completeLimited: bool,
+    // the greatest number of paths that ever waited together; linear search has none
+    pub waited: u64,
 }
 
 pub struct PartialPathStats {
@@ -33,4 +35,5 @@ pub struct PartialPathStats {
     pub cycles: u64,
     pub lengthLimited: bool,
     pub countLimited: bool,
+    pub waited: u64,
 }

@@ -7,6 +7,7 @@ use path_frontier::frontier::Popped;
 use search_state::search::Going;
 use search_state::search::Search;
 use search_state::search::Taken;
+use search_state::search::over;
 use search_state::search::pop;
 use search_state::state::Recorded;
 use semantics::bounds::MAX_EXPANSIONS;
@@ -43,7 +44,7 @@ pub(crate) fn take(search: Search, work: &mut [u32], item: &mut [u32]) -> Taken
     let state = search.state;
     let popped = pop(frontier, work, item);
     let Popped::Item(next) = popped else {
-        return Taken::Over(state);
+        return over(frontier, state);
     };
     let budget = state.budget;
     let asked = budget.admitted_expansion();
@@ -57,5 +58,5 @@ pub(crate) fn take(search: Search, work: &mut [u32], item: &mut [u32]) -> Taken
             state,
         });
     }
-    Taken::Over(state)
+    over(frontier, state)
 }

@@ -155,7 +155,7 @@ fn drive(
     let mut laid: usize = 0;
     loop {
         match continuation::take(on, work, item) {
-            Taken::Over(state) => return SearchEnd::Over(state),
+            Taken::Over(finished) => return SearchEnd::Over(finished),
             Taken::TooMany => return SearchEnd::Refused(SearchRefusal::TooManyExpansions),
             Taken::Expand(next) => {
                 let k = item[0] as usize;

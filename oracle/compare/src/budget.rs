@@ -49,8 +49,8 @@ pub struct Budget {
     pub complete_limited: bool,
     /// Copies included.
     pub kept: Vec<Path>,
-    /// How many ever waited together, and how long a path became: limits and
-    /// areas are drawn around these.
+    /// How many ever waited together, which a search tells, and how long a path
+    /// became: limits and areas are drawn around these.
     pub most_waiting: usize,
     pub longest: usize,
 }

@@ -51,8 +51,8 @@ pub struct Case {
     pub answer_length: usize,
 }
 
-/// The longest answer has 9 numbers.
-pub const LONGEST_ANSWER: usize = 9;
+/// The longest answer has 10 numbers.
+pub const LONGEST_ANSWER: usize = 10;
 
 impl Case {
     pub fn new(call: Call, image: &[u8]) -> Self {
@@ -113,6 +113,17 @@ impl Outcome {
     pub fn cut(mut self, case: &Case) -> Self {
         self.answer.resize(case.answer_length, 0);
         self
+    }
+
+    /// Without how many paths ever waited together, the last number of a search or a
+    /// replaced file, which the given library does not count.
+    pub fn without_waited(&self, call: Call) -> Self {
+        let mut outcome = self.clone();
+        let place = if call == Call::ReplaceFile { 6 } else { 9 };
+        if let (0, Some(number)) = (self.number(), outcome.answer.get_mut(place)) {
+            *number = 0;
+        }
+        outcome
     }
 
     /// The edge lists in the first result slots: "edge count, edges, zeros".

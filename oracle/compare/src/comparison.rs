@@ -9,6 +9,8 @@ pub struct Compared {
     /// The number of the second implementation's answer, whole.
     pub number: u64,
     pub ours: Outcome,
+    /// The same as the given library would have it.
+    counted: Outcome,
     pub second: Outcome,
     /// None within where the given library panicked.
     pub given: Option<Option<Outcome>>,
@@ -19,7 +21,7 @@ impl Compared {
         let from_given = self
             .given
             .as_ref()
-            .is_some_and(|given| given.as_ref() != Some(&self.ours));
+            .is_some_and(|given| given.as_ref() != Some(&self.counted));
         self.ours != self.second || from_given
     }
 }
@@ -36,9 +38,11 @@ pub fn compare(case: &Case) -> Option<Compared> {
         return None;
     }
     let given = given::has(case, number).then(|| given_or_panic(case));
+    let ours = ours::run(case);
     Some(Compared {
         number,
-        ours: ours::run(case),
+        counted: ours.without_waited(case.call),
+        ours,
         second: whole.cut(case),
         given,
     })

@@ -12,11 +12,13 @@ pub struct Computed {
 }
 
 impl Computed {
-    /// Expansions, paths found, cycle cuts, both flags.
+    /// Expansions, paths found, cycle cuts, both flags, and how many routes ever
+    /// waited together.
     pub fn told(&self) -> Vec<u64> {
         let b = &self.budget;
         let flags = [b.length_limited, b.count_limited].map(u64::from);
-        [&[b.expanded, self.paths.len() as u64, b.cycles], &flags[..]].concat()
+        let counts = [b.expanded, self.paths.len() as u64, b.cycles];
+        [&counts[..], &flags, &[b.most_waiting as u64]].concat()
     }
 }
 

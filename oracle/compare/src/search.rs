@@ -34,11 +34,12 @@ impl Found {
             .collect()
     }
 
-    /// The four counts and the three flags.
+    /// The four counts, the three flags, and how many paths ever waited together.
     pub fn told(&self) -> Vec<u64> {
         let b = &self.budget;
         let flags = [b.length_limited, b.count_limited, b.complete_limited].map(u64::from);
-        [&[b.expanded, b.complete, b.rejected, b.cycles], &flags[..]].concat()
+        let counts = [b.expanded, b.complete, b.rejected, b.cycles];
+        [&counts[..], &flags, &[b.most_waiting as u64]].concat()
     }
 }
 

@@ -42,6 +42,7 @@ use Rattle.reply.specs.EdgeLists.Paths.{length-lists}
 use Rattle.reply.specs.ResultSlots.{countOf, edgesAt, AllFitting, slotOf, Held, Closing, clearSlots}
 use Rattle.reply.specs.ResultSlots.Laws.{edges-length, edges-word, held-fits, held-edges, flat-held}
 use Rattle.reply.specs.ResultSlots.ClosingUp.{closing-kept, closing-end}
+use Rattle.search_state.specs.declared.search.Finished.{Finished}
 use Rattle.search_state.specs.declared.state.SearchState.{SearchState}
 use Rattle.search_state.specs.Reps.{Counts}
 use Rattle.search_rounds.specs.declared.conclusion.SearchEnd.{SearchEnd}
@@ -154,9 +155,12 @@ module _ (index : List ℕ) (g : Graph) (loaded : Loaded g index) (lim : Limit) 
     unfolding findIn
     tried-refused x e rs′ = rw (ends-refused d rs (searchOf g lim w o r) x ends e) refl
 
-    module _ (st : SearchState) (e : d ≡ SearchEnd.Over st) where
-      over : (u : State Path) × (searchOf g lim w o r ≡ ok u) × Counts st rs u
-      over = ends-over d rs (searchOf g lim w o r) st ends e
+    module _ (fin : Finished) (e : d ≡ SearchEnd.Over fin) where
+      abbrev st : SearchState
+      st = fin .state
+
+      over : (u : State Path) × (searchOf g lim w o r ≡ ok u) × Counts (fin .state) rs u × (fin .waited ≡ u .tally .waited)
+      over = ends-over d rs (searchOf g lim w o r) fin ends e
 
       abbrev keptOf : List Path
       keptOf = over .0 .kept

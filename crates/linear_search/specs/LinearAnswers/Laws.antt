@@ -26,7 +26,7 @@ use Rattle.semantics.specs.Graph.{nodeId, Graph, View, viewOf}
 use Rattle.semantics.specs.Graph.Laws.{viewOf-lawful}
 use Rattle.semantics.specs.Path.{Path, fromReference, replay, appendAll}
 use Rattle.semantics.specs.Path.Laws.{begun}
-use Rattle.semantics.specs.Enumeration.{State, Setting, Try, cut, overlong, reject, stop, go, blank, withPending, place, pushItem, seed, run, merge, enumerate}
+use Rattle.semantics.specs.Enumeration.{State, figured, Setting, Try, cut, overlong, reject, stop, go, blank, withPending, place, pushItem, seed, run, merge, enumerate}
 use Rattle.semantics.specs.Enumeration.Laws.{Leads, here, on, enumerate-sound}
 use Rattle.semantics.specs.Direct.{tries}
 use Rattle.semantics.specs.Direct.Laws.{step-taken}
@@ -234,7 +234,7 @@ module _ {index : List ℕ} (reply : Reply) (l : SearchLimits) (rs : List ℕ) (
     unfolding linearOutcome
     over-does j r rs″ k f {t} s =
         let z = f g (over .0) loaded j (kept-replays g l rs n (over .0) (over .1)) stand in
-        let c : t ≡ over .0 .stats = s ∙ over .2 .stats in
+        let c : t ≡ figured 0 (over .0 .stats) = s ∙ ap (figured 0) (over .2 .stats) in
         rw (over .1) (ap (λ (m : ℕ). LinearResolution.Done m t) (z .count) ∙ ap (LinearResolution.Done (length (replyOf reply (over .0)))) c, z .words ∙ ap (λ (m : ℕ). area slotLength m (edgeLists (replyOf reply (over .0)))) (k ∙ long))
 
   pub refused-does : (x : LinearRefusal) → d ≡ Walked.Refused x → {rs″ : List ℕ} → rs″ ≡ zeros (length rs′) → DoesLinear (walkedOf g reply (linearRequestOf l rs n)) (LinearResolution.Refused x) rs″

@@ -2,7 +2,7 @@
 -- Serves document 01, "Partial paths" and "Budget and frontier"; 36 of "Turned back".
 use Prim.Native.Nat.{ℕ, zero, suc, _+_, _-_, _*_, _<_, _≤_}
 use native.Mathlib.Omega.{arith}
-use mathlib.Core.Path.{_≡_, refl, sym, ap, subst, _∙_}
+use mathlib.Core.Path.{_≡_, refl, sym, ap, ap₂, subst, _∙_}
 use mathlib.Core.Logic.{inl, ⊎-elim}
 use mathlib.Core.Bool.{Bool, true, false}
 use mathlib.Core.List.{List, [], _∷_, _++_}
@@ -21,7 +21,7 @@ use Rattle.semantics.specs.Limits.{base, maxEdges, slotLength, maxExpansions, l
 use Rattle.semantics.specs.Words.{zeros}
 use Rattle.words.specs.Slots.Wider.{padded-is}
 use Rattle.path_frontier.specs.declared.frontier.Frontier.{Frontier}
-use Rattle.path_frontier.specs.Frontier.{Framed, widened, Wider}
+use Rattle.path_frontier.specs.Frontier.{greatestIn, Framed, widened, Wider}
 use Rattle.semantics.specs.Answer.{Answer, ok, refuse}
 use Rattle.semantics.specs.Graph.{View, viewOf}
 use Rattle.semantics.specs.Enumeration.{State, Setting, Try, Tally, over, expand, each, turn, run, final, follow, merge}
@@ -198,11 +198,11 @@ module _ {A W : Type 0} (c : Setting A) (f : W → List (Try A W)) (n : ℕ) (m 
   run-refused w u x e h k = let z : n ≡ suc (n - 1) = omega (arith, h) in ap (λ (j : ℕ). run c f j m) z ∙ rw (e, k)
 
 -- the statistics of a finished computation
-abbrev toldOf : SearchStats → PartialPathStats
-toldOf s = record { expanded = s .expanded; found = s .complete; cycles = s .cycles; lengthLimited = s .lengthLimited; countLimited = s .countLimited }
+abbrev toldOf : ℕ → SearchStats → PartialPathStats
+toldOf n s = record { expanded = s .expanded; found = s .complete; cycles = s .cycles; lengthLimited = s .lengthLimited; countLimited = s .countLimited; waited = n }
 
-finished : {n : Computation} {u : State Route} → Counts n u → partialOf n ≡ partialStats u
-finished c = ap toldOf (c .stats)
+finished : {n : Computation} {u : State Route} → Counts n u → greatestIn (n .frontier) ≡ u .tally .waited → partialOf n ≡ partialStats u
+finished c w = ap₂ toldOf w (c .stats)
 
 select-fewer : (b : ℕ → Bool) (l : List ℕ) → length (select b l) ≤ length l
 unfolding select
@@ -265,7 +265,7 @@ module _ {index : List ℕ} {f : Filing} {item₀ : List ℕ} {x : Computation} 
         let d = round-over g f (v .origin) on ws db (t .state) (t .stood) a item′ ws′ n k e in
         let w = run-over (settingOf (frameOf on)) (trying (frameOf on)) (maxExpansions - on .budget .expanded) (merge (on .frontier .order) (t .state)) (d .model) (d .round) in
         subst (λ (y : Answer PartialPathRefusal (State Route)). Ends f (v .origin) (Done s) db y) (sym (sym (t .same) ∙ w))
-        (λ z. (q ∙ finished (d .counts), ap (λ (y : PartialPathStats). y .found) q ∙ d .counts .found), t .stood .filed ∙ ap (λ (l : List Route). filedIn f l (v .origin)) (sym (d .kept)))
+        (λ z. (q ∙ finished (d .counts) (d .waited), ap (λ (y : PartialPathStats). y .found) q ∙ d .counts .found), t .stood .filed ∙ ap (λ (l : List Route). filedIn f l (v .origin)) (sym (d .kept)))
 
     pub turn-many : a ≡ exceeding → DrivenTo index f item₀ x ws₀ db₀ v (Refused TooManyExpansions) db
     turn-many e =
@@ -279,7 +279,7 @@ module _ {index : List ℕ} {f : Filing} {item₀ : List ℕ} {x : Computation} 
 
       -- what making room is given
       pub turn-framed : Framed (next .frontier) ws′ × Wider (next .frontier) ws′ slotLength
-      turn-framed = let o = opened in (o .rep .stands .framed, rep-wider (o .rep))
+      turn-framed = let o = opened in (o .rep .stands .0 .framed, rep-wider (o .rep))
 
       pub turn-short : (w : List ℕ) → item′ ≡ take (next .frontier .length) w → getD w 0 0 < slotLength
       turn-short w front =

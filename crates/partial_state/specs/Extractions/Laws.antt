@@ -26,7 +26,7 @@ use Rattle.partial_state.specs.Extractions.{Computation, goes, stops, cl
 module _ (fr : ExtractionFrame) (p : Extraction) where
   -- ---- what is left behind by a frontier, and by a budget
   placed-is : (n : Frontier) → n .order ≡ fr .order → n .length ≡ fr .slot → n .capacity ≡ fr .waiting → at fr (placedBy n p) ≡ withFrontier n (at fr p)
-  placed-is n o l c = λ i. record { frontier = record { order = sym o i; length = sym l i; first = n .first; count = n .count; pending = n .pending; capacity = sym c i }; budget = at fr p .budget; cycles = p .cycles; found = p .found }
+  placed-is n o l c = λ i. record { frontier = record { order = sym o i; length = sym l i; first = n .first; count = n .count; pending = n .pending; capacity = sym c i; most = n .most }; budget = at fr p .budget; cycles = p .cycles; found = p .found }
 
   expanded-is : at fr (countedBy (expansion (at fr p .budget) .budget) p) ≡ withBudget (expansion (at fr p .budget) .budget) (at fr p)
   unfolding expansion

@@ -134,11 +134,13 @@ module _ {g : View} {f : Filing} {origin : List ℕ} {x : Computation} {ws db : 
   rep-grows L longer most {ws′} h = subst (λ (z : Computation). Rep g f origin z ws′ db m) (sym (h .is ∙ ap (λ (n : Frontier). withFrontier n x) (h .widens .is))) (record {
     sized = record { start = omega (arith, rep .sized .start, longer); most = most; room = omega (arith, rep .sized .room, h .widens .same-length) };
     stands =
-        let v = h .widens .waits (map (held (x .frontier .length)) (m .rest)) (map (held (x .frontier .length)) (m .pending)) (rep .stands) in
+        let v = h .widens .waits (map (held (x .frontier .length)) (m .rest)) (map (held (x .frontier .length)) (m .pending)) (rep .stands .0) in
         let a = all-padded L longer (m .rest) (λ r i. rep .traced r (inl i) .1) in
-        let b = all-padded L longer (m .pending) (λ r i. rep .traced r (inr i) .1) in
-        subst (λ (n : Frontier). Waits n ws′ (map (held L) (m .rest)) (map (held L) (m .pending))) (h .widens .is)
-        (subst (λ (l : List (List ℕ)). Waits (h .frontier) ws′ (map (held L) (m .rest)) l) b (subst (λ (l : List (List ℕ)). Waits (h .frontier) ws′ l (map (padded L) (map (held (x .frontier .length)) (m .pending)))) a v));
+        let b = all-padded L longer (m .pending) (λ r i. rep .traced r (inr i) .1) in (
+          subst (λ (n : Frontier). Waits n ws′ (map (held L) (m .rest)) (map (held L) (m .pending))) (h .widens .is)
+              (subst (λ (l : List (List ℕ)). Waits (h .frontier) ws′ (map (held L) (m .rest)) l) b (subst (λ (l : List (List ℕ)). Waits (h .frontier) ws′ l (map (padded L) (map (held (x .frontier .length)) (m .pending)))) a v)),
+          rep .stands .1,
+        );
     counts = record { stats = rep .counts .stats; found = rep .counts .found };
     few = rep .few;
     filed = rep .filed;

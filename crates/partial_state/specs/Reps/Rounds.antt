@@ -21,7 +21,7 @@ use Rattle.path_frontier.specs.declared.frontier.Popped.{Popped}
 use Rattle.path_frontier.specs.declared.frontier.Popped.the-variants as Popped
 use Rattle.path_budget.specs.Budget.{expansion}
 use Rattle.path_budget.specs.Budget.Laws.{expansion-allowed, expansion-limits, expansion-granted, expansion-refused}
-use Rattle.path_frontier.specs.Frontier.{merged, Waits}
+use Rattle.path_frontier.specs.Frontier.{merged, greatestIn, Waits}
 use Rattle.path_frontier.specs.Frontier.Laws.{merge-is, pop-frame}
 use Rattle.path_frontier.specs.Frontier.Stands.{stands-item, stands-empty}
 use Rattle.partial_state.specs.declared.filing.Filing.{Filing}
@@ -56,6 +56,7 @@ module _ (g : View) (f : Filing) (origin : List ℕ) (x : Computation) (ws db : 
     pub round : roundOf ≡ over model
     pub counts : Counts n model
     pub kept : model .kept ≡ m .kept
+    pub waited : greatestIn (n .frontier) ≡ model .tally .waited
 
   -- it would be one expansion too many
   pub record Exceeded : Type 0 where
@@ -95,11 +96,11 @@ module _ (g : View) (f : Filing) (origin : List ℕ) (x : Computation) (ws db : 
     good-others : (r : Route) → List·Memᴰ r us → Waiting g (f .file) (x .frontier .length) r
     good-others r h = was .traced r (mem-merged (x .frontier .order) (m .rest) (m .pending) r (subst (λ (l : List Route). List·Memᴰ r l) (sym first) (List·Memᴰ·tail h)))
 
-    onward : (n : Frontier) (item ws′ : List ℕ) → n .order ≡ x .frontier .order → n .capacity ≡ x .frontier .capacity → n .length ≡ x .frontier .length → length ws′ ≡ length ws → held (x .frontier .length) w ≡ item → Waits n ws′ (map (held (x .frontier .length)) us) []
+    onward : (n : Frontier) (item ws′ : List ℕ) → n .order ≡ x .frontier .order → n .capacity ≡ x .frontier .capacity → n .length ≡ x .frontier .length → length ws′ ≡ length ws → held (x .frontier .length) w ≡ item → Waits n ws′ (map (held (x .frontier .length)) us) [] → greatestIn n ≡ m .tally .waited
         → expansion (x .budget) .allowed ≡ true → x .budget .expanded < maxExpansions
         → Opened item ws′ (withFrontier n (withBudget (expansion (x .budget) .budget) x))
     unfolding admit expansion
-    onward n item ws′ o c l s e v a h = record {
+    onward n item ws′ o c l s e v y a h = record {
       route = w;
       model = record { rest = us; pending = []; kept = m .kept; stats = addExpanded (m .stats); tally = m .tally };
       round = asked-is true a;
@@ -108,7 +109,7 @@ module _ (g : View) (f : Filing) (origin : List ℕ) (x : Computation) (ws db : 
       frame = λ i. record { order = o i; length = expansion-limits (x .budget) i .length; expansions = expansion-limits (x .budget) i .expansions; waiting = c i; slot = l i };
       rep = record {
         sized = record { start = omega (arith, l, was .sized .start); most = omega (arith, l, was .sized .most); room = subst (λ (y : ℕ). slotLength * y ≤ length ws′) (sym c) (omega (arith, s, was .sized .room)) };
-        stands = subst (λ (y : ℕ). Waits n ws′ (map (held y) us) []) (sym l) v;
+        stands = (subst (λ (y : ℕ). Waits n ws′ (map (held y) us) []) (sym l) v, y);
         counts = record {
           stats = ap (counting (x .found)) (expansion-granted (x .budget) 0 (x .cycles) (is-below true a)) ∙ ap addExpanded (was .counts .stats);
           found = was .counts .found;
@@ -135,6 +136,7 @@ module _ (g : View) (f : Filing) (origin : List ℕ) (x : Computation) (ws db : 
         found = was .counts .found;
       };
       kept = refl;
+      waited = was .stands .1;
     }
 
     exceeded : expansion (x .budget) .allowed ≡ true → maxExpansions ≤ x .budget .expanded → Exceeded
@@ -153,6 +155,7 @@ module _ (g : View) (f : Filing) (origin : List ℕ) (x : Computation) (ws db : 
             ∙ ap (popped (settingOf (frameOf x)) opened) (ap (λ (u : State Route). u .rest) (sym (merge-is (x .frontier .order) m)) ∙ stands-empty (held (x .frontier .length)) (x .frontier) ws m (t .popped) item ws′ (t .pops) (was .stands) e);
         counts = record { stats = was .counts .stats; found = was .counts .found };
         kept = refl;
+        waited = was .stands .1;
       }
       on (Popped.Item n) e = told (expansion (x .budget) .allowed) (leb maxExpansions (x .budget .expanded)) refl refl
         where
@@ -161,14 +164,14 @@ module _ (g : View) (f : Filing) (origin : List ℕ) (x : Computation) (ws db : 
           told b d a h =
               let v = stands-item (held (x .frontier .length)) (x .frontier) ws m (t .popped) item ws′ (t .pops) (was .stands) n e in
               let k = pop-frame (x .frontier) ws (t .popped) item ws′ (t .pops) n e .0 .kept in
-              by b d a h (v .0) (v .1) (v .2) (v .3) (v .4) (k .order) (k .capacity) (k .length)
+              by b d a h (v .0) (v .1) (v .2) (v .3) (v .4) (v .5) (k .order) (k .capacity) (k .length)
             where
               by : (b d : Bool) → expansion (x .budget) .allowed ≡ b → leb maxExpansions (x .budget .expanded) ≡ d
-                  → (w : Route) (us : List Route) → merge (x .frontier .order) m .rest ≡ w ∷ us → held (x .frontier .length) w ≡ item → Waits n ws′ (map (held (x .frontier .length)) us) [] → n .order ≡ x .frontier .order → n .capacity ≡ x .frontier .capacity → n .length ≡ x .frontier .length
+                  → (w : Route) (us : List Route) → merge (x .frontier .order) m .rest ≡ w ∷ us → held (x .frontier .length) w ≡ item → Waits n ws′ (map (held (x .frontier .length)) us) [] → greatestIn n ≡ m .tally .waited → n .order ≡ x .frontier .order → n .capacity ≡ x .frontier .capacity → n .length ≡ x .frontier .length
                   → Rounds (pick b (pick d exceeding (opening (withFrontier n (withBudget (expansion (x .budget) .budget) x)))) (closing (withBudget (expansion (x .budget) .budget) x))) item ws′
-              by false d a h w us u i v o c l = ended w us u a
-              by true true a h w us u i v o c l = exceeded w us u a (leb→le maxExpansions (x .budget .expanded) (subst T (sym h) tt))
-              by true false a h w us u i v o c l = onward w us u n item ws′ o c l (t .pops .same-length) i v a (nleb→lt maxExpansions (x .budget .expanded) (subst T (sym (ap not h)) tt))
+              by false d a h w us u i v y o c l = ended w us u a
+              by true true a h w us u i v y o c l = exceeded w us u a (leb→le maxExpansions (x .budget .expanded) (subst T (sym h) tt))
+              by true false a h w us u i v y o c l = onward w us u n item ws′ o c l (t .pops .same-length) i v y a (nleb→lt maxExpansions (x .budget .expanded) (subst T (sym (ap not h)) tt))
 
   -- ---- what a caller draws from the answer
 

@@ -160,7 +160,7 @@ module _ {most : ℕ} {index : List ℕ} {f : Filing} {start k e : ℕ} {item : 
 
     pub longer-given : most + 1 < 2 ^ 64 → length item′ ≡ length item → Extendable x f item′ ws db
     longer-given h l = record {
-      framed = v .rep .stands .framed;
+      framed = v .rep .stands .0 .framed;
       slot = l ∙ v .carries .long;
       most = v .rep .sized .most;
       short =

@@ -36,7 +36,7 @@ traced-start g file n = record { walk = stay; short = omega arith }
 
 module _ {item : List ℕ} {x : Computation} {ws : List ℕ} (v : Seeding item x ws) where
   pub start-pushes : (item′ : List ℕ) → length item′ ≡ length item → Framed (x .frontier) ws × IsSlot (x .frontier .length) item′
-  start-pushes item′ e = (v .rep .stands .framed, e ∙ v .slot)
+  start-pushes item′ e = (v .rep .stands .0 .framed, e ∙ v .slot)
 
   pub start-begins : 2 ≤ length item
   start-begins = omega (arith, v .slot, v .rep .sized .start)

@@ -101,7 +101,7 @@ module _ (f : Frontier) (ws : List ℕ) (ok : Framed f ws) where
   }
 
   shrunk-taken : (i : ℕ) → 0 < f .count → Shrunk f (taken f i)
-  shrunk-taken i h = record { kept = record { order = refl; length = refl; capacity = refl }; count = omega arith; pending = refl }
+  shrunk-taken i h = record { kept = record { order = refl; length = refl; capacity = refl }; count = omega arith; pending = refl; most = refl }
 
   -- the newest and those before them are slots of the area
   newest-within : SlotsIn (f .length) (f .count - f .pending + f .pending) ws

@@ -24,7 +24,7 @@ use Rattle.path.specs.Replays.Calls.{few-edges}
 use Rattle.search_state.specs.declared.search.Search as S
 use Rattle.search_state.specs.declared.search.Going.{Going}
 use Rattle.search_state.specs.declared.search.Going.the-variants as Going
-use Rattle.search_state.specs.declared.state.SearchState.{SearchState}
+use Rattle.search_state.specs.declared.search.Finished.{Finished}
 use Rattle.search_state.specs.declared.search.Taken.{Taken}
 use Rattle.search_state.specs.declared.search.Taken.the-variants as Taken
 use Rattle.search_state.specs.Items.{Clear}
@@ -115,11 +115,11 @@ module _ (tries : Tries) {index steps₀ item₀ : List ℕ} {s : S.Search} {ws�
   turn-start = record { state = v .model; stood = v .rep; clear = v .clear; begun = v .begun; laid = laid-none; looked = v .looked; expanded = v .expanded; same = refl }
 
   module _ {on : S.Search} {steps item ws rs : List ℕ} {n : ℕ} (long : length steps ≡ length steps₀) (t : Turning on steps item ws rs n) {a : Taken} {item′ ws′ : List ℕ} (x : Taking on ws a item′ ws′) where
-    pub turn-over : (st : SearchState) → a ≡ Taken.Over st → DrivenTo tries index steps₀ item₀ s ws₀ rs₀ v (Over st) rs
-    turn-over st e =
-        let d = round-over (viewOf (v .graph)) (v .reference) on ws rs (t .state) (t .stood) a item′ ws′ st x e in
+    pub turn-over : (f : Finished) → a ≡ Taken.Over f → DrivenTo tries index steps₀ item₀ s ws₀ rs₀ v (Over f) rs
+    turn-over f e =
+        let d = round-over (viewOf (v .graph)) (v .reference) on ws rs (t .state) (t .stood) a item′ ws′ f x e in
         let w = run-over (settingOf (frameOf on)) (triesOf (frameOf on)) (maxExpansions - on .state .budget .expanded) (merge (on .frontier .order) (t .state)) (d .model) (d .round) in
-        subst (λ (y : Answer SearchRefusal (State Path)). Ends (Over st) rs y) (sym (sym (t .same) ∙ w)) (d .counts)
+        subst (λ (y : Answer SearchRefusal (State Path)). Ends (Over f) rs y) (sym (sym (t .same) ∙ w)) (d .counts, d .waited)
 
     pub turn-many : a ≡ Taken.TooMany → DrivenTo tries index steps₀ item₀ s ws₀ rs₀ v (Refused Search.TooManyExpansions) rs
     turn-many e =

@@ -59,7 +59,11 @@ module _ (s : S.Search) (ws rs item : List ℕ) {b : Recorded} {rs′ : List ℕ
     kept-rep : {n : SearchState} {u : State Path} {k : ℕ} → Kept (s .state) n rs′ m u → Few k (m .stats) → k + 1 ≡ m .tally .looked → Rep g r (withState n s) ws rs′ u
     kept-rep {u} {k} h f l = let L = s .frontier .length in record {
       sized = subst (λ (x : List Path). Slotted (s .frontier) ws x (u .pending)) (sym (h .same .rest)) (subst (λ (x : List Path). Slotted (s .frontier) ws (m .rest) x) (sym (h .same .pending)) (rep .sized));
-      stands = subst (λ (x : List Path). Waits (s .frontier) ws (map (slotIn L) x) (map (slotIn L) (u .pending))) (sym (h .same .rest)) (subst (λ (x : List Path). Waits (s .frontier) ws (map (slotIn L) (m .rest)) (map (slotIn L) x)) (sym (h .same .pending)) (rep .stands));
+      stands = (
+        subst (λ (x : List Path). Waits (s .frontier) ws (map (slotIn L) x) (map (slotIn L) (u .pending))) (sym (h .same .rest))
+            (subst (λ (x : List Path). Waits (s .frontier) ws (map (slotIn L) (m .rest)) (map (slotIn L) x)) (sym (h .same .pending)) (rep .stands .0)),
+        rep .stands .1 ∙ ap (λ (t : Tally). t .waited) (sym (h .same .tally)),
+      );
       counts = h .counts;
       few = subst (λ (x : ℕ). Few x (u .stats)) (l ∙ ap (λ (t : Tally). t .looked) (sym (h .same .tally))) (h .few k f);
       replays = λ p k. ⊎-elim (λ (x : List·Memᴰ p (u .rest)). rep .replays p (inl (subst (λ (y : List Path). List·Memᴰ p y) (h .same .rest) x))) (λ (x : List·Memᴰ p (u .pending)). rep .replays p (inr (subst (λ (y : List Path). List·Memᴰ p y) (h .same .pending) x))) k;

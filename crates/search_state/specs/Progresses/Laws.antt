@@ -29,7 +29,7 @@ use Rattle.search_state.specs.declared.progress.Progress.{Progress}
 use Rattle.search_state.specs.declared.progress.Course.{Course}
 use Rattle.search_state.specs.declared.progress.Next.{Next}
 use Rattle.search_state.specs.States.{withBudget}
-use Rattle.search_state.specs.Searches.{takenOf, Takeable, Taking}
+use Rattle.search_state.specs.Searches.{takenOf, overBy, Takeable, Taking}
 use Rattle.search_state.specs.Passes.{passedBy}
 use Rattle.search_state.specs.Reps.{Tells}
 use Rattle.search_state.specs.Extensions.{Extendable, ExtendsTo}
@@ -82,11 +82,11 @@ module _ {s : S.Search} {ws : List ℕ} {a : Taken} {item ws′ : List ℕ} (x :
       let k = pop-frame (s .frontier) ws (x .popped) (x .pops .words) ws′ (x .pops .pops) f e .0 .kept in
       λ i. record { order = k .order i; limits = expansion-limits (s .state .budget) i; waiting = k .capacity i; results = s .state .results }
 
-  same : (p : Popped) → x .popped ≡ p → nextAt (frameOf s) (nextOf (takenOf (s .state) p)) ≡ takenOf (s .state) p
+  same : (p : Popped) → x .popped ≡ p → nextAt (frameOf s) (nextOf (takenOf s p)) ≡ takenOf s p
   same Popped.Empty e = refl
   same (Popped.Item f) e = by (expansion (s .state .budget) .allowed) (leb maxExpansions (s .state .budget .expanded))
     where
-      by : (b d : Bool) → nextAt (frameOf s) (nextOf (pick b (pick d Taken.TooMany (Taken.Expand (opened f))) (Taken.Over (opened f .state)))) ≡ pick b (pick d Taken.TooMany (Taken.Expand (opened f))) (Taken.Over (opened f .state))
+      by : (b d : Bool) → nextAt (frameOf s) (nextOf (pick b (pick d Taken.TooMany (Taken.Expand (opened f))) (overBy (s .frontier) (opened f .state)))) ≡ pick b (pick d Taken.TooMany (Taken.Expand (opened f))) (overBy (s .frontier) (opened f .state))
       by false d = refl
       by true true = refl
       by true false = next-is (opened f) (same-frame f e)

@@ -29,7 +29,7 @@ use Rattle.path_frontier.specs.declared.frontier.Pushed.{Pushed}
 use Rattle.path_frontier.specs.declared.frontier.Pushed.the-variants as Pushed
 use Rattle.path_budget.specs.Budget.{completion, limitsOf}
 use Rattle.path_budget.specs.Budget.Laws.{completion-allowed, completion-limits, completion-granted, completion-refused}
-use Rattle.path_frontier.specs.Frontier.{pushed, Waits, Pushes, MakesRoom}
+use Rattle.path_frontier.specs.Frontier.{pushed, greatestIn, Waits, Pushes, MakesRoom}
 use Rattle.path_frontier.specs.Frontier.Laws.{push-frame}
 use Rattle.path_frontier.specs.Frontier.Stands.{Stands, stands-done, stands-full}
 use Rattle.path.specs.Replays.Calls.{few-edges}
@@ -189,14 +189,16 @@ module _ {g : View} {r : ℕ} {s : S.Search} {ws rs : List ℕ} {m : State Path}
     roomy-rep =
         let L = s .frontier .length in
         let c : f .capacity ≡ s .frontier .capacity = ap (λ (z : Frontier). z .capacity) (room .widens .is) in
-        let v = room .widens .waits (map (slotIn L) (m .rest)) (map (slotIn L) (m .pending)) (rep .stands) in
+        let v = room .widens .waits (map (slotIn L) (m .rest)) (map (slotIn L) (m .pending)) (rep .stands .0) in
         let a = all-longer L (f .length) (room .longer) (m .rest) (λ p i. rep .sized .fits p (inl i)) in
         let b = all-longer L (f .length) (room .longer) (m .pending) (λ p i. rep .sized .fits p (inr i)) in
         record {
           sized = record { wider = record { longer = room .most; room = omega (arith, rep .sized .wider .room, room .widens .same-length, c) }; fits = λ p k. let h = rep .sized .fits p k in omega (arith, h, room .longer) };
-          stands =
-              subst (λ (l : List (List ℕ)). Waits f ws₁ (map (slotIn (f .length)) (m .rest)) l) b
-              (subst (λ (l : List (List ℕ)). Waits f ws₁ l (map (padded (f .length)) (map (slotIn L) (m .pending)))) a v);
+          stands = (
+            subst (λ (l : List (List ℕ)). Waits f ws₁ (map (slotIn (f .length)) (m .rest)) l) b
+                (subst (λ (l : List (List ℕ)). Waits f ws₁ l (map (padded (f .length)) (map (slotIn L) (m .pending)))) a v),
+            ap greatestIn (room .widens .is) ∙ rep .stands .1,
+          );
           counts = record { stats = rep .counts .stats; kept = rep .counts .kept; fits = rep .counts .fits; room = rep .counts .room; words = rep .counts .words };
           few = rep .few;
           replays = rep .replays;
@@ -239,7 +241,7 @@ rep-pushable {g} {r} rep q good {item} e =
     let n = few-edges g r (q .edges) q good in
     let k = encode-count slotLength (q .edges) (omega (arith, n)) in
     let c : getD item 0 0 ≡ length (q .edges) = ap (λ (l : List ℕ). getD l 0 0) e ∙ k in
-    record { framed = rep .stands .framed; wider = rep .sized .wider; slot = ap length e ∙ length-encode slotLength (q .edges); short = omega (arith, c, n) }
+    record { framed = rep .stands .0 .framed; wider = rep .sized .wider; slot = ap length e ∙ length-encode slotLength (q .edges); short = omega (arith, c, n) }
 
 -- room is made for the path, then it is pushed
 pub push-tells : {g : View} {r : ℕ} {s : S.Search} {ws rs : List ℕ} {m : State Path} → Rep g r s ws rs m → (q : Path) → Replayed g r q → {a : Going} {ws′ : List ℕ} → Extends s ws (slotOf q) a ws′ → Tells g r (frameOf s) a ws′ rs (pushItem (settingOf (frameOf s)) q m)

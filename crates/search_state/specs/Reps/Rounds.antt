@@ -22,15 +22,15 @@ use Rattle.path_frontier.specs.declared.frontier.Popped.{Popped}
 use Rattle.path_frontier.specs.declared.frontier.Popped.the-variants as Popped
 use Rattle.path_budget.specs.Budget.{expansion}
 use Rattle.path_budget.specs.Budget.Laws.{expansion-allowed, expansion-limits, expansion-granted, expansion-refused}
-use Rattle.path_frontier.specs.Frontier.{merged, Waits}
+use Rattle.path_frontier.specs.Frontier.{merged, greatestIn, Waits}
 use Rattle.path_frontier.specs.Frontier.Laws.{merge-is, pop-frame}
 use Rattle.path_frontier.specs.Frontier.Stands.{stands-item, stands-empty}
-use Rattle.search_state.specs.declared.state.SearchState.{SearchState}
+use Rattle.search_state.specs.declared.search.Finished.{Finished}
 use Rattle.search_state.specs.declared.search.Search as S
 use Rattle.search_state.specs.declared.search.Taken.{Taken}
 use Rattle.search_state.specs.declared.search.Taken.the-variants.{Over, Expand, TooMany}
 use Rattle.search_state.specs.States.{withBudget}
-use Rattle.search_state.specs.Searches.{takenOf, Taking}
+use Rattle.search_state.specs.Searches.{takenOf, overBy, Taking}
 use Rattle.search_state.specs.Items.Laws.{encode-longer}
 use Rattle.search_state.specs.Progresses.{frameOf}
 use Rattle.search_state.specs.Reps.{slotIn, slotOf, Counts, settingOf, Replayed, Rep}
@@ -58,10 +58,11 @@ module _ (g : View) (r : ℕ) (s : S.Search) (ws rs : List ℕ) (m : State Path)
     pub before : s .state .budget .expanded < maxExpansions
 
   -- it ends the search
-  pub record Ended (n : SearchState) : Type 0 where
+  pub record Ended (n : Finished) : Type 0 where
     pub model : State Path
     pub round : roundOf ≡ over model
-    pub counts : Counts n rs model
+    pub counts : Counts (n .state) rs model
+    pub waited : n .waited ≡ model .tally .waited
 
   -- it would be one expansion too many
   pub record Exceeded : Type 0 where
@@ -107,11 +108,11 @@ module _ (g : View) (r : ℕ) (s : S.Search) (ws rs : List ℕ) (m : State Path)
     others : (p : Path) → List·Memᴰ p us → List·Memᴰ p (m .rest) ⊎ List·Memᴰ p (m .pending)
     others p h = mem-merged (s .frontier .order) (m .rest) (m .pending) p (subst (λ (l : List Path). List·Memᴰ p l) (sym first) (List·Memᴰ·tail h))
 
-    onward : (f : Frontier) (item ws′ : List ℕ) → f .order ≡ s .frontier .order → f .capacity ≡ s .frontier .capacity → f .length ≡ s .frontier .length → length ws′ ≡ length ws → slotOf w ≡ item → Waits f ws′ (map (slotIn (s .frontier .length)) us) []
+    onward : (f : Frontier) (item ws′ : List ℕ) → f .order ≡ s .frontier .order → f .capacity ≡ s .frontier .capacity → f .length ≡ s .frontier .length → length ws′ ≡ length ws → slotOf w ≡ item → Waits f ws′ (map (slotIn (s .frontier .length)) us) [] → greatestIn f ≡ m .tally .waited
         → expansion (s .state .budget) .allowed ≡ true → s .state .budget .expanded < maxExpansions
         → Opened item ws′ (record { frontier = f; state = withBudget (expansion (s .state .budget) .budget) (s .state) })
     unfolding admit expansion
-    onward f item ws′ o c l n e v a h = record {
+    onward f item ws′ o c l n e v y a h = record {
       path = w;
       model = record { rest = us; pending = []; kept = m .kept; stats = addExpanded (m .stats); tally = m .tally };
       round = asked-is true a;
@@ -121,7 +122,7 @@ module _ (g : View) (r : ℕ) (s : S.Search) (ws rs : List ℕ) (m : State Path)
       frame = λ i. record { order = o i; limits = expansion-limits (s .state .budget) i; waiting = c i; results = s .state .results };
       rep = record {
         sized = record { wider = record { longer = omega (arith, l, was .sized .wider .longer); room = omega (arith, c, n, was .sized .wider .room) }; fits = λ p k. let q = was .sized .fits p (only p k) in omega (arith, q, l) };
-        stands = subst (λ (L : ℕ). Waits f ws′ (map (slotIn L) us) []) (sym l) v;
+        stands = (subst (λ (L : ℕ). Waits f ws′ (map (slotIn L) us) []) (sym l) v, y);
         counts = record {
           stats = expansion-granted (s .state .budget) (s .state .rejected) (s .state .cycles) (is-below true a) ∙ ap addExpanded (was .counts .stats);
           kept = was .counts .kept;
@@ -140,7 +141,7 @@ module _ (g : View) (r : ℕ) (s : S.Search) (ws rs : List ℕ) (m : State Path)
         only : (p : Path) → List·Memᴰ p us ⊎ List·Memᴰ p [] → List·Memᴰ p (m .rest) ⊎ List·Memᴰ p (m .pending)
         only p k = ⊎-elim (λ (x : List·Memᴰ p us). others p x) (λ (x : List·Memᴰ p []). absurd (List·Memᴰ·not-nil x)) k
 
-    ended : expansion (s .state .budget) .allowed ≡ false → Ended (withBudget (expansion (s .state .budget) .budget) (s .state))
+    ended : expansion (s .state .budget) .allowed ≡ false → Ended (record { state = withBudget (expansion (s .state .budget) .budget) (s .state); waited = greatestIn (s .frontier) })
     unfolding admit
     ended a = record {
       model = record { rest = us; pending = []; kept = m .kept; stats = flagCount (m .stats); tally = m .tally };
@@ -152,6 +153,7 @@ module _ (g : View) (r : ℕ) (s : S.Search) (ws rs : List ℕ) (m : State Path)
         room = was .counts .room;
         words = was .counts .words;
       };
+      waited = was .stands .1;
     }
 
     exceeded : expansion (s .state .budget) .allowed ≡ true → maxExpansions ≤ s .state .budget .expanded → Exceeded
@@ -162,11 +164,12 @@ module _ (g : View) (r : ℕ) (s : S.Search) (ws rs : List ℕ) (m : State Path)
   unfolding turn popped
   round-tells a item ws′ x = subst (λ (y : Taken). Rounds y item ws′) (sym (x .is)) (on (x .popped) refl)
     where
-      on : (p : Popped) → x .popped ≡ p → Rounds (takenOf (s .state) p) item ws′
+      on : (p : Popped) → x .popped ≡ p → Rounds (takenOf s p) item ws′
       on Popped.Empty e = record {
         model = opened;
         round = ap (turn (settingOf (frameOf s))) (merge-is (s .frontier .order) m) ∙ ap (popped (settingOf (frameOf s)) opened) (ap (λ (u : State Path). u .rest) (sym (merge-is (s .frontier .order) m)) ∙ stands-empty (slotIn (s .frontier .length)) (s .frontier) ws m (x .popped) (x .pops .words) ws′ (x .pops .pops) (was .stands) e);
         counts = record { stats = was .counts .stats; kept = was .counts .kept; fits = was .counts .fits; room = was .counts .room; words = was .counts .words };
+        waited = was .stands .1;
       }
       on (Popped.Item f) e = told (expansion (s .state .budget) .allowed) (leb maxExpansions (s .state .budget .expanded)) refl refl
         where
@@ -175,22 +178,22 @@ module _ (g : View) (r : ℕ) (s : S.Search) (ws rs : List ℕ) (m : State Path)
           whole w us t i = sym (encode-longer (s .frontier .length) slotLength (w .edges) (fits-first w us t) (was .sized .wider .longer)) ∙ ap (padded slotLength) i ∙ sym (x .pops .laid)
 
           told : (b d : Bool) → expansion (s .state .budget) .allowed ≡ b → leb maxExpansions (s .state .budget .expanded) ≡ d
-              → Rounds (pick b (pick d TooMany (Expand (record { frontier = f; state = withBudget (expansion (s .state .budget) .budget) (s .state) }))) (Over (withBudget (expansion (s .state .budget) .budget) (s .state)))) item ws′
+              → Rounds (pick b (pick d TooMany (Expand (record { frontier = f; state = withBudget (expansion (s .state .budget) .budget) (s .state) }))) (overBy (s .frontier) (withBudget (expansion (s .state .budget) .budget) (s .state)))) item ws′
           told b d a h =
               let v = stands-item (slotIn (s .frontier .length)) (s .frontier) ws m (x .popped) (x .pops .words) ws′ (x .pops .pops) (was .stands) f e in
               let k = pop-frame (s .frontier) ws (x .popped) (x .pops .words) ws′ (x .pops .pops) f e .0 .kept in
-              by b d a h (v .0) (v .1) (v .2) (v .3) (v .4) (k .order) (k .capacity) (k .length)
+              by b d a h (v .0) (v .1) (v .2) (v .3) (v .4) (v .5) (k .order) (k .capacity) (k .length)
             where
               by : (b d : Bool) → expansion (s .state .budget) .allowed ≡ b → leb maxExpansions (s .state .budget .expanded) ≡ d
-                  → (w : Path) (us : List Path) → merge (s .frontier .order) m .rest ≡ w ∷ us → slotIn (s .frontier .length) w ≡ x .pops .words → Waits f ws′ (map (slotIn (s .frontier .length)) us) [] → f .order ≡ s .frontier .order → f .capacity ≡ s .frontier .capacity → f .length ≡ s .frontier .length
-                  → Rounds (pick b (pick d TooMany (Expand (record { frontier = f; state = withBudget (expansion (s .state .budget) .budget) (s .state) }))) (Over (withBudget (expansion (s .state .budget) .budget) (s .state)))) item ws′
-              by false d a h w us t i v o c l = ended w us t a
-              by true true a h w us t i v o c l = exceeded w us t a (leb→le maxExpansions (s .state .budget .expanded) (subst T (sym h) tt))
-              by true false a h w us t i v o c l = onward w us t f item ws′ o c l (x .pops .pops .same-length) (whole w us t i) v a (nleb→lt maxExpansions (s .state .budget .expanded) (subst T (sym (ap not h)) tt))
+                  → (w : Path) (us : List Path) → merge (s .frontier .order) m .rest ≡ w ∷ us → slotIn (s .frontier .length) w ≡ x .pops .words → Waits f ws′ (map (slotIn (s .frontier .length)) us) [] → greatestIn f ≡ m .tally .waited → f .order ≡ s .frontier .order → f .capacity ≡ s .frontier .capacity → f .length ≡ s .frontier .length
+                  → Rounds (pick b (pick d TooMany (Expand (record { frontier = f; state = withBudget (expansion (s .state .budget) .budget) (s .state) }))) (overBy (s .frontier) (withBudget (expansion (s .state .budget) .budget) (s .state)))) item ws′
+              by false d a h w us t i v y o c l = ended w us t a
+              by true true a h w us t i v y o c l = exceeded w us t a (leb→le maxExpansions (s .state .budget .expanded) (subst T (sym h) tt))
+              by true false a h w us t i v y o c l = onward w us t f item ws′ o c l (x .pops .pops .same-length) (whole w us t i) v y a (nleb→lt maxExpansions (s .state .budget .expanded) (subst T (sym (ap not h)) tt))
 
   -- ---- what a caller draws from the answer
 
-  pub round-over : (a : Taken) (item ws′ : List ℕ) (n : SearchState) → Taking s ws a item ws′ → a ≡ Over n → Ended n
+  pub round-over : (a : Taken) (item ws′ : List ℕ) (n : Finished) → Taking s ws a item ws′ → a ≡ Over n → Ended n
   round-over a item ws′ n x e = subst (λ (y : Taken). Rounds y item ws′) e (round-tells a item ws′ x)
 
   pub round-expand : (a : Taken) (item ws′ : List ℕ) (n : S.Search) → Taking s ws a item ws′ → a ≡ Expand n → Opened item ws′ n

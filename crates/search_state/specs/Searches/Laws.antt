@@ -11,22 +11,24 @@ use Rattle.path_frontier.specs.declared.frontier.Popped.{Popped}
 use Rattle.path_frontier.specs.declared.frontier.Popped.the-variants as Popped
 use Rattle.path_budget.specs.Budget.{expansion}
 use Rattle.search_state.specs.declared.state.SearchState.{SearchState}
-use Rattle.search_state.specs.declared.search.Taken.the-variants.{Over, Expand, TooMany}
+use Rattle.search_state.specs.declared.search.Search as S
+use Rattle.search_state.specs.declared.search.Taken.{Taken}
+use Rattle.search_state.specs.declared.search.Taken.the-variants.{Expand, TooMany}
 use Rattle.search_state.specs.States.{withBudget}
-use Rattle.search_state.specs.Searches.{takenOf}
+use Rattle.search_state.specs.Searches.{takenOf, overBy}
 
-module _ (s : SearchState) {p : Popped} (f : Frontier) (item : p ≡ Popped.Item f) {a : Admitted} (is : a ≡ expansion (s .budget)) {n : SearchState} (made : n ≡ withBudget (a .budget) s) where
-  answers : {b : Bool} → a .allowed ≡ b → expansion (s .budget) .allowed ≡ b
+module _ (s : S.Search) {p : Popped} (f : Frontier) (item : p ≡ Popped.Item f) {a : Admitted} (is : a ≡ expansion (s .state .budget)) {n : SearchState} (made : n ≡ withBudget (a .budget) (s .state)) where
+  answers : {b : Bool} → a .allowed ≡ b → expansion (s .state .budget) .allowed ≡ b
   answers e = ap (λ (x : Admitted). x .allowed) (sym is) ∙ e
 
-  next-is : n ≡ withBudget (expansion (s .budget) .budget) s
-  next-is = made ∙ ap (λ (x : Admitted). withBudget (x .budget) s) is
+  next-is : n ≡ withBudget (expansion (s .state .budget) .budget) (s .state)
+  next-is = made ∙ ap (λ (x : Admitted). withBudget (x .budget) (s .state)) is
 
-  pub take-many : a .allowed ≡ true → maxExpansions ≤ s .budget .expanded → TooMany ≡ takenOf s p
-  take-many e h = rw (item, answers e, le-leb maxExpansions (s .budget .expanded) h)
+  pub take-many : a .allowed ≡ true → maxExpansions ≤ s .state .budget .expanded → TooMany ≡ takenOf s p
+  take-many e h = rw (item, answers e, le-leb maxExpansions (s .state .budget .expanded) h)
 
-  pub take-expand : a .allowed ≡ true → s .budget .expanded < maxExpansions → Expand (record { frontier = f; state = n }) ≡ takenOf s p
-  take-expand e h = rw (item, answers e, lt-leb maxExpansions (s .budget .expanded) h) (ap (λ (x : SearchState). Expand (record { frontier = f; state = x })) next-is)
+  pub take-expand : a .allowed ≡ true → s .state .budget .expanded < maxExpansions → Expand (record { frontier = f; state = n }) ≡ takenOf s p
+  take-expand e h = rw (item, answers e, lt-leb maxExpansions (s .state .budget .expanded) h) (ap (λ (x : SearchState). Expand (record { frontier = f; state = x })) next-is)
 
-  pub take-over : a .allowed ≡ false → Over n ≡ takenOf s p
-  take-over e = rw (item, answers e) (ap (λ (x : SearchState). Over x) next-is)
+  pub take-over : a .allowed ≡ false → {t : Taken} → t ≡ overBy (s .frontier) n → t ≡ takenOf s p
+  take-over e k = rw (item, answers e) (k ∙ ap (overBy (s .frontier)) next-is)

@@ -22,7 +22,7 @@ use Rattle.semantics.specs.Graph.{Graph, View, viewOf}
 use Rattle.semantics.specs.Graph.Laws.{viewOf-lawful}
 use Rattle.semantics.specs.Path.{Path, appendAll}
 use Rattle.semantics.specs.Path.Laws.{begun, begun-incomplete, replay-ok, appendAll-bound}
-use Rattle.semantics.specs.Enumeration.{State}
+use Rattle.semantics.specs.Enumeration.{State, reportOf}
 use Rattle.semantics.specs.Enumeration.Room.{enumerate-room}
 use Rattle.semantics.specs.Recorded.{edgeLists, recorded}
 use Rattle.semantics.specs.Recorded.Laws.{recorded-shorter}
@@ -75,7 +75,7 @@ module _ (bd : Bounds) (len : ℕ) (u : State Path) (room : length (u .kept) ≤
 record Answered (bd : Bounds) (len : ℕ) (a : Answer SearchRefusal (State Path)) (t : SearchStats) (o : Outcome Resolution) : Type 0 where
   pub state : State Path
   pub found : a ≡ ok state
-  pub stats : state .stats ≡ t
+  pub stats : reportOf state ≡ t
   pub result : o .result ≡ area (slotWords bd) len (edgeLists (recorded state))
 
 searched-done : (bd : Bounds) (q : Request) (n : ℕ) (t : SearchStats) (a : Answer SearchRefusal (State Path)) → (searchOutcome bd recorded q a) .answer ≡ Resolution.Done n t → Answered bd (q .result) a t (searchOutcome bd recorded q a)

@@ -15,7 +15,7 @@ use Rattle.semantics.specs.Limits.{Bounds}
 use Rattle.semantics.specs.Answer.{Answer, ok, refuse}
 use Rattle.semantics.specs.Graph.{Graph, viewOf}
 use Rattle.semantics.specs.Path.{Path}
-use Rattle.semantics.specs.Enumeration.{State}
+use Rattle.semantics.specs.Enumeration.{State, reportOf}
 use Rattle.semantics.specs.Enumeration.Statistics.{Balanced, bit}
 use Rattle.semantics.specs.Direct.{direct}
 use Rattle.semantics.specs.Direct.Laws.{direct-balanced}
@@ -42,14 +42,14 @@ pub record Behind (bd : Bounds) (image : Answer ImageRefusal Graph) (q : Request
   pub accepted : image ≡ ok graph
   pub state : State Path
   pub found : direct bd (q .limits .length) (settingOf bd q) (viewOf graph) (q .node) ≡ ok state
-  pub stats : state .stats ≡ t
+  pub stats : reportOf state ≡ t
   pub identities : Identities t (unreturnedOf state)
 
-balanced-identities : (u : State Path) → Balanced 1 u → Identities (u .stats) (unreturnedOf u)
+balanced-identities : (u : State Path) → Balanced 1 u → Identities (reportOf u) (unreturnedOf u)
 balanced-identities u b = record { looks = omega (arith, b .outcome, b .begun); pushes = omega (arith, b .pushes, b .begun) }
 
 module _ (bd : Bounds) (reply : State Path → List Path) where
-  searched-done : (q : Request) (n : ℕ) (t : SearchStats) (a : Answer SearchRefusal (State Path)) → (searchOutcome bd reply q a) .answer ≡ Resolution.Done n t → (u : State Path) × (a ≡ ok u) × (u .stats ≡ t)
+  pub searched-done : (q : Request) (n : ℕ) (t : SearchStats) (a : Answer SearchRefusal (State Path)) → (searchOutcome bd reply q a) .answer ≡ Resolution.Done n t → (u : State Path) × (a ≡ ok u) × (reportOf u ≡ t)
   unfolding searchOutcome
   searched-done q n t (ok s) e = (s, refl, cc)
   searched-done q n t (refuse r) e = absurd (let z : _≡_ {A = Bool} true false = cc in true≢false z)

@@ -2,7 +2,8 @@
 -- Document 01, "Turned back" and "Small graphs".
 use Prim.Native.Nat.{ℕ, _+_, _-_, _*_}
 use mathlib.Core.List.{List, [], _∷_, _++_, map}
-use lib.ListN.{length}
+use lib.Dec.{ltb}
+use lib.ListN.{length, take, drop}
 use Rattle.semantics.specs.declared.search.Limit.{Limit}
 use Rattle.semantics.specs.declared.search.Limit.the-variants.{Absent}
 use Rattle.semantics.specs.declared.search.SearchOrder.{SearchOrder}
@@ -12,6 +13,7 @@ use Rattle.semantics.specs.declared.answer.LinearResolution.{LinearResol
 use Rattle.semantics.specs.declared.answer.Creation.{Creation}
 use Rattle.semantics.specs.declared.answer.Replacement.{Replacement}
 use Rattle.semantics.specs.declared.answer.Finding.{Finding}
+use Rattle.semantics.specs.Lists.{pick}
 use Rattle.semantics.specs.Limits.{Bounds, base, slotWords, recordWords}
 use Rattle.semantics.specs.Told.{toldChecked, toldReplayed, toldJudgement, toldResolution, toldLinearResolution, toldCreation, toldReplacement, toldFinding}
 use Rattle.semantics.specs.Path.{Path}
@@ -53,6 +55,13 @@ shadowing im left leftEdges right rightEdges = toldJudgement (shadowsCall base (
 
 -- THE SEARCHES
 
+-- document 01's numbers of an unrefused search and of an unrefused replacement: all but the waiting figure, which document 02 has put behind them
+abbrev pub searchNumbers : ℕ
+searchNumbers = 9
+
+abbrev pub replacementNumbers : ℕ
+replacementNumbers = 6
+
 -- from a node, with so many whole slots in the areas
 abbrev pub requestFrom : ℕ → Bounds → SearchOrder → Limit → Limit → Limit → ℕ → ℕ → Request
 requestFrom node bd order length count complete waiting results =
@@ -65,12 +74,12 @@ request = requestFrom 2
 abbrev pub requestIn : ℕ → ℕ → Request
 requestIn work result = record { order = BreadthFirst; limits = record { length = Absent; expansions = Absent; complete = Absent }; work = work; result = result; node = 2 }
 
--- an answer's number and values, then the lists in the used result slots
+-- an answer's number and values as document 01 has them, then the lists in the used result slots
 unfoldable pub shown : Bounds → Outcome Resolution → List (List ℕ)
 unfolding listsIn
-shown bd o = toldResolution (o .answer) ∷ listsIn (slotWords bd) (o .result)
+shown bd o = take searchNumbers (toldResolution (o .answer)) ∷ listsIn (slotWords bd) (o .result)
 
--- the same, with every word of both areas
+-- every number of an answer, and every word of both areas
 abbrev pub shownWhole : Outcome Resolution → List (List ℕ)
 shownWhole o = toldResolution (o .answer) ∷ o .work ∷ o .result ∷ []
 
@@ -134,7 +143,7 @@ linear bd q im = linearCall bd returned (checkImage symbolBytes im) q
 
 unfoldable pub shownLinear : Bounds → Outcome LinearResolution → List (List ℕ)
 unfolding listsIn
-shownLinear bd o = toldLinearResolution (o .answer) ∷ listsIn (slotWords bd) (o .result)
+shownLinear bd o = take searchNumbers (toldLinearResolution (o .answer)) ∷ listsIn (slotWords bd) (o .result)
 
 -- with so many whole result slots
 unfoldable pub linearIn : Bounds → ℕ → Limit → Limit → Limit → ℕ → List ℕ → List (List ℕ)
@@ -235,7 +244,7 @@ slotRows bd words = map slotRow (slotsIn bd words)
 
 unfoldable pub shownSlots : Bounds → Change Replacement → List (List ℕ)
 unfolding slotRows
-shownSlots bd c = toldReplacement (c .answer) ∷ slotRows bd (c .database)
+shownSlots bd c = take replacementNumbers (toldReplacement (c .answer)) ∷ slotRows bd (c .database)
 
 -- the partial paths of a file in a fresh database of so many slots
 unfoldable pub partialsIn : Bounds → SearchOrder → Limit → Limit → ℕ → ℕ → ℕ → List ℕ → List (List ℕ)
@@ -255,3 +264,27 @@ slotsHeld words = map slotWhole (slotsIn base words)
 unfoldable pub lookingUp : ℕ → List ℕ → List (List ℕ)
 unfolding lookupPart
 lookingUp i words = ((lookupPart base knownOwners i words) .from ∷ (lookupPart base knownOwners i words) .upTo ∷ []) ∷ wordsOf (lookupPart base knownOwners i words) words ∷ []
+
+-- THE WAITING FIGURE
+
+-- what stands behind n numbers of an answer; a refusal, which has no more than n, stays as it is
+unfoldable pub behind : ℕ → List ℕ → List ℕ
+behind n told = pick (ltb n (length told)) (drop n told) told
+
+-- from reference 2, under a limit on the path count, with so many waiting slots
+unfoldable pub waitsIn : (State Path → List Path) → SearchOrder → Limit → ℕ → List ℕ → List ℕ
+unfolding behind direct
+waitsIn reply order count waiting im = behind searchNumbers (toldResolution ((direct reply base (request base order Absent count Absent waiting 8) im) .answer))
+
+unfoldable pub waitsStitched : (State Path → List Path) → SearchOrder → ℕ → List ℕ → List ℕ → List ℕ
+unfolding behind stitch
+waitsStitched reply order waiting im words = behind searchNumbers (toldResolution ((stitch reply base (request base order Absent Absent Absent waiting 8) im words) .answer))
+
+unfoldable pub waitsLinear : List ℕ → List ℕ
+unfolding behind linear
+waitsLinear im = behind searchNumbers (toldLinearResolution ((linear base (linearRequest 2 Absent Absent Absent (slotWords base)) im) .answer))
+
+-- the partial paths of file f in a database of 8 slots
+unfoldable pub waitsFiling : SearchOrder → Limit → ℕ → ℕ → List ℕ → List ℕ
+unfolding behind filing freshly
+waitsFiling order count waiting f im = behind replacementNumbers (toldReplacement ((filing base (fileRequest base order Absent count waiting f) im (freshly im)) .answer))

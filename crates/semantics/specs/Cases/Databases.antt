@@ -144,16 +144,16 @@ pub replacements : List (Row (List (List ℕ)))
 unfolding refiled filing
 replacements =
     -- A's file among words 9, with room for just its 5 slots: used, N and F; file + 1, start, end, edge count, edges and zeros; the words behind stay
-    (changedWords (filing base (fileRequest base BreadthFirst Absent Absent 4 0) imageA (0 ∷ 6 ∷ 1 ∷ replicate 657 9)) gives (0 ∷ 8 ∷ 5 ∷ 0 ∷ 0 ∷ 0 ∷ []) ∷ zeros 512 ∷ databaseOf 5 6 1 (filedA ++ ((9 ∷ 9 ∷ []) ∷ [])) ∷ [])
+    (changedWords (filing base (fileRequest base BreadthFirst Absent Absent 4 0) imageA (0 ∷ 6 ∷ 1 ∷ replicate 657 9)) gives (0 ∷ 8 ∷ 5 ∷ 0 ∷ 0 ∷ 0 ∷ 4 ∷ []) ∷ zeros 512 ∷ databaseOf 5 6 1 (filedA ++ ((9 ∷ 9 ∷ []) ∷ [])) ∷ [])
     -- the file's slot becomes zeros, all 131; the dead one keeps its words, the other file's too; the new slot is the next; N and F are the graph's
     ∷ (refiled 2 0 (databaseOf 3 4 2 (old0 ∷ oldDead ∷ old1 ∷ replicate 133 8 ∷ [])) gives
-    (0 ∷ 3 ∷ 1 ∷ 0 ∷ 0 ∷ 0 ∷ []) ∷ zeros (2 * slotLength) ∷ databaseOf 4 7 3 (zeros recordLength ∷ oldDead ∷ old1 ∷ (1 ∷ 2 ∷ 3 ∷ 1 ∷ 0 ∷ zeros (maxEdges - 1)) ∷ (8 ∷ 8 ∷ []) ∷ []) ∷ [])
+    (0 ∷ 3 ∷ 1 ∷ 0 ∷ 0 ∷ 0 ∷ 2 ∷ []) ∷ zeros (2 * slotLength) ∷ databaseOf 4 7 3 (zeros recordLength ∷ oldDead ∷ old1 ∷ (1 ∷ 2 ∷ 3 ∷ 1 ∷ 0 ∷ zeros (maxEdges - 1)) ∷ (8 ∷ 8 ∷ []) ∷ []) ∷ [])
     ∷ (refiled 2 1 (databaseOf 3 4 2 (old0 ∷ oldDead ∷ old1 ∷ replicate 133 8 ∷ [])) gives
-    (0 ∷ 3 ∷ 1 ∷ 0 ∷ 0 ∷ 0 ∷ []) ∷ zeros (2 * slotLength) ∷ databaseOf 4 7 3 (old0 ∷ oldDead ∷ zeros recordLength ∷ (2 ∷ 4 ∷ 5 ∷ 1 ∷ 1 ∷ zeros (maxEdges - 1)) ∷ (8 ∷ 8 ∷ []) ∷ []) ∷ [])
+    (0 ∷ 3 ∷ 1 ∷ 0 ∷ 0 ∷ 0 ∷ 2 ∷ []) ∷ zeros (2 * slotLength) ∷ databaseOf 4 7 3 (old0 ∷ oldDead ∷ zeros recordLength ∷ (2 ∷ 4 ∷ 5 ∷ 1 ∷ 1 ∷ zeros (maxEdges - 1)) ∷ (8 ∷ 8 ∷ []) ∷ []) ∷ [])
     -- a file without partial paths needs no slot
-    ∷ (refiled 2 2 (databaseOf 3 4 2 (old0 ∷ oldDead ∷ old1 ∷ [])) gives (0 ∷ 1 ∷ 0 ∷ 0 ∷ 0 ∷ 0 ∷ []) ∷ zeros (2 * slotLength) ∷ databaseOf 3 7 3 (old0 ∷ oldDead ∷ old1 ∷ []) ∷ [])
+    ∷ (refiled 2 2 (databaseOf 3 4 2 (old0 ∷ oldDead ∷ old1 ∷ [])) gives (0 ∷ 1 ∷ 0 ∷ 0 ∷ 0 ∷ 0 ∷ 1 ∷ []) ∷ zeros (2 * slotLength) ∷ databaseOf 3 7 3 (old0 ∷ oldDead ∷ old1 ∷ []) ∷ [])
     -- 3 words hold a database of no slots
-    ∷ (refiled 2 2 (0 ∷ 1 ∷ 1 ∷ []) gives (0 ∷ 1 ∷ 0 ∷ 0 ∷ 0 ∷ 0 ∷ []) ∷ zeros (2 * slotLength) ∷ (0 ∷ 7 ∷ 3 ∷ []) ∷ [])
+    ∷ (refiled 2 2 (0 ∷ 1 ∷ 1 ∷ []) gives (0 ∷ 1 ∷ 0 ∷ 0 ∷ 0 ∷ 0 ∷ 1 ∷ []) ∷ zeros (2 * slotLength) ∷ (0 ∷ 7 ∷ 3 ∷ []) ∷ [])
     -- refused, every word stays, and the work area is zero: 33, 31, 21, 34, 35, the image
     ∷ (refiled 2 0 (databaseOf 3 7 3 (old0 ∷ oldDead ∷ old1 ∷ replicate (recordLength - 1) 8 ∷ [])) gives (33 ∷ []) ∷ zeros (2 * slotLength) ∷ databaseOf 3 7 3 (old0 ∷ oldDead ∷ old1 ∷ replicate (recordLength - 1) 8 ∷ []) ∷ [])
     ∷ (refiled 1 0 (databaseOf 1 7 3 (old0 ∷ replicate recordLength 8 ∷ [])) gives (31 ∷ []) ∷ zeros slotLength ∷ databaseOf 1 7 3 (old0 ∷ replicate recordLength 8 ∷ []) ∷ [])

@@ -105,14 +105,14 @@ entered =
     ∷ (toldJudgement (shadowsOf imageB 2 (1 ∷ 3 ∷ []) 2 (0 ∷ 2 ∷ [])) gives 0 ∷ 1 ∷ [])
     ∷ (toldJudgement (shadowsOf imageB 2 (0 ∷ 2 ∷ []) 2 (1 ∷ 3 ∷ [])) gives 0 ∷ 0 ∷ [])
     -- direct search: depth-first with an expansion limit of 3, then breadth-first with a length limit; returned and recorded
-    ∷ (toldResolution (directAsked returned imageB 2 (1 ∷ 0 ∷ 0 ∷ 1 ∷ 3 ∷ []) (zeros (8 * slotLength)) (zeros (8 * slotLength)) .answer) gives 0 ∷ 1 ∷ 3 ∷ 2 ∷ 0 ∷ 0 ∷ 0 ∷ 1 ∷ 0 ∷ [])
-    ∷ (toldResolution (directAsked returned imageA 2 (0 ∷ 1 ∷ 1 ∷ []) (zeros (8 * slotLength)) (zeros (8 * slotLength)) .answer) gives 0 ∷ 0 ∷ 2 ∷ 0 ∷ 0 ∷ 0 ∷ 1 ∷ 0 ∷ 0 ∷ [])
-    ∷ (toldResolution (directAsked recorded imageB 2 [] (zeros (8 * slotLength)) (zeros (8 * slotLength)) .answer) gives 0 ∷ 4 ∷ 7 ∷ 4 ∷ 0 ∷ 0 ∷ 0 ∷ 0 ∷ 0 ∷ [])
+    ∷ (toldResolution (directAsked returned imageB 2 (1 ∷ 0 ∷ 0 ∷ 1 ∷ 3 ∷ []) (zeros (8 * slotLength)) (zeros (8 * slotLength)) .answer) gives 0 ∷ 1 ∷ 3 ∷ 2 ∷ 0 ∷ 0 ∷ 0 ∷ 1 ∷ 0 ∷ 3 ∷ [])
+    ∷ (toldResolution (directAsked returned imageA 2 (0 ∷ 1 ∷ 1 ∷ []) (zeros (8 * slotLength)) (zeros (8 * slotLength)) .answer) gives 0 ∷ 0 ∷ 2 ∷ 0 ∷ 0 ∷ 0 ∷ 1 ∷ 0 ∷ 0 ∷ 1 ∷ [])
+    ∷ (toldResolution (directAsked recorded imageB 2 [] (zeros (8 * slotLength)) (zeros (8 * slotLength)) .answer) gives 0 ∷ 4 ∷ 7 ∷ 4 ∷ 0 ∷ 0 ∷ 0 ∷ 0 ∷ 0 ∷ 4 ∷ [])
     -- the work area is the one that waits, the result area the one that keeps
     ∷ (toldResolution (directAsked returned imageB 2 [] (zeros slotLength) (zeros (8 * slotLength)) .answer) gives 31 ∷ [])
     ∷ (toldResolution (directAsked returned imageB 2 [] (zeros (8 * slotLength)) (zeros slotLength) .answer) gives 32 ∷ [])
-    ∷ (toldLinearResolution (linearAsked returned imageA 2 (9 ∷ 1 ∷ 1 ∷ []) (zeros slotLength) .answer) gives 0 ∷ 0 ∷ 2 ∷ 0 ∷ 0 ∷ 0 ∷ 1 ∷ 0 ∷ 0 ∷ [])
-    ∷ (toldResolution (stitchedAsked returned imageA (firstFiled imageA) 2 [] (zeros (8 * slotLength)) (zeros (8 * slotLength)) .answer) gives 0 ∷ 1 ∷ 4 ∷ 2 ∷ 2 ∷ 0 ∷ 0 ∷ 0 ∷ 0 ∷ [])
+    ∷ (toldLinearResolution (linearAsked returned imageA 2 (9 ∷ 1 ∷ 1 ∷ []) (zeros slotLength) .answer) gives 0 ∷ 0 ∷ 2 ∷ 0 ∷ 0 ∷ 0 ∷ 1 ∷ 0 ∷ 0 ∷ 0 ∷ [])
+    ∷ (toldResolution (stitchedAsked returned imageA (firstFiled imageA) 2 [] (zeros (8 * slotLength)) (zeros (8 * slotLength)) .answer) gives 0 ∷ 1 ∷ 4 ∷ 2 ∷ 2 ∷ 0 ∷ 0 ∷ 0 ∷ 0 ∷ 2 ∷ [])
     ∷ (toldResolution (stitchedAsked returned imageA (9 ∷ 8 ∷ 1 ∷ 0 ∷ []) 2 [] (zeros 3) (zeros 5) .answer) gives 35 ∷ [])
     -- a name: of what is asked the limit on length alone; the node, then the area that waits and the one that keeps
     ∷ (toldFinding (nameAsked imageA 4 (9 ∷ 1 ∷ 2 ∷ 1 ∷ 0 ∷ 1 ∷ 0 ∷ []) (zeros (8 * slotLength)) (zeros (8 * slotLength)) .answer) gives 0 ∷ 1 ∷ 2 ∷ [])
@@ -123,9 +123,9 @@ entered =
     ∷ (freshDatabase imageA (9 ∷ 9 ∷ 9 ∷ 9 ∷ []) .database gives 0 ∷ 6 ∷ 1 ∷ 0 ∷ [])
     ∷ (toldCreation (freshDatabase imageA (9 ∷ 9 ∷ []) .answer) gives 35 ∷ [])
     -- a replacement of file 0: unlimited, with a length limit of 1, with an expansion limit of 2; of a file that is none
-    ∷ (toldReplacement (replaceAsked imageA 0 [] (zeros (8 * slotLength)) (firstFiled imageA ++ zeros (8 * recordLength)) .answer) gives 0 ∷ 8 ∷ 5 ∷ 0 ∷ 0 ∷ 0 ∷ [])
-    ∷ (toldReplacement (replaceAsked imageA 0 (0 ∷ 1 ∷ 1 ∷ []) (zeros (8 * slotLength)) (firstFiled imageA ++ zeros (8 * recordLength)) .answer) gives 0 ∷ 6 ∷ 3 ∷ 0 ∷ 1 ∷ 0 ∷ [])
-    ∷ (toldReplacement (replaceAsked imageA 0 (0 ∷ 0 ∷ 0 ∷ 1 ∷ 2 ∷ []) (zeros (8 * slotLength)) (firstFiled imageA ++ zeros (8 * recordLength)) .answer) gives 0 ∷ 2 ∷ 1 ∷ 0 ∷ 0 ∷ 1 ∷ [])
+    ∷ (toldReplacement (replaceAsked imageA 0 [] (zeros (8 * slotLength)) (firstFiled imageA ++ zeros (8 * recordLength)) .answer) gives 0 ∷ 8 ∷ 5 ∷ 0 ∷ 0 ∷ 0 ∷ 4 ∷ [])
+    ∷ (toldReplacement (replaceAsked imageA 0 (0 ∷ 1 ∷ 1 ∷ []) (zeros (8 * slotLength)) (firstFiled imageA ++ zeros (8 * recordLength)) .answer) gives 0 ∷ 6 ∷ 3 ∷ 0 ∷ 1 ∷ 0 ∷ 3 ∷ [])
+    ∷ (toldReplacement (replaceAsked imageA 0 (0 ∷ 0 ∷ 0 ∷ 1 ∷ 2 ∷ []) (zeros (8 * slotLength)) (firstFiled imageA ++ zeros (8 * recordLength)) .answer) gives 0 ∷ 2 ∷ 1 ∷ 0 ∷ 0 ∷ 1 ∷ 3 ∷ [])
     ∷ (toldReplacement (replaceAsked imageA 7 [] (zeros 3) (firstFiled imageA) .answer) gives 21 ∷ 7 ∷ [])
     ∷ (toldPart (lookupOf 4 (firstFiled imageA)) gives (7 + 4 * recordLength) ∷ 2 ∷ [])
     ∷ (toldPart (lookupOf 5 (firstFiled imageA)) gives 0 ∷ 0 ∷ [])

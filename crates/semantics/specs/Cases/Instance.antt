@@ -41,7 +41,7 @@ unfolding firstFiled replacing freshly checkImage freshCall replaceCall
 filedC = record {
   lent = zeros (3 + 8 * recordLength);
   created = refl;
-  replaced = refiled BreadthFirst (128 * slotLength) 0 (record { expanded = 5; found = 3; cycles = 0; lengthLimited = false; countLimited = false }) begun refl;
+  replaced = refiled BreadthFirst (128 * slotLength) 0 (record { expanded = 5; found = 3; cycles = 0; lengthLimited = false; countLimited = false; waited = 2 }) begun refl;
 }
 
 pub premises-c : Premises symbolBytes base imageC (firstFiled imageC) askedC askedC
@@ -52,8 +52,8 @@ premises-c = record {
   same-reference = refl;
   same-length-limit = refl;
   database-holds = filed-premise symbolBytes base imageC graphC refl (firstFiled imageC) (0 ∷ []) filedC (λ f h. List·Memᴰ·head (omega (arith, h)));
-  direct-finished = record { paths = 2; stats = record { expanded = 5; complete = 2; rejected = 0; cycles = 1; lengthLimited = false; countLimited = false; completeLimited = false }; answered = refl; uncounted = refl; uncut = refl };
-  stitched-finished = record { paths = 1; stats = record { expanded = 4; complete = 2; rejected = 0; cycles = 0; lengthLimited = false; countLimited = false; completeLimited = false }; answered = refl; uncounted = refl; uncut = refl };
+  direct-finished = record { paths = 2; stats = record { expanded = 5; complete = 2; rejected = 0; cycles = 1; lengthLimited = false; countLimited = false; completeLimited = false; waited = 2 }; answered = refl; uncounted = refl; uncut = refl };
+  stitched-finished = record { paths = 1; stats = record { expanded = 4; complete = 2; rejected = 0; cycles = 0; lengthLimited = false; countLimited = false; completeLimited = false; waited = 2 }; answered = refl; uncounted = refl; uncut = refl };
 }
 
 -- THE DAILY REFILING HAS ONE TOO: a database that was filed on C, and then its file replaced on A
@@ -65,10 +65,10 @@ refiling-a = record {
   same-reference = refl;
   same-length-limit = refl;
   done = 0 ∷ [];
-  replaced = refiled BreadthFirst (128 * slotLength) 0 (record { expanded = 8; found = 5; cycles = 0; lengthLimited = false; countLimited = false }) begun refl;
+  replaced = refiled BreadthFirst (128 * slotLength) 0 (record { expanded = 8; found = 5; cycles = 0; lengthLimited = false; countLimited = false; waited = 4 }) begun refl;
   every-file = λ f h. let z : f ≡ 0 = omega (arith, h) in List·Memᴰ·head z;
-  direct-finished = record { paths = 1; stats = record { expanded = 3; complete = 1; rejected = 1; cycles = 0; lengthLimited = false; countLimited = false; completeLimited = false }; answered = refl; uncounted = refl; uncut = refl };
-  stitched-finished = record { paths = 1; stats = record { expanded = 4; complete = 2; rejected = 2; cycles = 0; lengthLimited = false; countLimited = false; completeLimited = false }; answered = refl; uncounted = refl; uncut = refl };
+  direct-finished = record { paths = 1; stats = record { expanded = 3; complete = 1; rejected = 1; cycles = 0; lengthLimited = false; countLimited = false; completeLimited = false; waited = 1 }; answered = refl; uncounted = refl; uncut = refl };
+  stitched-finished = record { paths = 1; stats = record { expanded = 4; complete = 2; rejected = 2; cycles = 0; lengthLimited = false; countLimited = false; completeLimited = false; waited = 2 }; answered = refl; uncounted = refl; uncut = refl };
 }
 
 -- WHAT IS SAID OF NAMES HAS INSTANCES: on A node 5 has no name, and node 4 has one

@@ -76,7 +76,7 @@ linear-cases = refl
 pub areas : List (Row (List (List ℕ)))
 unfolding linearAreas
 areas =
-    (linearAreas (linearRequest 2 Absent Absent Absent (2 * slotLength + 4)) imageA gives (0 ∷ 1 ∷ 3 ∷ 1 ∷ 1 ∷ 0 ∷ 0 ∷ 0 ∷ 0 ∷ []) ∷ [] ∷ (2 ∷ 0 ∷ 1 ∷ zeros (2 * slotLength + 1)) ∷ [])
+    (linearAreas (linearRequest 2 Absent Absent Absent (2 * slotLength + 4)) imageA gives (0 ∷ 1 ∷ 3 ∷ 1 ∷ 1 ∷ 0 ∷ 0 ∷ 0 ∷ 0 ∷ 0 ∷ []) ∷ [] ∷ (2 ∷ 0 ∷ 1 ∷ zeros (2 * slotLength + 1)) ∷ [])
     ∷ (linearAreas (linearRequest 2 Absent Absent Absent maxEdges) imageA gives (32 ∷ []) ∷ [] ∷ (zeros maxEdges) ∷ [])
     ∷ (linearAreas (linearRequest 2 Absent Absent Absent 3) imageB gives (20 ∷ 2 ∷ []) ∷ [] ∷ (0 ∷ 0 ∷ 0 ∷ []) ∷ [])
     ∷ (linearAreas (linearRequest 2 Absent Absent Absent 3) (take 76 imageA) gives (2 ∷ []) ∷ [] ∷ (0 ∷ 0 ∷ 0 ∷ []) ∷ [])

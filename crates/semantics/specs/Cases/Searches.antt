@@ -151,18 +151,18 @@ pub areas : List (Row (List (List ℕ)))
 unfolding areasAfter
 areas =
     -- count, edges and zeros of a slot; zeros in the unused slot and in the words behind it
-    (areasAfter (requestIn (128 * slotLength) (2 * slotLength + 4)) imageA gives (0 ∷ 1 ∷ 3 ∷ 1 ∷ 1 ∷ 0 ∷ 0 ∷ 0 ∷ 0 ∷ []) ∷ (zeros (128 * slotLength)) ∷ (2 ∷ 0 ∷ 1 ∷ zeros (2 * slotLength + 1)) ∷ [])
+    (areasAfter (requestIn (128 * slotLength) (2 * slotLength + 4)) imageA gives (0 ∷ 1 ∷ 3 ∷ 1 ∷ 1 ∷ 0 ∷ 0 ∷ 0 ∷ 0 ∷ 1 ∷ []) ∷ (zeros (128 * slotLength)) ∷ (2 ∷ 0 ∷ 1 ∷ zeros (2 * slotLength + 1)) ∷ [])
     -- two paths, one behind the other
-    ∷ (areasAfter (requestIn 513 (3 * slotLength)) branching gives (0 ∷ 2 ∷ 5 ∷ 2 ∷ 4 ∷ 1 ∷ 0 ∷ 0 ∷ 0 ∷ []) ∷ (zeros 513) ∷ (2 ∷ 0 ∷ 2 ∷ (zeros (slotLength - 3) ++ (3 ∷ 0 ∷ 1 ∷ 2 ∷ zeros (2 * slotLength - 4)))) ∷ [])
+    ∷ (areasAfter (requestIn 513 (3 * slotLength)) branching gives (0 ∷ 2 ∷ 5 ∷ 2 ∷ 4 ∷ 1 ∷ 0 ∷ 0 ∷ 0 ∷ 2 ∷ []) ∷ (zeros 513) ∷ (2 ∷ 0 ∷ 2 ∷ (zeros (slotLength - 3) ++ (3 ∷ 0 ∷ 1 ∷ 2 ∷ zeros (2 * slotLength - 4)))) ∷ [])
     -- 127 words are no slot, 128 are one
     ∷ (areasAfter (requestIn slotLength maxEdges) imageA gives (32 ∷ []) ∷ (zeros slotLength) ∷ (zeros maxEdges) ∷ [])
-    ∷ (areasAfter (requestIn slotLength slotLength) imageA gives (0 ∷ 1 ∷ 3 ∷ 1 ∷ 1 ∷ 0 ∷ 0 ∷ 0 ∷ 0 ∷ []) ∷ (zeros slotLength) ∷ (2 ∷ 0 ∷ 1 ∷ zeros (slotLength - 3)) ∷ [])
+    ∷ (areasAfter (requestIn slotLength slotLength) imageA gives (0 ∷ 1 ∷ 3 ∷ 1 ∷ 1 ∷ 0 ∷ 0 ∷ 0 ∷ 0 ∷ 1 ∷ []) ∷ (zeros slotLength) ∷ (2 ∷ 0 ∷ 1 ∷ zeros (slotLength - 3)) ∷ [])
     ∷ (areasAfter (requestIn maxEdges slotLength) imageA gives (31 ∷ []) ∷ (zeros maxEdges) ∷ (zeros slotLength) ∷ [])
     -- refused, by the image and by the path rules
     ∷ (areasAfter (requestIn 3 5) (take 76 imageA) gives (2 ∷ []) ∷ (0 ∷ 0 ∷ 0 ∷ []) ∷ (0 ∷ 0 ∷ 0 ∷ 0 ∷ 0 ∷ []) ∷ [])
     ∷ (areasAfter (requestIn 3 5) (imageOf 1 (scope 0 ∷ []) []) gives (11 ∷ 2 ∷ []) ∷ (0 ∷ 0 ∷ 0 ∷ []) ∷ (0 ∷ 0 ∷ 0 ∷ 0 ∷ 0 ∷ []) ∷ [])
     -- what was shadowed leaves no word behind
-    ∷ (areasAfter (requestIn 512 512) imageB gives (0 ∷ 1 ∷ 7 ∷ 4 ∷ 0 ∷ 0 ∷ 0 ∷ 0 ∷ 0 ∷ []) ∷ (zeros 512) ∷ (2 ∷ 1 ∷ 3 ∷ zeros 509) ∷ [])
+    ∷ (areasAfter (requestIn 512 512) imageB gives (0 ∷ 1 ∷ 7 ∷ 4 ∷ 0 ∷ 0 ∷ 0 ∷ 0 ∷ 0 ∷ 4 ∷ []) ∷ (zeros 512) ∷ (2 ∷ 1 ∷ 3 ∷ zeros 509) ∷ [])
     ∷ []
 
 pub area-cases : Agreed areas

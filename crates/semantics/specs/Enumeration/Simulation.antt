@@ -88,7 +88,7 @@ module _ {R W X : Type 0} (L : W → X → Type 0) where
   pushItem-rel c s t w v h r =
       place-rel (c .waiting) (length (s .rest) + length (s .pending)) (length (t .rest) + length (t .pending)) (withPending w s) (withPending v t)
       (rw (all2-length L _ _ (h .rest), all2-length L _ _ (h .pending)))
-      (record { rest = h .rest; pending = all2-append L (h .pending) (cons r nil); kept = h .kept; stats = h .stats; tally = ap addPushed (h .tally) })
+      (record { rest = h .rest; pending = all2-append L (h .pending) (cons r nil); kept = h .kept; stats = h .stats; tally = rw (all2-length L _ _ (h .rest), all2-length L _ _ (h .pending), h .tally) refl })
 
   keepIf-rel : (b : Bool) (c : Setting R) (s : State W) (t : State X) (w : W) (v : X) → StateRel L s t → L w v → AnswerRel (keepIf b c s w) (keepIf b c t v)
   unfolding keepIf

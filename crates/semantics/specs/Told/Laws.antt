@@ -197,16 +197,16 @@ database-alike = told-alike toldDatabase readDatabase database-back
 
 -- STATISTICS, read from the i-th value on
 abbrev readStats : List ℕ → SearchStats
-readStats t = record { expanded = value 1 t; complete = value 2 t; rejected = value 3 t; cycles = value 4 t; lengthLimited = flag 5 t; countLimited = flag 6 t; completeLimited = flag 7 t }
+readStats t = record { expanded = value 1 t; complete = value 2 t; rejected = value 3 t; cycles = value 4 t; lengthLimited = flag 5 t; countLimited = flag 6 t; completeLimited = flag 7 t; waited = value 8 t }
 
 stats-back : (n : ℕ) (s : SearchStats) → readStats (0 ∷ n ∷ toldStats s) ≡ s
-stats-back n s = λ i. record { expanded = s .expanded; complete = s .complete; rejected = s .rejected; cycles = s .cycles; lengthLimited = flag-back (s .lengthLimited) i; countLimited = flag-back (s .countLimited) i; completeLimited = flag-back (s .completeLimited) i }
+stats-back n s = λ i. record { expanded = s .expanded; complete = s .complete; rejected = s .rejected; cycles = s .cycles; lengthLimited = flag-back (s .lengthLimited) i; countLimited = flag-back (s .countLimited) i; completeLimited = flag-back (s .completeLimited) i; waited = s .waited }
 
 abbrev readPartialStats : List ℕ → PartialPathStats
-readPartialStats t = record { expanded = value 0 t; found = value 1 t; cycles = value 2 t; lengthLimited = flag 3 t; countLimited = flag 4 t }
+readPartialStats t = record { expanded = value 0 t; found = value 1 t; cycles = value 2 t; lengthLimited = flag 3 t; countLimited = flag 4 t; waited = value 5 t }
 
 partial-stats-back : (s : PartialPathStats) → readPartialStats (0 ∷ toldPartialStats s) ≡ s
-partial-stats-back s = λ i. record { expanded = s .expanded; found = s .found; cycles = s .cycles; lengthLimited = flag-back (s .lengthLimited) i; countLimited = flag-back (s .countLimited) i }
+partial-stats-back s = λ i. record { expanded = s .expanded; found = s .found; cycles = s .cycles; lengthLimited = flag-back (s .lengthLimited) i; countLimited = flag-back (s .countLimited) i; waited = s .waited }
 
 -- THE ANSWERS: 0, an image's refusal, or another one
 module _ {A : Type 0} (done : List ℕ → A) (image : ImageRefusal → A) (other : List ℕ → A) where

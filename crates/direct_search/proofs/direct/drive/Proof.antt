@@ -35,15 +35,15 @@ take-requires c κs =
     let p = c₁ .pre in
     let t = l .inv .4 p in
     record {
-      framed = t .stood .stands .framed;
+      framed = t .stood .stands .0 .framed;
       short = t .stood .sized .wider .longer;
       slot = l .inv .1 ∙ p .slot;
       clear = t .clear;
       few = omega (arith, t .expanded);
     }
 
-enum-known-state : tie.Need-enum-known-state Inv-loop μ-loop
-enum-known-state c = search needs
+enum-known-finished : tie.Need-enum-known-finished Inv-loop μ-loop
+enum-known-finished c = search needs
 
 same-length : tie.Need-same-length Inv-loop μ-loop
 same-length c = c .before .before .before .before .before .before .before .before .before .before .loop .inv .0
@@ -64,8 +64,8 @@ returns c =
     let l = c₁ .loop in
     let a = c₁ .before .before .before .before .before .before .args in
     λ v.
-    turn-over edgeTries v (tries-few (v .loaded)) (l .inv .0) (l .inv .4 v) (take .ensures) (c .before .state .given .0 .0)
-    (ap (nextAt (a .frame)) (c .before .state .given .1))
+    turn-over edgeTries v (tries-few (v .loaded)) (l .inv .0) (l .inv .4 v) (take .ensures) (c .before .finished .given .0 .0)
+    (ap (nextAt (a .frame)) (c .before .finished .given .1))
 
 enum-told : tie.Need-enum-told Inv-loop μ-loop
 enum-told c = search needs
@@ -228,7 +228,7 @@ drive-spec =
     μ-loop
     loop-holds
     take-requires
-    enum-known-state
+    enum-known-finished
     same-length
     same-length-2
     same-length-3

@@ -55,7 +55,7 @@ take-front-requires c κs =
     let p = c .before .before .before .before .before .before .before .before .before .before .pre in
     let l = c .before .before .before .before .before .loop in
     let t = (subst (λ (f : ExtractionFrame). Turning p (at f (l .on)) (l .work) (l .words)) (sym (c .before .before .with-slot .ensures)) (l .inv .3 p)) in
-    (t .stood .stands .framed, omega (arith, t .stood .sized .most, l .inv .0, p .slot), omega (arith, t .expanded))
+    (t .stood .stands .0 .framed, omega (arith, t .stood .sized .most, l .inv .0, p .slot), omega (arith, t .expanded))
 
 enum-known-last : tie.Need-enum-known-last Inv-loop μ-loop
 enum-known-last c = search needs

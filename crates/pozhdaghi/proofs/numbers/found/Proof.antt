@@ -37,8 +37,11 @@ flag-requires-3 c κs = search needs
 array-write-items-8 : tie.Need-array-write-items-8
 array-write-items-8 c = search needs
 
+array-write-items-9 : tie.Need-array-write-items-9
+array-write-items-9 c = search needs
+
 returns : tie.Need-returns
-returns c = let a = c .before .before .before .args in λ j. 0 ∷ a .paths ∷ a .stats .expanded ∷ a .stats .complete ∷ a .stats .rejected ∷ a .stats .cycles ∷ (c .before .before .flag .ensures) j ∷ (c .before .flag2 .ensures) j ∷ (c .flag3 .ensures) j ∷ []
+returns c = let a = c .before .before .before .args in λ j. 0 ∷ a .paths ∷ a .stats .expanded ∷ a .stats .complete ∷ a .stats .rejected ∷ a .stats .cycles ∷ (c .before .before .flag .ensures) j ∷ (c .before .flag2 .ensures) j ∷ (c .flag3 .ensures) j ∷ a .stats .waited ∷ []
 
 pub found-spec : {M : Type 1} → statement M
 found-spec =
@@ -55,4 +58,5 @@ found-spec =
     array-write-items-7
     flag-requires-3
     array-write-items-8
+    array-write-items-9
     returns)

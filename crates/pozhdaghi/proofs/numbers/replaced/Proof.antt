@@ -25,8 +25,11 @@ flag-requires-2 c κs = search needs
 array-write-items-5 : tie.Need-array-write-items-5
 array-write-items-5 c = search needs
 
+array-write-items-6 : tie.Need-array-write-items-6
+array-write-items-6 c = search needs
+
 returns : tie.Need-returns
-returns c = let a = c .before .before .args in λ j. 0 ∷ a .stats .expanded ∷ a .stats .found ∷ a .stats .cycles ∷ (c .before .flag .ensures) j ∷ (c .flag2 .ensures) j ∷ []
+returns c = let a = c .before .before .args in λ j. 0 ∷ a .stats .expanded ∷ a .stats .found ∷ a .stats .cycles ∷ (c .before .flag .ensures) j ∷ (c .flag2 .ensures) j ∷ a .stats .waited ∷ []
 
 pub replaced-spec : {M : Type 1} → statement M
 replaced-spec =
@@ -39,4 +42,5 @@ replaced-spec =
     array-write-items-4
     flag-requires-2
     array-write-items-5
+    array-write-items-6
     returns)

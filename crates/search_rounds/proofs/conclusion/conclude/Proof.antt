@@ -13,8 +13,8 @@ enum-known-driven c = search needs
 
 finish-requires : tie.Need-finish-requires
 finish-requires c κs =
-    let driven = c .before .before .driven in
-    let p = c .before .before .before .before .before .before .before .before .before .before .before .pre in
+    let driven = c .before .before .before .driven in
+    let p = c .before .before .before .before .before .before .before .before .before .before .before .before .pre in
     (over-holds p (driven .given .0 .0) (driven .given .1), over-lists p (driven .given .0 .0) (driven .given .1))
 
 stats-requires : tie.Need-stats-requires
@@ -35,8 +35,8 @@ same-length-2 c = search needs
 returns : tie.Need-returns
 returns c =
     let finish = c .before .before .before .finish in
-    let driven = c .before .before .before .before .before .before .driven in
-    let c₁ = c .before .before .before .before .before .before .before .before .before .before in
+    let driven = c .before .before .before .before .before .before .before .driven in
+    let c₁ = c .before .before .before .before .before .before .before .before .before .before .before in
     let zero′ = c₁ .zero in
     let a = c₁ .before .before .before .before .before .args in
     λ v j q w l.

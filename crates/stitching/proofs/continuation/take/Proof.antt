@@ -1,5 +1,5 @@
 use native.Mathlib.Omega.{arith}
-use mathlib.Core.Path.{sym, ap}
+use mathlib.Core.Path.{sym, ap, _∙_}
 use Rattle.search_state.specs.Searches.{takenOf}
 use Rattle.search_state.specs.Searches.Laws.{take-many, take-expand, take-over}
 use borrow.Author.Needs.{needs}
@@ -15,6 +15,9 @@ enum-known-popped c = search needs
 enum-told : tie.Need-enum-told
 enum-told c = search needs
 
+over-requires : tie.Need-over-requires
+over-requires c κs = search needs
+
 same-length : tie.Need-same-length
 same-length c = search needs
 
@@ -23,9 +26,9 @@ same-length-2 c = search needs
 
 returns : tie.Need-returns
 returns c =
-    let pop = c .before .before .before .before .before .before .pop in
-    let a = c .before .before .before .before .before .before .before .before .before .before .before .before .before .args in
-    record { popped = pop .result; pops = pop .ensures; is = sym (ap (takenOf (a .search .state)) (c .enum-told .given .1)) }
+    let pop = c .before .before .before .before .before .before .before .pop in
+    let a = c .before .before .before .before .before .before .before .before .before .before .before .before .before .before .args in
+    record { popped = pop .result; pops = pop .ensures; is = c .over .ensures ∙ sym (ap (takenOf (a .search)) (c .before .enum-told .given .1)) }
 
 admitted-expansion-requires : tie.Need-admitted-expansion-requires
 admitted-expansion-requires c κs = search needs
@@ -48,7 +51,7 @@ returns-2 c =
     record {
       popped = pop .result;
       pops = pop .ensures;
-      is = take-many (a .search .state) (popped′ .given .0 .0) (popped′ .given .1) (c .before .before .before .before .admitted-expansion .ensures)
+      is = take-many (a .search) (popped′ .given .0 .0) (popped′ .given .1) (c .before .before .before .before .admitted-expansion .ensures)
           (c .before .before .before .with-budget .ensures) (c .before .before .if1 .taken) (omega (arith, c .if2 .taken));
     }
 
@@ -67,9 +70,12 @@ returns-3 c =
     record {
       popped = pop .result;
       pops = pop .ensures;
-      is = take-expand (a .search .state) (popped′ .given .0 .0) (popped′ .given .1) (c .before .before .before .before .admitted-expansion .ensures)
+      is = take-expand (a .search) (popped′ .given .0 .0) (popped′ .given .1) (c .before .before .before .before .admitted-expansion .ensures)
           (c .before .before .before .with-budget .ensures) (c .before .before .if1 .taken) (omega (arith, c .if2 .left));
     }
+
+over-requires-2 : tie.Need-over-requires-2
+over-requires-2 c κs = search needs
 
 same-length-7 : tie.Need-same-length-7
 same-length-7 c = search needs
@@ -79,15 +85,15 @@ same-length-8 c = search needs
 
 returns-4 : tie.Need-returns-4
 returns-4 c =
-    let popped′ = c .before .before .before .before .before .popped in
-    let c₁ = c .before .before .before .before .before .before .before .before .before .before .before in
+    let popped′ = c .before .before .before .before .before .before .popped in
+    let c₁ = c .before .before .before .before .before .before .before .before .before .before .before .before in
     let pop = c₁ .pop in
     let a = c₁ .before .before .before .before .before .before .before .args in
     record {
       popped = pop .result;
       pops = pop .ensures;
-      is = take-over (a .search .state) (popped′ .given .0 .0) (popped′ .given .1) (c .before .before .admitted-expansion .ensures)
-          (c .before .with-budget .ensures) (c .if1 .left);
+      is = take-over (a .search) (popped′ .given .0 .0) (popped′ .given .1) (c .before .before .before .admitted-expansion .ensures)
+          (c .before .before .with-budget .ensures) (c .before .if1 .left) (c .over2 .ensures);
     }
 
 pub take-spec : {M : Type 1} → statement M
@@ -97,6 +103,7 @@ take-spec =
     pop-requires
     enum-known-popped
     enum-told
+    over-requires
     same-length
     same-length-2
     returns
@@ -108,6 +115,7 @@ take-spec =
     same-length-5
     same-length-6
     returns-3
+    over-requires-2
     same-length-7
     same-length-8
     returns-4)

@@ -36,15 +36,15 @@ take-requires c κs =
     let p = c₁ .pre in
     let t = l .inv .4 (p .0) (p .1) in
     record {
-      framed = t .stood .stands .framed;
+      framed = t .stood .stands .0 .framed;
       short = t .stood .sized .wider .longer;
       slot = l .inv .1 ∙ (p .1) .slot;
       clear = t .clear;
       few = omega (arith, t .expanded);
     }
 
-enum-known-state : tie.Need-enum-known-state Inv-loop μ-loop
-enum-known-state c = search needs
+enum-known-finished : tie.Need-enum-known-finished Inv-loop μ-loop
+enum-known-finished c = search needs
 
 same-length : tie.Need-same-length Inv-loop μ-loop
 same-length c = c .before .before .before .before .before .before .before .before .before .before .loop .inv .0
@@ -68,7 +68,7 @@ returns c =
     let p = c₂ .pre in
     λ v.
     turn-over (triesIn (a .words .now)) v (λ lim q. tries-few ((p .0) .readable) lim (viewOf (v .graph)) q) (l .inv .0) (l .inv .4 (p .0) v)
-    (take .ensures) (c .before .state .given .0 .0) (c .before .state .given .1)
+    (take .ensures) (c .before .finished .given .0 .0) (c .before .finished .given .1)
 
 enum-told : tie.Need-enum-told Inv-loop μ-loop
 enum-told c = search needs
@@ -237,7 +237,7 @@ drive-spec =
     μ-loop
     loop-holds
     take-requires
-    enum-known-state
+    enum-known-finished
     same-length
     same-length-2
     same-length-3

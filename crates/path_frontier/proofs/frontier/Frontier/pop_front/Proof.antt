@@ -1,6 +1,9 @@
 -- `Frontier::pop_front` meets its contract: the first slot is read, and the ring goes on behind it.
 use native.Mathlib.Omega.{arith}
+use mathlib.Core.Path.{sym, subst}
 use Rattle.words.specs.Slots.Laws.{within}
+use Rattle.path_frontier.specs.declared.frontier.Frontier.{Frontier}
+use Rattle.path_frontier.specs.Frontier.{Front}
 use Rattle.path_frontier.specs.Frontier.Held.{front-is}
 use borrow.Author.Needs.{needs}
 use Rattle.path_frontier.proofs.frontier.Frontier.pop_front.Statement.{statement}
@@ -15,8 +18,8 @@ read-slot-requires c κs =
 around-requires : tie.Need-around-requires
 around-requires c κs = search needs
 
-sub-next : tie.Need-sub-next
-sub-next c = search needs
+taken-requires : tie.Need-taken-requires
+taken-requires c κs = search needs
 
 same-length : tie.Need-same-length
 same-length c = search needs
@@ -27,7 +30,8 @@ returns c =
     let p = c .before .before .before .before .before .before .before .before .pre in
     let next = c .before .around in
     let read = c .before .before .before .before .read-slot in
-    front-is (a .self) (a .work .now) (p .0) (next .result) (read .last .1 .1 .1 .0) (p .3) (p .2) (next .ensures .0) (next .ensures .1) (read .ensures)
+    subst (λ (r : Frontier). Front (a .self) (a .work .now) (read .last .1 .1 .1 .0) r) (sym (c .taken .ensures))
+    (front-is (a .self) (a .work .now) (p .0) (next .result) (read .last .1 .1 .1 .0) (p .3) (p .2) (next .ensures .0) (next .ensures .1) (read .ensures))
 
 pub pop-front-spec : {M : Type 1} → statement M
 pop-front-spec =
@@ -35,6 +39,6 @@ pop-front-spec =
     (tie.spec
     read-slot-requires
     around-requires
-    sub-next
+    taken-requires
     same-length
     returns)
