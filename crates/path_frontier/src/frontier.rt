@@ -142,13 +142,14 @@ impl Frontier {
         next
     }
 
-    // The first slot of the ring is taken.
+    // The first slot of the ring is taken. What is left is told before the slot is copied: the counts need not be kept over the copy.
     fn pop_front(self, work: &[u32], into: &mut [u32]) -> Frontier
         requires { ⌜ Framed self (now work) × IsSlot (self .length) (now into) × (0 < self .count) × (self .order ≡ SearchOrder.BreadthFirst) ⌝ }
         ensures { λ r. ⌜ Front self (now (work .entry)) (now (into .exit)) r ⌝ }
     {
+        let next = self.taken(around(self.first, 1, self.capacity));
         slots::read_slot(work, self.length, self.first, into);
-        self.taken(around(self.first, 1, self.capacity))
+        next
     }
 
     // The newest stand in the order of their pushes. A stack takes the last, so they are turned round for the first of them to come first.
@@ -156,10 +157,11 @@ impl Frontier {
         requires { ⌜ Framed self (now work) × IsSlot (self .length) (now into) × (0 < self .count) × (self .order ≡ SearchOrder.DepthFirst) ⌝ }
         ensures { λ r. ⌜ Back self (now (work .entry)) (now (into .exit)) r (now (work .exit)) ⌝ }
     {
+        let next = self.taken(self.first);
         let last = self.count - 1;
         slots::reverse_slots(work, self.length, self.count - self.pending, self.pending);
         slots::read_slot(work, self.length, last, into);
-        self.taken(self.first)
+        next
     }
 
     // How many of the first slots are in use: all where the ring goes round its end. The sum is taken only where it stays inside.
