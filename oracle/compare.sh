@@ -1,6 +1,6 @@
 #!/bin/bash
 # compare.sh [SEED] [CASES] [SCENE]: the given Rust, our static library and a
-# second implementation of document 01 on the same drawn input. Ends with 1 if
+# second implementation of documents 01 and 02 on the same drawn input. Ends with 1 if
 # there is a difference; README.md says more.
 # Needs what build.sh needs, and Rattle's tool rt to prove and write the library.
 # With POZHDAGHI_LIB_DIR libpozhdaghi.a is taken from that folder and nothing is

@@ -5,8 +5,8 @@
 
 writes the first list of crates/cases/stdin, and into stdout what the program
 must print of it, and tells how many cases of each sort there are. The expected answers
-come from refusals.py, a second reading of document 01 that shares nothing with
-the library.
+come from refusals.py, a second reading of documents 01 and 02 that shares
+nothing with the library.
 
 A case is a tag, what the tag says, and the expected answer; numbers are
 big-endian:
@@ -36,7 +36,16 @@ The list holds, in this order:
 - images of 63,499 and 63,500 bytes whose headers claim just that, with a fault
   in the last record: only the shorter one is read that far;
 - small random graphs with single bytes changed;
-- small random graphs with one fault or two out of FAULTS.
+- small random graphs with one fault or two out of FAULTS;
+- of version 2 (document 02, order 3): B, C and A; a graph with each kind of
+  record that has a symbol, with every byte changed to every other value and cut
+  behind every byte as A is above; the attached scopes and ends of edges as
+  above; random graphs with single bytes changed and with faults, their symbols
+  about the bounds of both widths and apart in the high half alone;
+- the same bytes under other versions, and random graphs of either version that
+  claim the other;
+- images of 63,498 and 63,499 bytes in version 1, of 65,535 and 65,536 in version
+  2, the last an accepted one; of 63,500, 65,536 and 65,537 bytes in every version.
 
 All draws are seeded.
 """
@@ -44,13 +53,16 @@ All draws are seeded.
 import collections
 import random
 
-from images import (DROP_SCOPES, GRAPH_A, GRAPH_B, GRAPH_C, POP, POP_SCOPED,
-                    PUSH, PUSH_SCOPED, REMOVED, ROOT_AND_JUMP, SCOPE, Edge,
-                    Graph, Node, image, random_graph)
-from refusals import FIRST_RECORD, LONGEST, checked
+from images import (BOUND_SYMBOLS, DROP_SCOPES, GRAPH_A, GRAPH_B, GRAPH_C, NARROW,
+                    POP, POP_SCOPED, PUSH, PUSH_SCOPED, REMOVED, ROOT_AND_JUMP,
+                    SCOPE, WIDE, Edge, Graph, Node, full_graph, image, random_graph)
+from refusals import FIRST_RECORD, LONGEST, LONGEST_OF_ALL, checked
 from stored_lists import write_list
 
 FILES_AT, NODES_AT, EDGES_AT = 5, 7, 9
+NO_VERSION = 3
+# What a push-scoped record counts in either version, and the other ones with a symbol.
+SCOPED_COUNTS, SYMBOL_COUNTS = (10, 14), (8, 12)
 LEAST, GREATEST = -(2**31), 2**31 - 1
 
 
@@ -132,6 +144,11 @@ def add_small_graphs(cases):
     cases.whole(image(GRAPH_B))
     cases.whole(image(GRAPH_C))
     cases.whole(image(GRAPH_A))
+    add_every_change(cases)
+
+
+def add_every_change(cases):
+    """Every byte of the last whole image changed, and the image cut anywhere."""
     first = cases.last
     for at in range(len(first)):
         for value in range(256):
@@ -178,22 +195,27 @@ def kinds_graph(edges):
     return Graph(2, nodes, edges)
 
 
-def add_attached_scopes(cases):
+def scope_at(data, at):
+    """Where the attached scope of a push-scoped record stands: in front of the flag."""
+    return at + data[at] - 2
+
+
+def add_attached_scopes(cases, version=NARROW):
     """Every number as the attached scope of a node in either file."""
-    cases.whole(image(kinds_graph([])))
+    cases.whole(image(kinds_graph([]), version))
     nodes, _ = record_places(cases.last)
     for at in nodes:
         if cases.last[at + 1] == PUSH_SCOPED:
-            cases.changed(at + 8, 1)
+            cases.changed(scope_at(cases.last, at), 1)
             for scope in range(len(nodes) + 1):
-                cases.changed(at + 9, scope)
+                cases.changed(scope_at(cases.last, at) + 1, scope)
 
 
-def add_ends(cases):
+def add_ends(cases, version=NARROW):
     """Every pair of numbers as the ends of an edge."""
     count = len(kinds_graph([]).nodes)
     for source in range(count + 1):
-        cases.whole(image(kinds_graph([None, Edge(source, 0)])))
+        cases.whole(image(kinds_graph([None, Edge(source, 0)]), version))
         _, edges = record_places(cases.last)
         cases.changed(edges[1] + 2, 1)
         cases.changed(edges[1] + 4, 1)
@@ -331,7 +353,8 @@ def fault_kind(rng, data, nodes, edges):
 def fault_same_size_kind(rng, data, nodes, edges):
     """A kind that has the same count: root and jump elsewhere, push and pop."""
     at = rng.choice(nodes)
-    alike = {1: (0, 1, 2), 8: (PUSH, POP, POP_SCOPED)}.get(data[at], (data[at + 1],))
+    with_symbol = {count: (PUSH, POP, POP_SCOPED) for count in SYMBOL_COUNTS}
+    alike = {1: (0, 1, 2), **with_symbol}.get(data[at], (data[at + 1],))
     put(data, at + 1, 1, rng.choice(alike))
 
 
@@ -350,9 +373,10 @@ def fault_flag(rng, data, nodes, edges):
 
 def fault_scope(rng, data, nodes, edges):
     """The attached scope of a push-scoped node, if there is one."""
-    at = rng.choice([at for at in nodes if data[at] == 10] or nodes)
-    if data[at] == 10:
-        put(data, at + 8, 2, rng.choice((0, 1, rng.randrange(len(nodes)), len(nodes), 65_535)))
+    at = rng.choice([at for at in nodes if data[at] in SCOPED_COUNTS] or nodes)
+    if data[at] in SCOPED_COUNTS:
+        put(data, scope_at(data, at), 2,
+            rng.choice((0, 1, rng.randrange(len(nodes)), len(nodes), 65_535)))
 
 
 def fault_end(rng, data, nodes, edges):
@@ -375,24 +399,29 @@ def fault_cut(rng, data, nodes, edges):
     data[:] = sized(data)
 
 
+def extent(data, at):
+    """A record's bytes; none where an earlier fault has cut the data before it."""
+    return slice(at, at + data[at] + 1 if at < len(data) else at)
+
+
 def fault_removed(rng, data, nodes, edges):
     """A node removed, whatever names it."""
     at = rng.choice(nodes[2:] or nodes)
-    data[at:at + data[at] + 1] = bytes([1, REMOVED])
+    data[extent(data, at)] = bytes([1, REMOVED])
     data[:] = sized(data)
 
 
 def fault_missing(rng, data, nodes, edges):
     """A record left out."""
     at = rng.choice(nodes + edges)
-    del data[at:at + data[at] + 1]
+    del data[extent(data, at)]
     data[:] = sized(data)
 
 
 def fault_doubled(rng, data, nodes, edges):
     """A record twice."""
     at = rng.choice(nodes + edges)
-    data[at:at] = data[at:at + data[at] + 1]
+    data[at:at] = data[extent(data, at)]
     data[:] = sized(data)
 
 
@@ -411,22 +440,105 @@ def small_graph(rng):
     return random_graph(rng, max_nodes=11, max_edges=7)
 
 
-def add_random_changes(cases, rng, graphs, changes):
+def small_image(rng):
+    """Its image."""
+    return image(small_graph(rng))
+
+
+def small_wide_image(rng):
+    """The image of a random graph in version 2, with any symbols."""
+    graph = small_graph(rng)
+    names = {symbol: rng.choice(BOUND_SYMBOLS) for symbol in graph.symbols()}
+    return image(graph.renamed(names), WIDE)
+
+
+def add_random_changes(cases, rng, graphs, changes, draw=small_image):
     """Random graphs with single bytes changed."""
     for _ in range(graphs):
-        cases.whole(image(small_graph(rng)))
+        cases.whole(draw(rng))
         add_changes(cases, rng, changes)
 
 
-def add_random_faults(cases, rng, count):
+def add_random_faults(cases, rng, count, draw=small_image):
     """Random graphs with a fault or two."""
     for number in range(count):
-        data = bytearray(image(small_graph(rng)))
+        data = bytearray(draw(rng))
         nodes, edges = record_places(data)
         drawn = set(rng.choices(FAULTS, WEIGHTS, k=1 + number % 2))
         for fault in sorted(drawn, key=FAULTS.index):
             fault(rng, data, nodes, edges)
         cases.whole(data)
+
+
+# A scope, a scoped push that attaches it, a pop, and an edge; every byte of a
+# symbol differs, so that one that stands elsewhere shows.
+WIDE_RECORDS = Graph(1, ROOT_AND_JUMP + [
+    Node(SCOPE, flag=True), Node(PUSH_SCOPED, 0, 0x0102030405060708, 2, True),
+    Node(POP, 0, 0x1112131415161718, flag=True)], [Edge(3, 2, -1)])
+
+
+def add_small_wide_graphs(cases):
+    """Version 2: all that can befall one byte, and what records name."""
+    for graph in (GRAPH_B, GRAPH_C, GRAPH_A, WIDE_RECORDS):
+        cases.whole(image(graph, WIDE))
+    add_every_change(cases)
+    add_attached_scopes(cases, WIDE)
+    add_ends(cases, WIDE)
+
+
+def add_other_versions(cases, rng, graphs):
+    """Images that claim another version than theirs."""
+    for _ in range(graphs):
+        for data, version in ((small_image(rng), WIDE), (small_wide_image(rng), NARROW)):
+            cases.whole(data)
+            for claimed in (0, version, NO_VERSION, 255):
+                cases.changed(0, claimed)
+
+
+def zeros(version, size):
+    """So many bytes with the length that is theirs: refused by 3 if they are read."""
+    return sized(bytes([version]) + bytes(size - 1))
+
+
+def add_sizes(cases):
+    """Sizes about the bounds of both versions, each under every version.
+
+    An image that is a byte longer than its header says stands for two sizes:
+    cut by that byte, and with the longer length put in.
+    """
+    for version, size in ((NARROW, LONGEST - 1), (WIDE, LONGEST_OF_ALL - 1)):
+        data = zeros(version, size)
+        cases.whole(data + bytes(1))
+        cases.cut(size)
+        cases.changed(4, data[4] + 1)
+    for size in (LONGEST + 1, LONGEST_OF_ALL + 1):
+        cases.whole(zeros(WIDE, size))
+        add_claims(cases)
+
+
+def add_claims(cases):
+    """The last whole image under other versions."""
+    for version in (0, NARROW, NO_VERSION, 255):
+        cases.changed(0, version)
+
+
+def add_longest_wide(cases, rng):
+    """The longest accepted image, other versions of it, and single bytes changed."""
+    cases.whole(image(full_graph(LONGEST_OF_ALL), WIDE))
+    add_claims(cases)
+    add_changes(cases, rng, 100)
+    for length in (FIRST_RECORD, LONGEST, LONGEST_OF_ALL - 1):
+        cases.cut(length)
+
+
+def add_version_2(cases):
+    """What document 02, order 3, has added."""
+    add_small_wide_graphs(cases)
+    add_sizes(cases)
+    add_longest_wide(cases, random.Random(4))
+    add_other_versions(cases, random.Random(5), graphs=30)
+    add_random_changes(cases, random.Random(6), graphs=40, changes=20, draw=small_wide_image)
+    add_random_faults(cases, random.Random(7), count=300, draw=small_wide_image)
 
 
 def main():
@@ -440,6 +552,7 @@ def main():
     add_large_images(cases, random.Random(1))
     add_random_changes(cases, random.Random(2), graphs=100, changes=20)
     add_random_faults(cases, random.Random(3), count=500)
+    add_version_2(cases)
     count = sum(cases.tags.values())
     write_list("images", cases, NAMES)
     print(f"{count} cases in {len(cases.written)} bytes")

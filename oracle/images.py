@@ -9,9 +9,10 @@ Used by scripts that write lists of requests and answers:
         oracle.load(GRAPH_A)
         print(oracle.ask("D 2 b - - -"))
 
-Document 01 defines the image and the small graphs A, B and C. README.md lists
+Document 01 defines the image and the small graphs A, B and C, document 02,
+order 3, the second version, whose symbols have eight bytes. README.md lists
 the requests. `python3 oracle/images.py --selftest` asks the oracle for the
-starred results of document 01.
+starred results of document 01, in both versions.
 """
 
 import argparse
@@ -25,13 +26,16 @@ from typing import NamedTuple, Optional
 REPOSITORY = pathlib.Path(__file__).resolve().parent.parent
 PROGRAM = REPOSITORY / "target" / "oracle" / "target" / "release" / "oracle"
 
-VERSION = 1
+# The versions of an image, and the bytes of a symbol in each.
+NARROW, WIDE = 1, 2
+SYMBOL_BYTES = {NARROW: 4, WIDE: 8}
 MAX_FILES, MAX_NODES, MAX_EDGES = 256, 2048, 4096
 LEAST_PRECEDENCE, GREATEST_PRECEDENCE = -(2**31), 2**31 - 1
 
 # The kinds of node, as the image numbers them.
 (REMOVED, ROOT, JUMP, SCOPE, PUSH, POP, PUSH_SCOPED, POP_SCOPED,
  DROP_SCOPES) = range(9)
+WITH_SYMBOL = (PUSH, POP, PUSH_SCOPED, POP_SCOPED)
 
 
 class Node(NamedTuple):
@@ -70,17 +74,27 @@ class Graph(NamedTuple):
         return [number for number, edge in enumerate(self.edges)
                 if edge is not None and edge.source == node]
 
+    def symbols(self):
+        """The symbols, each once, ascending."""
+        return sorted({node.symbol for node in self.nodes if node.kind in WITH_SYMBOL})
 
-def node_record(node):
+    def renamed(self, names):
+        """The graph with other symbols in the place of some of its own."""
+        nodes = [node._replace(symbol=names.get(node.symbol, node.symbol))
+                 if node.kind in WITH_SYMBOL else node for node in self.nodes]
+        return self._replace(nodes=nodes)
+
+
+def node_record(node, version=NARROW):
     """The bytes of a node record, with its count byte first."""
     rest = bytes([node.kind])
     if node.kind >= SCOPE:
         rest += node.file.to_bytes(2, "big")
-    if node.kind in (PUSH, POP, PUSH_SCOPED, POP_SCOPED):
-        rest += node.symbol.to_bytes(4, "big")
+    if node.kind in WITH_SYMBOL:
+        rest += node.symbol.to_bytes(SYMBOL_BYTES[version], "big")
     if node.kind == PUSH_SCOPED:
         rest += node.scope.to_bytes(2, "big")
-    if node.kind in (SCOPE, PUSH, POP, PUSH_SCOPED, POP_SCOPED):
+    if node.kind == SCOPE or node.kind in WITH_SYMBOL:
         rest += bytes([node.flag])
     return bytes([len(rest)]) + rest
 
@@ -95,14 +109,14 @@ def edge_record(edge):
     return bytes([len(rest)]) + rest
 
 
-def image(graph):
+def image(graph, version=NARROW):
     """The bytes of the graph's image."""
     counts = (graph.files, len(graph.nodes), len(graph.edges))
     body = b"".join(
         [count.to_bytes(2, "big") for count in counts]
-        + [node_record(node) for node in graph.nodes]
+        + [node_record(node, version) for node in graph.nodes]
         + [edge_record(edge) for edge in graph.edges])
-    return bytes([VERSION]) + len(body).to_bytes(4, "big") + body
+    return bytes([version]) + len(body).to_bytes(4, "big") + body
 
 
 def broken_rule(graph):
@@ -168,6 +182,32 @@ GRAPH_C = Graph(
     1, ROOT_AND_JUMP + [_REFERENCE_7, _DEFINITION_7],
     [Edge(2, 0), Edge(0, 0), Edge(0, 3)])
 
+# Names for the symbols of these graphs of which only the high halves differ, and
+# others of which only the low halves do.
+FAR_APART = {7: 2**32 + 7, 8: 2**63 + 7, 9: 7}
+HIGH_ALIKE = {7: 2**64 - 1, 8: 2**64 - 2, 9: 2**64 - 2**32}
+# Symbols about the bounds of both widths; of some only the high halves differ.
+BOUND_SYMBOLS = (0, 7, 2**32 - 1, 2**32, 2**32 + 7, 2**63 + 7, 2**64 - 1)
+
+
+def full_graph(size):
+    """A graph whose image in version 2 has so many bytes, about 65,536 of them.
+
+    An exported scope, push-scoped nodes, of which the first is a reference with
+    three edges to the scope, as many edges as there may be, and removed nodes
+    for the bytes that are left. All symbols have a high half of their own.
+    """
+    edges = [Edge(3, 2)] * 3 + [Edge(0, 0)] * (MAX_EDGES - 3)
+    scope, push = Node(SCOPE, flag=True), Node(PUSH_SCOPED, symbol=7, scope=2)
+    record = len(node_record(push, WIDE))
+    count, left = divmod(size - len(image(Graph(1, ROOT_AND_JUMP + [scope], edges), WIDE)), record)
+    if left % 2 == 1:
+        count, left = count - 1, left + record
+    pushes = [push._replace(symbol=(number << 32) + 7, flag=number == 1)
+              for number in range(1, 1 + count)]
+    removed = [Node(REMOVED)] * (left // len(node_record(Node(REMOVED))))
+    return Graph(1, ROOT_AND_JUMP + [scope] + pushes + removed, edges)
+
 
 def random_graph(rng, max_files=3, max_nodes=16, max_edges=14, symbols=2):
     """A random accepted graph.
@@ -204,7 +244,7 @@ def _random_node(rng, files, symbols):
         (1, 4, 4, 5, 3, 3, 1))[0]
     if kind == REMOVED:
         return Node(REMOVED)
-    symbol = _low(rng, symbols) if kind in (PUSH, POP, PUSH_SCOPED, POP_SCOPED) else 0
+    symbol = _low(rng, symbols) if kind in WITH_SYMBOL else 0
     flag = kind != DROP_SCOPES and rng.random() < 0.7
     return Node(kind, _low(rng, files), symbol, flag=flag)
 
@@ -357,9 +397,9 @@ class Oracle:
         self.process.stdin.write("flush\n")
         self.process.stdin.flush()
 
-    def load(self, graph):
+    def load(self, graph, version=NARROW):
         """Load a graph; the oracle must have counted as it was meant."""
-        answer = self.ask(load_request(graph))
+        answer = self.ask(load_request(graph, version))
         counts = (graph.files, len(graph.nodes), len(graph.edges))
         if answer != "ok {} {} {}".format(*counts):
             raise ValueError(f"the oracle did not load the graph: {answer}")
@@ -373,9 +413,9 @@ class Oracle:
             ["N"] + [f"R {file} {limits}" for file in range(graph.files)])
 
 
-def load_request(graph):
+def load_request(graph, version=NARROW):
     """The request that loads the graph."""
-    return "G " + image(graph).hex()
+    return "G " + image(graph, version).hex()
 
 
 def fields(answer):
@@ -426,12 +466,21 @@ def check(what, got, wanted):
 
 
 def check_stated(oracle):
-    """Ask for everything in STATED; the number of requests."""
+    """Ask for everything in STATED, in both versions; the number of requests."""
     check("A's image", len(image(GRAPH_A)), 77)
+    # three records with a symbol, each four bytes longer
+    check("A's image in version 2", len(image(GRAPH_A, WIDE)), 89)
+    return ask_stated(oracle, NARROW, {}) + sum(
+        ask_stated(oracle, WIDE, names) for names in ({}, FAR_APART, HIGH_ALIKE))
+
+
+def ask_stated(oracle, version, names):
+    """Everything in STATED with these symbols; the number of requests."""
     asked = 0
     for name, (graph, cases) in STATED.items():
+        graph = graph.renamed(names)
         check(name, broken_rule(graph), None)
-        oracle.load(graph)
+        oracle.load(graph, version)
         oracle.replace_all(graph)
         for request, wanted in cases:
             check(f"{name}: {request}", oracle.ask(request), wanted)

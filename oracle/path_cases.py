@@ -27,8 +27,9 @@ numbers of 4 bytes: document 01's number, 0 where nothing is refused, then
 - behind the 0 of C and H: 1 for yes, 0 for no;
 - behind the 0 of Y: the end; each edge e as 0 and e, each jump to scope s as 1
   and s, and a 2 behind the last step; how many symbols there are, and from top
-  to bottom each symbol with 0 if no scopes are attached, else with 1 and these;
-  the scope stack. A list of scopes is a count, then the scopes, the top first.
+  to bottom each symbol as two numbers, the high one first, with 0 if no scopes
+  are attached, else with 1 and these; the scope stack. A list of scopes is a
+  count, then the scopes, the top first.
 
 The list holds, in this order:
 
@@ -53,7 +54,10 @@ The list holds, in this order:
 - random walks in a graph of 2,048 nodes and 4,096 edges in 256 files, with
   symbols of 32 bits;
 - 150 random graphs with random walks from their references, which mostly
-  follow edges that the Rust accepts.
+  follow edges that the Rust accepts;
+- the graph with every kind of node in version 2 (document 02, order 3), with
+  symbols that differ in their high halves alone, and in their low ones; random
+  graphs with symbols of 64 bits.
 
 All draws are seeded.
 """
@@ -63,9 +67,10 @@ import collections
 import itertools
 import random
 
-from images import (DROP_SCOPES, GRAPH_A, GRAPH_B, GRAPH_C, POP, POP_SCOPED,
-                    PROGRAM, PUSH, PUSH_SCOPED, REMOVED, ROOT_AND_JUMP, SCOPE,
-                    Edge, Graph, Node, Oracle, fields, image, random_graph)
+from images import (DROP_SCOPES, FAR_APART, GRAPH_A, GRAPH_B, GRAPH_C,
+                    HIGH_ALIKE, POP, POP_SCOPED, PROGRAM, PUSH, PUSH_SCOPED,
+                    REMOVED, ROOT_AND_JUMP, SCOPE, WIDE, Edge, Graph, Node,
+                    Oracle, fields, image, random_graph)
 from image_cases import mixed_graph
 from refusals import checked
 from stored_lists import MOST_NUMBERS, write_list
@@ -92,11 +97,12 @@ def scopes_told(scopes):
 
 
 def symbol_told(symbol):
-    """A symbol with its attached scopes."""
-    if "/" not in symbol:
-        return [int(symbol), 0]
-    number, scopes = symbol.split("/")
-    return [int(number), 1] + scopes_told(listed(scopes, "."))
+    """A symbol, its high word first, with its attached scopes."""
+    number, *attached = symbol.split("/")
+    words = list(divmod(int(number), 2**32))
+    if not attached:
+        return words + [0]
+    return words + [1] + scopes_told(listed(attached[0], "."))
 
 
 def path_told(answer):
@@ -261,7 +267,7 @@ def damaged_images():
     yield from (b"", good[:10], good[:-1], good + b"\0")
     # version; length; files, nodes, edges; kind of the first node; kind, file
     # and flag of the reference; kind of the first edge; both its ends
-    for at, value in ((0, 2), (4, 0), (5, 2), (8, 1), (9, 255), (12, 3), (16, 9),
+    for at, value in ((0, 3), (4, 0), (5, 2), (8, 1), (9, 255), (12, 3), (16, 9),
                       (18, 1), (23, 2), (len(good) - 29, 2), (len(good) - 27, 9),
                       (len(good) - 25, 6)):
         data = bytearray(good)
@@ -527,6 +533,22 @@ def add_random_graphs(cases, rng, graphs):
             graphs -= 1
 
 
+def add_wide_symbols(cases, rng, graphs):
+    """Version 2: every path rule, and random graphs with symbols of 64 bits."""
+    for names in (FAR_APART, HIGH_ALIKE):
+        cases.image(image(RULES.renamed(names), WIDE))
+        for reference, edges, _ in RULES_PATHS:
+            cases.both(reference, edges)
+        add_walks(cases, rng, RULES, replays=25, completes=10, pairs=5)
+    while graphs > 0:
+        graph = random_graph(rng)
+        if any(graph.outgoing(reference) for reference in graph.references()):
+            names = {symbol: rng.getrandbits(64) for symbol in graph.symbols()}
+            cases.image(image(graph.renamed(names), WIDE))
+            add_walks(cases, rng, graph, replays=11, completes=4, pairs=5)
+            graphs -= 1
+
+
 def write(cases):
     """The list, which must hold every refusal of each kind."""
     for kind, numbers in cases.numbers.items():
@@ -540,9 +562,10 @@ def add_all(cases):
     sections = (add_small_graphs, add_damaged_images, add_rules, add_long_paths,
                 add_scope_chains, add_precedences,
                 lambda cases: add_large_graph(cases, random.Random(3)),
-                lambda cases: add_random_graphs(cases, random.Random(4), graphs=150))
+                lambda cases: add_random_graphs(cases, random.Random(4), graphs=150),
+                lambda cases: add_wide_symbols(cases, random.Random(5), graphs=30))
     names = ("small graphs", "damaged images", "rules", "long paths", "scope chains",
-             "precedences", "large graph", "random graphs")
+             "precedences", "large graph", "random graphs", "wide symbols")
     for name, add in zip(names, sections):
         before, size = cases.sums(), len(cases.written)
         add(cases)

@@ -12,7 +12,7 @@ The statistics and paths of a search are the oracle's, that is the given Rust's.
 The Rust knows neither areas of fixed size nor the bound of 127 edges, so 30, 31
 and 32 are those of searches.py, which must agree with the Rust everywhere else.
 The number of a refused image is that of refusals.py, a second reading of
-document 01, and 2 for more than 65,536 bytes. The cases:
+documents 01 and 02, and 2 for more than 65,536 bytes. The cases:
 
 - A, B and C of document 01;
 - EXAMPLE of example.py, where all numbers on a line differ, and the order of
@@ -21,6 +21,9 @@ document 01, and 2 for more than 65,536 bytes. The cases:
 - as many paths as there are result slots, as many waiting as there are slots,
   as many edges as a path may have, and one more of each;
 - graphs without a file, without a reference; one of the most bytes;
+- in version 2 (document 02, order 3): A, EXAMPLE with symbols that differ in their
+  high halves alone and with others that differ in the low ones, and one of the
+  most bytes that an image may have;
 - images that are refused by 1 to 5, among them those where two faults stand
   together and the first one is told; no bytes, and more than an image may have;
 - one output that is wrong, the only one that .ci/resolve_cases.py must find.
@@ -31,15 +34,17 @@ import itertools
 import pathlib
 
 from example import EXAMPLE
-from images import (GRAPH_A, GRAPH_B, GRAPH_C, POP, PROGRAM, PUSH, PUSH_SCOPED,
-                    ROOT_AND_JUMP, SCOPE, VERSION, Edge, Graph, Node, Oracle,
-                    edge_record, fields, image, node_record)
+from images import (FAR_APART, GRAPH_A, GRAPH_B, GRAPH_C, HIGH_ALIKE, NARROW, POP,
+                    PROGRAM, PUSH, PUSH_SCOPED, ROOT_AND_JUMP, SCOPE, WIDE, Edge,
+                    Graph, Node, Oracle, edge_record, fields, full_graph, image,
+                    node_record)
 from resolve_runs import MOST_BYTES, PRINTED_FOR_A, SLOTS, bytes_lines, search_lines
 from search_cases import at_end, chain
 from searches import MOST_EDGES
 
 FOLDER = pathlib.Path(__file__).resolve().parent / "resolve_cases"
 LONGEST = 63_499
+NO_VERSION = 3
 REFERENCE, DEFINITION = Node(PUSH, symbol=7, flag=True), Node(POP, symbol=7, flag=True)
 
 
@@ -52,9 +57,9 @@ def rust_lines(oracle, reference):
     return "\n".join(lines + [f"path {path.replace(',', ' ')}" for path in paths]) + "\n"
 
 
-def graph_lines(oracle, graph):
+def graph_lines(oracle, graph, version):
     """The Rust's lines, but for searches that only areas and the bound refuse."""
-    oracle.load(graph)
+    oracle.load(graph, version)
     lines = []
     for reference in graph.references():
         line = search_lines(graph, reference)
@@ -70,12 +75,12 @@ def text_line(data, count, comment=""):
     return f"{data.hex()}{repeated}{comment}\n"
 
 
-def graph_text(graph):
+def graph_text(graph, version=NARROW):
     """The head, then every record on a line, equal ones together."""
-    data = image(graph)
+    data = image(graph, version)
     lines = [text_line(data[:11], 1, "  # version, length, F, N, M")]
-    for records, name in ((map(node_record, graph.nodes), "node"),
-                          (map(edge_record, graph.edges), "edge")):
+    nodes = [node_record(node, version) for node in graph.nodes]
+    for records, name in ((nodes, "node"), (map(edge_record, graph.edges), "edge")):
         number = 0
         for record, same in itertools.groupby(records):
             count = len(list(same))
@@ -112,6 +117,12 @@ def largest():
     return Graph(1, ROOT_AND_JUMP + nodes, [Edge(2_047, 2)] * 3 + [Edge(0, 0)] * 4_093)
 
 
+def longest_wide():
+    """The most bytes in version 2, with one symbol, so that equal records stand together."""
+    graph = full_graph(MOST_BYTES)
+    return graph.renamed({symbol: 2**64 - 1 for symbol in graph.symbols()})
+
+
 GRAPHS = {
     "graph_a": GRAPH_A, "graph_b": GRAPH_B, "graph_c": GRAPH_C,
     "example": EXAMPLE, "example_with_refused": with_refused(),
@@ -122,6 +133,11 @@ GRAPHS = {
     "no_reference": Graph(1, ROOT_AND_JUMP + [Node(SCOPE), Node(PUSH, symbol=7)], [Edge(3, 2)]),
     "largest": largest(),
 }
+RENAMED = {
+    "example_far_apart": EXAMPLE.renamed(FAR_APART),
+    "example_high_alike": EXAMPLE.renamed(HIGH_ALIKE),
+}
+WIDE_GRAPHS = {"graph_a_wide": GRAPH_A, **RENAMED, "longest_wide": longest_wide()}
 
 
 def changed(*changes):
@@ -141,10 +157,11 @@ def sized(version, size):
 REFUSED = {
     "nothing": (b"", 2),
     "ten_bytes": (image(GRAPH_A)[:10], 2),
-    "version": (changed((0, 2)), 1),
-    "version_and_counts": (changed((0, 2), (8, 1)), 1),
+    "version": (changed((0, NO_VERSION)), 1),
+    "version_and_counts": (changed((0, NO_VERSION), (8, 1)), 1),
+    "version_of_other_records": (changed((0, WIDE)), 2),
     "length": (changed((4, 71)), 2),
-    "length_and_version": (changed((4, 71), (0, 2)), 2),
+    "length_and_version": (changed((4, 71), (0, NO_VERSION)), 2),
     "byte_missing": (image(GRAPH_A)[:-1], 2),
     "byte_left_over": (changed((4, 73)) + b"\0", 2),
     "record_miscounted": (changed((15, 9)), 2),
@@ -160,11 +177,15 @@ REFUSED = {
     "edge_from_jump": (changed((50, 1)), 5),
     "edge_to_no_node": (changed((72, 6)), 5),
     "edge_to_no_node_and_flag": (changed((72, 6), (37, 2)), 4),
-    "longest": (sized(VERSION, LONGEST), 3),
-    "longest_of_other_version": (sized(2, LONGEST), 1),
-    "one_byte_too_many": (sized(2, LONGEST + 1), 2),
-    "most_bytes_read": (sized(2, MOST_BYTES), 2),
-    "more_bytes_than_read": (sized(2, MOST_BYTES + 1), 2),
+    "longest": (sized(NARROW, LONGEST), 3),
+    "longest_of_other_version": (sized(NO_VERSION, LONGEST), 1),
+    "one_byte_too_many": (sized(NARROW, LONGEST + 1), 2),
+    "one_byte_more_wide": (sized(WIDE, LONGEST + 1), 3),
+    "one_byte_more_of_other_version": (sized(NO_VERSION, LONGEST + 1), 1),
+    "most_bytes_read": (sized(WIDE, MOST_BYTES), 3),
+    "most_bytes_read_narrow": (sized(NARROW, MOST_BYTES), 2),
+    "most_bytes_read_of_other_version": (sized(NO_VERSION, MOST_BYTES), 1),
+    "more_bytes_than_read": (sized(WIDE, MOST_BYTES + 1), 2),
     "many_bytes_behind_a": (image(GRAPH_A) + bytes(200_000), 2),
 }
 
@@ -178,8 +199,9 @@ def bytes_text(data):
 
 def graph_cases(oracle):
     """Accepted images: input and output by name."""
-    for name, graph in GRAPHS.items():
-        yield name, graph_text(graph), graph_lines(oracle, graph)
+    for graphs, version in ((GRAPHS, NARROW), (WIDE_GRAPHS, WIDE)):
+        for name, graph in graphs.items():
+            yield name, graph_text(graph, version), graph_lines(oracle, graph, version)
 
 
 def refused_cases():
@@ -207,6 +229,8 @@ def main():
         cases = [*graph_cases(oracle), *refused_cases()]
     printed = {name: output for name, _, output in cases}
     check_example(printed["example"])
+    if any(printed[name] != printed["example"] for name in RENAMED):
+        raise ValueError("another name of a symbol alters what is printed")
     if printed["graph_a"] != PRINTED_FOR_A:
         raise ValueError("document 01 prints something else for A")
     cases.append(("wrong", graph_text(GRAPH_A), PRINTED_FOR_A.replace("path 0 1", "path 0 2")))

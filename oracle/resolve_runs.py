@@ -8,12 +8,14 @@ it must print is laid down in document 01, "Small graphs"; the searches come
 from searches.py and the refusals of an image from refusals.py. The images:
 
 - A, B and C, with what document 01 prints for A; damaged images of A;
-- no bytes, and zeros: about 63,499 bytes, where the size of an image is
-  refused, and 65,536 and more, where the program stops reading;
+- no bytes, and zeros: about 63,499 bytes, where the size of an image of version
+  1 is refused, and 65,536 and more, where the program stops reading;
 - graphs in which a search is refused with 30, 31 or 32 between others that are
   not, and one with 128 returned paths, as many as there are slots;
 - a graph without a file, one without a reference, one of 2,048 nodes;
-- random graphs in which every search ends soon.
+- random graphs in which every search ends soon;
+- all these graphs again in version 2 (document 02, order 3), the symbols of
+  every other one moved to the high half.
 
 All draws are seeded.
 """
@@ -23,7 +25,7 @@ import random
 import subprocess
 
 from images import (GRAPH_A, GRAPH_B, GRAPH_C, POP, PUSH, REPOSITORY,
-                    ROOT_AND_JUMP, SCOPE, Edge, Graph, Node, image,
+                    ROOT_AND_JUMP, SCOPE, WIDE, Edge, Graph, Node, image,
                     random_graph)
 from path_cases import damaged_images
 from refusals import Refused, checked
@@ -90,6 +92,12 @@ def ends_soon(graph):
     return all(each.flags[1] == 0 for each in found)
 
 
+def wide_image(graph, number):
+    """Its image in version 2, with the same paths whatever its number."""
+    names = {symbol: symbol << 32 for symbol in graph.symbols()} if number % 2 else {}
+    return image(graph.renamed(names), WIDE)
+
+
 def runs(rng, count):
     """Pairs of bytes and what is printed for them."""
     yield image(GRAPH_A), PRINTED_FOR_A
@@ -100,7 +108,10 @@ def runs(rng, count):
         graph = random_graph(rng)
         if ends_soon(graph):
             graphs.append(graph)
-    yield from ((image(graph), graph_lines(graph)) for graph in graphs)
+    for number, graph in enumerate(graphs):
+        lines = graph_lines(graph)
+        yield image(graph), lines
+        yield wide_image(graph, number), lines
     sizes = (0, 1, 63_499, 63_500, MOST_BYTES - 1, MOST_BYTES, MOST_BYTES + 1, 200_000)
     for data in [*damaged_images(), *map(bytes, sizes)]:
         yield data, bytes_lines(data)

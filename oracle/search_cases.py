@@ -61,7 +61,9 @@ The list holds, in this order:
 - random graphs, with random references, limits and areas;
 - a scope that is passed twice, where an edge that is on the path already stands
   before or behind the one that goes on: linear search takes no cycle cut for
-  the first edge of a node, nor for the second.
+  the first edge of a node, nor for the second;
+- A, B, C and the graph with every kind of node in version 2 (document 02, order
+  3), with symbols that differ in their high halves alone, and in their low ones.
 
 All draws are seeded.
 """
@@ -72,9 +74,9 @@ import itertools
 import random
 
 from image_cases import mixed_graph
-from images import (GRAPH_A, GRAPH_B, GRAPH_C, POP, PROGRAM, PUSH,
-                    ROOT_AND_JUMP, SCOPE, Edge, Graph, Node, Oracle, fields,
-                    image, random_graph)
+from images import (FAR_APART, GRAPH_A, GRAPH_B, GRAPH_C, HIGH_ALIKE, NARROW,
+                    POP, PROGRAM, PUSH, ROOT_AND_JUMP, SCOPE, WIDE, Edge, Graph,
+                    Node, Oracle, fields, image, random_graph)
 from path_cases import (BESIDE_JUMPS, CHAINS, GREATEST, LAST, LEAST,
                         PRECEDENCES, RULES, damaged_images, error_told, listed,
                         longs)
@@ -170,11 +172,11 @@ class CaseList:
         """How many cases there are by kind."""
         return {kind: sum(numbers.values()) for kind, numbers in self.numbers.items()}
 
-    def load(self, graph):
+    def load(self, graph, version=NARROW):
         """The image of a graph, which the oracle is given too."""
-        self.image(image(graph))
+        self.image(image(graph, version))
         self.graph = graph
-        self.oracle.load(graph)
+        self.oracle.load(graph, version)
 
     def image(self, data):
         """An image."""
@@ -493,6 +495,16 @@ def add_passed_twice(cases):
         cases.search("L", 2, result=0)
 
 
+def add_wide_symbols(cases):
+    """Version 2, with symbols of 64 bits."""
+    for names, graph in itertools.product((FAR_APART, HIGH_ALIKE),
+                                          (GRAPH_A, GRAPH_B, GRAPH_C, ONCE_ROUND, RULES)):
+        cases.load(graph.renamed(names), WIDE)
+        for reference in graph.references():
+            for limits in ((None, 60, None), (3, 60, None)):
+                cases.some(reference, limits, work=100 * SLOT, result=20 * SLOT)
+
+
 def write(cases):
     """The list, which must hold every refusal of each kind."""
     for kind, numbers in cases.numbers.items():
@@ -509,7 +521,7 @@ def add_all(cases):
         "precedences": add_precedences, "rules": add_rules,
         "large graph": lambda cases: add_large_graph(cases, random.Random(2)),
         "random graphs": lambda cases: add_random_graphs(cases, random.Random(3), graphs=80),
-        "passed twice": add_passed_twice}
+        "passed twice": add_passed_twice, "wide symbols": add_wide_symbols}
     for name, add in sections.items():
         before, size = cases.sums(), len(cases.written)
         add(cases)

@@ -19,6 +19,9 @@ a call. It holds, in this order:
   edges and files that are none;
 - the path rules of path_cases.py: replay, completeness and `shadows`, refused
   on either side, with 10 to 18 among the refusals;
+- A, EXAMPLE and the path rules in version 2 (document 02, order 3), with symbols
+  that differ in their high halves alone, and in their low ones: searches over all
+  files, replayed paths, completeness;
 - at the end a line whose answer is wrong, the only one that the test must find.
 
 The list would be of little use if an exchange of numbers in it did not show, so
@@ -28,8 +31,8 @@ it is tested here that they differ.
 import argparse
 
 from example import EXAMPLE, LINE
-from images import (GRAPH_A, GRAPH_B, GRAPH_C, PROGRAM, REPOSITORY, Oracle,
-                    fields, load_request)
+from images import (FAR_APART, GRAPH_A, GRAPH_B, GRAPH_C, HIGH_ALIKE, PROGRAM,
+                    REPOSITORY, WIDE, Oracle, fields, load_request)
 from path_cases import LAST, RULES, RULES_PATHS, written
 
 LIST = REPOSITORY / "service" / "tests" / "as_the_rust" / "list.txt"
@@ -92,6 +95,18 @@ def rule_calls():
             *(f"H {sides}" for path in paths for sides in (f"2 0,1 {path}", f"{path} 2 0,1"))]
 
 
+def wide_calls(names):
+    """The same graphs in version 2 with these symbols."""
+    paths = [f"{reference} {written(edges)}" for reference, edges, _ in RULES_PATHS]
+    return [load_request(GRAPH_A.renamed(names), WIDE), *filed(GRAPH_A),
+            *searches("DdLlSs", [2], [NO_LIMITS], "b"), "Y 2 0", "Y 2 0,2",
+            load_request(EXAMPLE.renamed(names), WIDE), *filed(EXAMPLE),
+            *searches("DdSs", EXAMPLE.references(), [NO_LIMITS], "b"),
+            *(f"{letter} {path}" for path in EXAMPLE_PATHS for letter in "YC"),
+            load_request(RULES.renamed(names), WIDE),
+            *(f"{letter} {path}" for path in paths for letter in "YC")]
+
+
 PARTS = {
     "graph A": small_graph(GRAPH_A),
     "graph B": small_graph(GRAPH_B),
@@ -99,6 +114,8 @@ PARTS = {
     "LINE": [load_request(LINE), *searches("Ll", [2, 7], LINE_LIMITS, "b")],
     "EXAMPLE": example_calls(),
     "path rules": rule_calls(),
+    "symbols that differ in their high halves": wide_calls(FAR_APART),
+    "symbols that differ in their low halves": wide_calls(HIGH_ALIKE),
 }
 
 

@@ -53,7 +53,9 @@ The list holds, in this order:
 - a graph of 2,048 nodes and 4,096 edges in 256 files;
 - databases of one graph read with another: cleared, grown, or smaller (34);
 - random graphs with all their partial paths, and with any slots;
-- words that meet 35 and 34 at once.
+- words that meet 35 and 34 at once;
+- A, B, C and others in version 2 (document 02, order 3), with symbols that
+  differ in their high halves alone, and in their low ones.
 
 All draws are seeded.
 """
@@ -64,8 +66,8 @@ import itertools
 import random
 
 from image_cases import mixed_graph
-from images import (GRAPH_A, GRAPH_B, GRAPH_C, PROGRAM, Oracle, image,
-                    random_graph)
+from images import (FAR_APART, GRAPH_A, GRAPH_B, GRAPH_C, HIGH_ALIKE, NARROW,
+                    PROGRAM, WIDE, Oracle, image, random_graph)
 from partial_cases import (KINDS, RUBBISH, TWO_FILES, database_request,
                            few_paths, filed_on_a, is_malformed,
                            malformed_and_outgrown, next_graph, words_told)
@@ -143,11 +145,11 @@ class CaseList:
         """How many cases there are by kind."""
         return {kind: sum(numbers.values()) for kind, numbers in self.numbers.items()}
 
-    def load(self, graph):
+    def load(self, graph, version=NARROW):
         """The image of a graph, which the oracle is given too."""
-        self.image(image(graph))
+        self.image(image(graph, version))
         self.graph = graph
-        self.oracle.load(graph)
+        self.oracle.load(graph, version)
 
     def image(self, data):
         """An image."""
@@ -548,6 +550,16 @@ def add_both_refused(cases):
         cases.either(LAST, work=0, result=0)
 
 
+def add_wide_symbols(cases):
+    """Version 2, with symbols of 64 bits."""
+    for names, graph in itertools.product((FAR_APART, HIGH_ALIKE),
+                                          (GRAPH_A, GRAPH_B, GRAPH_C, TWO_FILES, SCOPED, KINDS)):
+        cases.load(graph.renamed(names), WIDE)
+        cases.lend(all_filed(graph, 60))
+        for reference in graph.references():
+            cases.either(reference, work=16 * SLOT, result=12 * SLOT)
+
+
 def write(cases):
     """The list, which must hold every refusal of each kind."""
     for kind, numbers in cases.numbers.items():
@@ -566,7 +578,7 @@ def add_all(cases):
         "large graph": lambda cases: add_large_graph(cases, random.Random(2)),
         "stale": lambda cases: add_stale(cases, random.Random(3), chains=14),
         "random graphs": lambda cases: add_random_graphs(cases, random.Random(4), graphs=34),
-        "malformed and outgrown": add_both_refused}
+        "malformed and outgrown": add_both_refused, "wide symbols": add_wide_symbols}
     for name, add in sections.items():
         before, size = cases.sums(), len(cases.written)
         add(cases)

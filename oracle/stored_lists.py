@@ -18,7 +18,7 @@ LISTS = ("images", "paths", "searches", "partials", "stitched")
 KINDS = ("images", "replays", "complete", "shadows", "direct", "direct recorded", "linear", "linear recorded",
          "fresh", "replaced", "lookups", "stitched", "stitched recorded")
 # As many bytes as the program reads of a list, and as many numbers as an answer may have.
-MOST_BYTES, MOST_NUMBERS = 600_000, 8_192
+MOST_BYTES, MOST_NUMBERS = 1_300_000, 8_192
 LINE = re.compile(r"(\D+?)( case)? \d")
 
 

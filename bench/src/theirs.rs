@@ -1,6 +1,6 @@
 //! The given Rust's side, with the graph loaded before the clock starts.
 
-use crate::load::{Graph, load};
+use crate::load::{Graph, Symbol, load};
 use crate::settings::Settings;
 use crate::{Job, Told};
 use cfglib::graph::search::SearchOrder;
@@ -24,7 +24,7 @@ pub fn load_often(bytes: &[u8], times: usize) {
     }
 }
 
-fn resolution(found: &StackResolution<u32>) -> Told {
+fn resolution(found: &StackResolution<Symbol>) -> Told {
     let stats = found.stats();
     vec![
         0,

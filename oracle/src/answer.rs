@@ -1,5 +1,6 @@
 //! Writing what the given library returns as one line of text.
 
+use crate::load::Symbol;
 use cfglib::graph::stack::{
     StackGraphError, StackLinearResolutionError, StackPartialPath, StackPartialPathStats,
     StackPath, StackPathError, StackPathStep, StackResolution, StackScopedSymbol,
@@ -49,7 +50,7 @@ pub fn file_error(error: StackGraphError) -> String {
     }
 }
 
-pub fn resolution(resolution: &StackResolution<u32>) -> String {
+pub fn resolution(resolution: &StackResolution<Symbol>) -> String {
     let stats = resolution.stats();
     format!(
         "ok exp={} comp={} rej={} cyc={} fl={}{}{} paths={}",
@@ -64,7 +65,7 @@ pub fn resolution(resolution: &StackResolution<u32>) -> String {
     )
 }
 
-fn path_edges(path: &StackPath<u32>) -> String {
+fn path_edges(path: &StackPath<Symbol>) -> String {
     let edges = path.steps().iter().filter_map(|step| match step {
         StackPathStep::Edge(edge) => Some(edge.raw()),
         StackPathStep::Jump { .. } => None,
@@ -95,7 +96,7 @@ pub fn partial_path(path: &StackPartialPath) -> String {
 }
 
 /// A replayed path with its steps and both stacks from bottom to top.
-pub fn path(path: &StackPath<u32>) -> String {
+pub fn path(path: &StackPath<Symbol>) -> String {
     format!(
         "ok end={} len={} steps={} sym={} sco={}",
         path.end().raw(),
@@ -113,7 +114,7 @@ fn step(step: &StackPathStep) -> String {
     }
 }
 
-fn scoped_symbol(symbol: &StackScopedSymbol<u32>) -> String {
+fn scoped_symbol(symbol: &StackScopedSymbol<Symbol>) -> String {
     match symbol.scopes() {
         None => symbol.symbol().to_string(),
         Some(scopes) => format!(

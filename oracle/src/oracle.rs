@@ -5,7 +5,7 @@ use cfglib::graph::stack::{
     StackEdgeId, StackNodeId, StackPartialPathDatabase, StackPartialPathId, StackPartialPathSet,
     StackPath, StackPathError, StackResolution,
 };
-use load::Graph;
+use load::{Graph, Symbol};
 use std::any::Any;
 use std::io::{BufRead, BufWriter, Write, stdin, stdout};
 use std::panic::{AssertUnwindSafe, catch_unwind};
@@ -157,7 +157,7 @@ fn slots(database: &StackPartialPathDatabase) -> String {
 }
 
 /// REF EDGES
-fn replay(state: &State, words: &[&str]) -> Result<StackPath<u32>, StackPathError> {
+fn replay(state: &State, words: &[&str]) -> Result<StackPath<Symbol>, StackPathError> {
     let reference: StackNodeId = request::node(words[0]);
     let edges: Vec<StackEdgeId> = request::edges(words[1]);
     let mut path = StackPath::from_reference(state.graph(), reference)?;

@@ -5,7 +5,7 @@
 /// waiting figure.
 pub(crate) const ANSWER: usize = 10;
 
-/// A refusal of document 01: its number, and the values returned with it, 0
+/// A refusal of document 01 or 02: its number, and the values returned with it, 0
 /// where it has fewer than two.
 #[derive(Clone, Copy, Debug, PartialEq, Eq)]
 pub struct Refusal {
@@ -104,6 +104,11 @@ pub(crate) fn resolution(answer: &[u64; ANSWER]) -> Result<Resolution, Refusal> 
 pub(crate) fn name(answer: &[u64; ANSWER]) -> Result<Option<u32>, Refusal> {
     let &[_, is_found, reference, ..] = answer;
     refused(answer).map_or(Ok((is_found != 0).then_some(reference as u32)), Err)
+}
+
+/// How many bytes a rewritten image has.
+pub(crate) fn length(answer: &[u64; ANSWER]) -> Result<usize, Refusal> {
+    refused(answer).map_or(Ok(answer[1] as usize), Err)
 }
 
 pub(crate) fn replacement(answer: &[u64; ANSWER]) -> Result<PartialStatistics, Refusal> {

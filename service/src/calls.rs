@@ -2,7 +2,7 @@
 //! slices that it holds, which is all that the library reads and writes.
 
 use crate::answer::{self, Counts, PartialStatistics, Refusal, Resolution};
-use crate::link::{self, Answer, Direct, Linear, Stitched};
+use crate::link::{self, Answer, Direct, Linear, Rewriting, Stitched};
 use crate::replayed::{self, Replayed};
 use crate::request::{Limits, Request};
 use crate::PATH_WORDS;
@@ -379,4 +379,41 @@ pub fn lookup(words: &[u32], number: u32) -> &[u32] {
     let [place, count, ..] = told;
     let (from, up_to) = (place as usize, place.saturating_add(count) as usize);
     words.get(from..up_to).unwrap_or(&[])
+}
+
+/// Rewrites an image of version 1 in version 2, its symbols extended by zeros. The
+/// rewritten image stands in the first bytes of `area`, as many as are answered, and
+/// zeros behind it; a refused call leaves all of it zero. `narrow` undoes it byte for
+/// byte.
+///
+/// Refused by 1 to 5 for the image, 1 if it is of version 2; then by 2 if the result
+/// would have more than `LONGEST_IMAGE` bytes, by 32 if `area` is too short.
+pub fn widen(image: &[u8], area: &mut [u8]) -> Result<usize, Refusal> {
+    rewrite(link::pozhdaghi_widen, image, area)
+}
+
+/// Rewrites an image of version 2 in version 1, likewise. `widen` undoes it byte for
+/// byte.
+///
+/// Refused by 1 to 5 for the image, 1 if it is of version 1; then by 38 with the
+/// place of the first record whose symbol does not fit 32 bits, by 32 if `area` is
+/// too short. No result is too long for version 1.
+pub fn narrow(image: &[u8], area: &mut [u8]) -> Result<usize, Refusal> {
+    rewrite(link::pozhdaghi_narrow, image, area)
+}
+
+fn rewrite(call: Rewriting, image: &[u8], area: &mut [u8]) -> Result<usize, Refusal> {
+    let mut told = EMPTY;
+    // SAFETY: each pointer and length is that of a slice held here.
+    unsafe {
+        call(
+            image.as_ptr(),
+            image.len(),
+            area.as_mut_ptr(),
+            area.len(),
+            told.as_mut_ptr(),
+            told.len(),
+        );
+    }
+    answer::length(&told)
 }

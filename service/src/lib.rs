@@ -5,8 +5,8 @@
 //! the path that it hands back. The caller lends the image, the areas and the
 //! database words; every call leaves them as its contract says
 //! (`crates/pozhdaghi/src`). A refusal has the number and the values of document
-//! 01, "Turned back", or of document 02. The library's own work takes about 200 KB of the caller's
-//! stack.
+//! 01, "Turned back", or of document 02. The library's own work takes up to about
+//! 240 KB of the caller's stack, and `replay` 290 KB with the words of its path.
 //!
 //! An area that a call writes overlaps no other area that it is lent: the
 //! contracts speak of each by itself. Here the borrow checker sees to it, which
@@ -34,7 +34,7 @@ mod request;
 pub use answer::{Counts, PartialStatistics, Refusal, Resolution, Statistics};
 pub use calls::{
     check, direct, direct_recorded, find_name, fresh, is_complete, linear, linear_recorded, lookup,
-    replace_file, replay, shadows, stitched, stitched_recorded,
+    narrow, replace_file, replay, shadows, stitched, stitched_recorded, widen,
 };
 pub use replayed::{Replayed, Step, Symbol};
 pub use request::{Limits, Order, Request};
@@ -46,12 +46,16 @@ pub const SLOT_WORDS: usize = 128;
 pub const DATABASE_HEAD: usize = 3;
 pub const RECORD_WORDS: usize = 131;
 
+/// Bytes of the longest image, which is of version 2: any rewritten image fits
+/// into as many.
+pub const LONGEST_IMAGE: usize = 65_536;
+
 /// Words that any replayed path fits into: its end; at most 254 steps, as each
 /// of 127 edges may be followed by a jump; at most 128 symbols with 64 scopes
-/// each; 64 scopes. An item takes two words, and a word ends each list. A scope
-/// more on a symbol takes a push and a pop among 128 nodes, so there are at
-/// most 64.
-pub const PATH_WORDS: usize = 1 + (2 * 254 + 1) + (128 * (2 + 2 * 64 + 1) + 1) + (2 * 64 + 1);
+/// each; 64 scopes. A symbol takes three words, any other item two, and a word
+/// ends each list. A scope more on a symbol takes a push and a pop among 128
+/// nodes, so there are at most 64.
+pub const PATH_WORDS: usize = 1 + (2 * 254 + 1) + (128 * (3 + 2 * 64 + 1) + 1) + (2 * 64 + 1);
 
 /// The paths in a result area, each as its edges: the slots up to the first
 /// without edges.

@@ -156,6 +156,22 @@ unsafe extern "C" {
         answer: *mut u64,
         answer_len: usize,
     );
+    pub fn pozhdaghi_widen(
+        image: *const u8,
+        image_len: usize,
+        area: *mut u8,
+        area_len: usize,
+        answer: *mut u64,
+        answer_len: usize,
+    );
+    pub fn pozhdaghi_narrow(
+        image: *const u8,
+        image_len: usize,
+        area: *mut u8,
+        area_len: usize,
+        answer: *mut u64,
+        answer_len: usize,
+    );
 }
 
 /// Direct search, returned and recorded paths.
@@ -199,6 +215,16 @@ pub type Stitched = unsafe extern "C" fn(
     work_len: usize,
     result: *mut u32,
     result_len: usize,
+    answer: *mut u64,
+    answer_len: usize,
+);
+
+/// An image rewritten in the other version.
+pub type Rewriting = unsafe extern "C" fn(
+    image: *const u8,
+    image_len: usize,
+    area: *mut u8,
+    area_len: usize,
     answer: *mut u64,
     answer_len: usize,
 );

@@ -1,5 +1,5 @@
 //! A replayed path, read back from the words that the library writes
-//! (`crates/path_words/specs/PathWords.antt`).
+//! (`crates/semantics/specs/PathWords.antt`).
 
 /// A step of a path: an edge's number, or the scope that was jumped to.
 #[derive(Clone, Copy, Debug, PartialEq, Eq)]
@@ -11,7 +11,7 @@ pub enum Step {
 /// A symbol of the symbol stack; its scopes, top first, if any are attached.
 #[derive(Clone, Debug, PartialEq, Eq)]
 pub struct Symbol {
-    pub symbol: u32,
+    pub symbol: u64,
     pub scopes: Option<Vec<u32>>,
 }
 
@@ -56,8 +56,10 @@ impl Words<'_> {
         })
     }
 
+    /// The number of a symbol has a second word, the low one.
     fn symbol(&mut self) -> Option<Symbol> {
-        let (kind, symbol) = self.item()?;
+        let (kind, high) = self.item()?;
+        let symbol = u64::from(high) << u32::BITS | u64::from(self.next());
         let scopes = (kind == OTHER).then(|| self.scopes());
         Some(Symbol { symbol, scopes })
     }

@@ -94,7 +94,7 @@ fn the_length_limit() {
 fn refused_before_any_search() {
     let whole = graph_a();
     let mut version = whole.clone();
-    version[0] = 2;
+    version[0] = 3;
     let mut counts = whole.clone();
     counts[5] = 1;
     let mut record = whole.clone();

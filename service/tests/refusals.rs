@@ -2,7 +2,8 @@
 //! call that can give them. A refused call leaves its work and result areas zero
 //! and alters no database. The numbers follow from the table and the order below
 //! it; those that the Rust has, 10 to 21, are tried on more paths in
-//! `as_the_rust`, 14 to 18 only there, and 36 in `expansions.rs`.
+//! `as_the_rust`, 14 to 18 only there, 36 in `expansions.rs`, and those of the two
+//! rewritings in `versions.rs`.
 
 mod common;
 
@@ -86,7 +87,9 @@ fn damaged() -> Vec<(Vec<u8>, Refusal)> {
     let whole = graph_a();
     let longer = [&whole[..], &[0]].concat();
     vec![
-        (changed(0, 2), refusal(1, &[])),
+        // another version; version 2, whose records are longer
+        (changed(0, 3), refusal(1, &[])),
+        (changed(0, 2), refusal(2, &[])),
         // no byte; too few; one short of the length, and one behind it
         (Vec::new(), refusal(2, &[])),
         (whole[..10].to_vec(), refusal(2, &[])),

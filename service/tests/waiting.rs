@@ -6,7 +6,7 @@ mod common;
 
 use common::{
     blank, definition, filed, graph_a, graph_b, image, is_zero, reference, refusal, scope, slots,
-    Edge, Record,
+    Drawn, Edge, Record,
 };
 use pozhdaghi::{Limits, Order, PartialStatistics, Refusal, Request, Resolution};
 
@@ -53,18 +53,7 @@ fn nothing_expanded() {
     );
 }
 
-/// Numbers that look drawn: each the high part of a product.
-struct Drawn(u64);
-
 impl Drawn {
-    fn below(&mut self, limit: u64) -> u64 {
-        self.0 = self
-            .0
-            .wrapping_mul(6_364_136_223_846_793_005)
-            .wrapping_add(1_442_695_040_888_963_407);
-        (self.0 >> 33) % limit
-    }
-
     /// References, scopes and definitions of two symbols; edges between any of them,
     /// and to and from root.
     fn graph(&mut self) -> Vec<u8> {

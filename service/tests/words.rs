@@ -3,7 +3,7 @@
 
 mod common;
 
-use common::{area, image, scope, scoped_definition, scoped_push, scoped_reference};
+use common::{area, image, scope, scoped_definition, scoped_push, scoped_reference, wide, Record};
 use pozhdaghi::{Replayed, Step, Symbol};
 
 /// The slots up to the first without edges; words behind the last whole slot are
@@ -27,14 +27,28 @@ fn paths() {
 /// pushed; no other numbers of the two take more words with 127 edges.
 #[test]
 fn longest_path() {
-    let nodes = [
+    let nodes = |push: Record, pop: Record, again: Record| {
+        let scopes = [scope(true), scope(true)];
+        [push, pop, scopes[0].clone(), again, scopes[1].clone()]
+    };
+    let edges = [(2, 3, 0), (3, 5, 0), (5, 3, 0), (5, 5, 0)];
+    let narrow = nodes(
         scoped_reference(7, 4),
         scoped_definition(7),
-        scope(true),
         scoped_push(7, 6),
-        scope(true),
-    ];
-    let image = image(&nodes, &[(2, 3, 0), (3, 5, 0), (5, 3, 0), (5, 5, 0)]);
+    );
+    is_replayed(&image(&narrow, &edges), 7);
+    // every word that can be: both halves of the symbol
+    let symbol = u64::MAX;
+    let widest = nodes(
+        wide::scoped_reference(symbol, 4),
+        wide::scoped_definition(symbol),
+        wide::scoped_push(symbol, 6),
+    );
+    is_replayed(&wide::image(&widest, &edges), symbol);
+}
+
+fn is_replayed(image: &[u8], symbol: u64) {
     let mut edges = vec![0];
     edges.extend([1, 2].repeat(30));
     edges.push(1);
@@ -43,7 +57,7 @@ fn longest_path() {
     let mut scopes = vec![6; 32];
     scopes[31] = 4;
     let symbol = Symbol {
-        symbol: 7,
+        symbol,
         scopes: Some(scopes.clone()),
     };
     let path = Replayed {
@@ -52,5 +66,5 @@ fn longest_path() {
         symbols: vec![symbol; 66],
         scopes: scopes[1..].to_vec(),
     };
-    assert_eq!(pozhdaghi::replay(&image, 2, &edges), Ok(path));
+    assert_eq!(pozhdaghi::replay(image, 2, &edges), Ok(path));
 }

@@ -22,7 +22,7 @@ const FILL: usize = 5;
 const DIFFERENT: usize = 9;
 
 // Room for the longest image.
-pub const MOST_IMAGE: usize = 65536;
+pub const MOST_IMAGE: usize = 65537;
 
 // Room for a database of 4,098 slots, two more than it may use.
 pub const MOST_WORDS: usize = 536841;

@@ -25,7 +25,7 @@ use libc::STDIN_FILENO;
 const LISTS: usize = 5;
 
 // One list is held at a time.
-const MOST_BYTES: usize = 600000;
+const MOST_BYTES: usize = 1300000;
 
 // Room for an answer.
 const MOST_NUMBERS: usize = 8192;

@@ -1,5 +1,5 @@
 // What a caller reads off a replayed path, as numbers: its end; each edge e as 0 and e, the jump behind it to scope s as 1 and s, and a 2 behind the last;
-// how many symbols there are and, tops first, each with a flag and, where that is 1, its attached scopes; the scope stack.
+// how many symbols there are and, tops first, each in two words, the high one first, with a flag and, where that is 1, its attached scopes; the scope stack.
 // A list of scopes is a count and then the scopes, tops first.
 ghost use Prim.Native.Nat.{_<_};
 ghost use Rattle.semantics.specs.Limits.{stepLength};
@@ -22,6 +22,8 @@ const SYMBOLS: u32 = layout::SYMBOLS as u32;
 const SCOPES: u32 = layout::SCOPES as u32;
 
 const SYMBOL: u32 = layout::SYMBOL as u32;
+
+const SYMBOL_HIGH: u32 = layout::SYMBOL_HIGH as u32;
 
 const ATTACHED: u32 = layout::ATTACHED as u32;
 
@@ -74,7 +76,8 @@ fn write_scopes(steps: &[u32], top: u32, out: &mut [u32], at: usize) -> usize {
 }
 
 fn write_symbol(steps: &[u32], cell: u32, out: &mut [u32], at: usize) -> usize {
-    let next = put(out, at, cell_word(steps, cell, SYMBOL));
+    let low = put(out, at, cell_word(steps, cell, SYMBOL_HIGH));
+    let next = put(out, low, cell_word(steps, cell, SYMBOL));
     let attached = cell_word(steps, cell, ATTACHED);
     if attached == 0 {
         return put(out, next, 0);

@@ -10,6 +10,7 @@ use Rattle.semantics.specs.declared.graph.Node.the-variants as N
 use Rattle.semantics.specs.declared.graph.Edge.{Edge}
 use Rattle.semantics.specs.declared.graph.Edge.the-variants as E
 use Rattle.semantics.specs.Lists.{pick}
+use Rattle.semantics.specs.Halves.{joined}
 use Rattle.semantics.specs.Bytes.{signed}
 use Rattle.semantics.specs.Graph.{nodeId, fileId}
 pub mod Laws
@@ -22,7 +23,7 @@ abbrev pub EDGES : ℕ
 EDGES = 4096
 
 abbrev pub BLOCK : ℕ
-BLOCK = 10
+BLOCK = 11
 
 abbrev pub KIND : ℕ
 KIND = 0
@@ -36,23 +37,26 @@ FILE = 2
 abbrev pub SYMBOL : ℕ
 SYMBOL = 3
 
+abbrev pub SYMBOL-HIGH : ℕ
+SYMBOL-HIGH = 4
+
 abbrev pub SCOPE : ℕ
-SCOPE = 4
+SCOPE = 5
 
 abbrev pub FIRST : ℕ
-FIRST = 5
+FIRST = 6
 
 abbrev pub SOURCE : ℕ
-SOURCE = 6
+SOURCE = 7
 
 abbrev pub TARGET : ℕ
-TARGET = 7
+TARGET = 8
 
 abbrev pub NEXT : ℕ
-NEXT = 8
+NEXT = 9
 
 abbrev pub PRECEDENCE : ℕ
-PRECEDENCE = 9
+PRECEDENCE = 10
 
 -- THE SIZES: an index for every image, and one for an image with at most FEW nodes and at most FEW edges
 abbrev pub INDEX : ℕ
@@ -89,9 +93,12 @@ unfoldable pub edgeOf : ℕ → ℕ → ℕ → Edge
 edgeOf source target precedence = pick (eqb source 0) E.Removed (E.Live (nodeId (source - 1)) (nodeId target) (signed precedence))
 
 -- WHAT AN INDEX HOLDS, whatever its words are
+abbrev pub symbolRow : List ℕ → ℕ → ℕ
+symbolRow index n = joined (cell index SYMBOL n) (cell index SYMBOL-HIGH n)
+
 unfoldable pub nodeRow : List ℕ → ℕ → Node
 unfolding cell nodeOf
-nodeRow index n = nodeOf (cell index KIND n) (cell index FLAG n) (cell index FILE n) (cell index SYMBOL n) (cell index SCOPE n)
+nodeRow index n = nodeOf (cell index KIND n) (cell index FLAG n) (cell index FILE n) (symbolRow index n) (cell index SCOPE n)
 
 unfoldable pub edgeRow : List ℕ → ℕ → Edge
 unfolding cell edgeOf
@@ -110,9 +117,10 @@ pub record Fresh (index : List ℕ) : Type 0 where
 unfoldable pub put : ℕ → ℕ → ℕ → List ℕ → List ℕ
 put row n v index = set index (BLOCK * n + row) v
 
-unfoldable pub putNode : ℕ → ℕ → ℕ → ℕ → ℕ → ℕ → List ℕ → List ℕ
+-- a symbol in two words
+unfoldable pub putNode : ℕ → ℕ → ℕ → ℕ → ℕ → ℕ → ℕ → List ℕ → List ℕ
 unfolding put
-putNode n kind flag file symbol scope index = put SCOPE n scope (put SYMBOL n symbol (put FILE n file (put FLAG n flag (put KIND n kind index))))
+putNode n kind flag file low high scope index = put SCOPE n scope (put SYMBOL-HIGH n high (put SYMBOL n low (put FILE n file (put FLAG n flag (put KIND n kind index)))))
 
 unfoldable pub putEdge : ℕ → ℕ → ℕ → ℕ → List ℕ → List ℕ
 unfolding put

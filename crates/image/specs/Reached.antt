@@ -9,7 +9,7 @@ use Rattle.semantics.specs.declared.refusal.ImageRefusal.{ImageRefusal}
 use Rattle.semantics.specs.declared.refusal.ImageRefusal.the-variants as Image
 use Rattle.semantics.specs.Lists.{pick}
 use Rattle.semantics.specs.Bytes.{long}
-use Rattle.semantics.specs.Image.{filesOf, nodesOf, edgesOf, firstRecord}
+use Rattle.semantics.specs.Image.{longestImage, filesOf, nodesOf, edgesOf, firstRecord}
 use Rattle.semantics.specs.Answer.{Answer, ok, refuse}
 use Rattle.image.specs.declared.reached.Reached.{Reached}
 use Rattle.image.specs.declared.reached.Reached.the-variants.{Next, Refused}
@@ -19,9 +19,9 @@ abbrev pub answerOf : Reached → Answer ImageRefusal ℕ
 answerOf (Next at) = ok at
 answerOf (Refused r) = refuse r
 
--- the first part of the header's test: size and length
+-- the first part of the header's test: the size that no image may have, and the length
 unfoldable pub isSized : List ℕ → Bool
-isSized im = pick (ltb (length im) 11) false (pick (ltb 63499 (length im)) false (eqb (long im 1 + 5) (length im)))
+isSized im = pick (ltb (length im) 11) false (pick (ltb longestImage (length im)) false (eqb (long im 1 + 5) (length im)))
 
 -- the last part of the header's test: the counts, then the place of the first record
 unfoldable pub countsAnswer : List ℕ → Answer ImageRefusal ℕ

@@ -10,7 +10,7 @@ pub const NODES: u32 = 2048;
 pub const EDGES: u32 = 4096;
 
 // The words of a number stand side by side, so that a short index is enough for small numbers and one test for a whole record.
-pub const BLOCK: usize = 10;
+pub const BLOCK: usize = 11;
 
 pub const KIND: usize = 0;
 
@@ -18,19 +18,22 @@ pub const FLAG: usize = 1;
 
 pub const FILE: usize = 2;
 
+// A symbol has two words, the low one first.
 pub const SYMBOL: usize = 3;
 
-pub const SCOPE: usize = 4;
+pub const SYMBOL_HIGH: usize = 4;
 
-pub const FIRST: usize = 5;
+pub const SCOPE: usize = 5;
 
-pub const SOURCE: usize = 6;
+pub const FIRST: usize = 6;
 
-pub const TARGET: usize = 7;
+pub const SOURCE: usize = 7;
 
-pub const NEXT: usize = 8;
+pub const TARGET: usize = 8;
 
-pub const PRECEDENCE: usize = 9;
+pub const NEXT: usize = 9;
+
+pub const PRECEDENCE: usize = 10;
 
 // An index for every image: there are more edges than nodes.
 pub const INDEX: usize = BLOCK * EDGES as usize;
@@ -58,18 +61,20 @@ pub(crate) fn put_node(
     kind: u32,
     flag: u32,
     file: u32,
-    symbol: u32,
+    low: u32,
+    high: u32,
     scope: u32,
 )
     requires { ⌜ Blocks (now index) ⌝ }
     requires { ⌜ BLOCK * n < length (now index) ⌝ }
-    ensures { λ _. ⌜ now (index .exit) ≡ putNode n kind flag file symbol scope (now (index .entry)) ⌝ }
+    ensures { λ _. ⌜ now (index .exit) ≡ putNode n kind flag file low high scope (now (index .entry)) ⌝ }
 {
     let at = BLOCK * n as usize;
     index[at + KIND] = kind;
     index[at + FLAG] = flag;
     index[at + FILE] = file;
-    index[at + SYMBOL] = symbol;
+    index[at + SYMBOL] = low;
+    index[at + SYMBOL_HIGH] = high;
     index[at + SCOPE] = scope;
 }
 

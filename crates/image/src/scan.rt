@@ -3,9 +3,9 @@
 ghost use mathlib.Core.Path.{_≡_};
 ghost use Prim.Native.Nat.{ℕ, _+_, _*_, _<_, _≤_};
 ghost use lib.ListN.{length};
-ghost use Rattle.semantics.specs.Image.{symbolBytes, firstRecord, nodeRecord, edgeRecord, scan, placeOf, graphOf};
+ghost use Rattle.semantics.specs.Image.{longestImage, firstRecord, nodeRecord, edgeRecord, scan, placeOf};
 ghost use Rattle.image.specs.Filling.{Held};
-ghost use Rattle.image.specs.Records.{mostBytes, Headed, Room, NodesPut, EdgesPut, recordsOf};
+ghost use Rattle.image.specs.Records.{KnownWidth, Headed, Room, NodesPut, EdgesPut, recordsOf, graphRead};
 ghost use Rattle.image.specs.Reached.{answerOf};
 ghost use Rattle.image.specs.declared.reached.Reached.the-variants.{Next};
 ghost use Rattle.image.specs.Index.{BLOCK, Blocks, Fresh};
@@ -15,17 +15,17 @@ use crate::reached::Reached;
 use crate::record;
 use words::bytes;
 
-fn nodes(image: &[u8], files: u32, count: u32, index: &mut [u32]) -> Reached
-    requires { ⌜ length (now image) ≤ mostBytes ⌝ }
+fn nodes(image: &[u8], width: u32, files: u32, count: u32, index: &mut [u32]) -> Reached
+    requires { ⌜ KnownWidth width × (length (now image) ≤ longestImage) ⌝ }
     requires { ⌜ Blocks (now index) ⌝ }
     requires { ⌜ BLOCK * count ≤ length (now index) ⌝ }
-    ensures { λ r. ⌜ answerOf r ≡ scan (nodeRecord symbolBytes (now (image .entry)) files) 0 firstRecord count ⌝ }
-    ensures { λ r. ⌜ ((x : ℕ) → r ≡ Next x → (x ≡ placeOf (now (image .entry)) firstRecord count) × NodesPut (now (image .entry)) count (now (index .entry)) (now (index .exit))) ⌝ }
+    ensures { λ r. ⌜ answerOf r ≡ scan (nodeRecord width (now (image .entry)) files) 0 firstRecord count ⌝ }
+    ensures { λ r. ⌜ ((x : ℕ) → r ≡ Next x → (x ≡ placeOf (now (image .entry)) firstRecord count) × NodesPut width (now (image .entry)) count (now (index .entry)) (now (index .exit))) ⌝ }
 {
     let mut at = FIRST_RECORD;
     let mut n: u32 = 0;
     while n < count {
-        let step = record::node(image, files, n, at, index);
+        let step = record::node(image, width, files, n, at, index);
         let Reached::Next(next) = step else {
             return step;
         };
@@ -36,7 +36,7 @@ fn nodes(image: &[u8], files: u32, count: u32, index: &mut [u32]) -> Reached
 }
 
 fn edges(image: &[u8], from: usize, count: u32, index: &mut [u32]) -> Reached
-    requires { ⌜ length (now image) ≤ mostBytes ⌝ }
+    requires { ⌜ length (now image) ≤ longestImage ⌝ }
     requires { ⌜ Blocks (now index) ⌝ }
     requires { ⌜ BLOCK * count ≤ length (now index) ⌝ }
     ensures { λ r. ⌜ answerOf r ≡ scan (λ e. edgeRecord (now (image .entry))) 0 from count ⌝ }
@@ -61,9 +61,15 @@ pub fn records(image: &[u8], index: &mut [u32]) -> Reached
     requires { ⌜ Fresh (now index) ⌝ }
     requires { ⌜ Room (now image) (now index) ⌝ }
     ensures { λ r. ⌜ answerOf r ≡ recordsOf (now (image .entry)) ⌝ }
-    ensures { λ r. ⌜ ((x : ℕ) → r ≡ Next x → Held (graphOf symbolBytes (now (image .entry))) (now (index .exit))) ⌝ }
+    ensures { λ r. ⌜ ((x : ℕ) → r ≡ Next x → Held (graphRead (now (image .entry))) (now (index .exit))) ⌝ }
 {
-    let step = nodes(image, header::files(image), header::nodes(image), index);
+    let step = nodes(
+        image,
+        header::width(image),
+        header::files(image),
+        header::nodes(image),
+        index,
+    );
     let Reached::Next(middle) = step else {
         return step;
     };

@@ -1,11 +1,11 @@
 -- Every number of a replayed path by value, by computation: what no edge reached is zero, and beside a refusal all is.
 -- Document 01, "Path"; "leaves one word .. to choice, refused calls included" of "From the buyer".
-use Prim.Native.Nat.{ℕ}
+use Prim.Native.Nat.{ℕ, _-_, _*_}
 use mathlib.Core.Path.{_≡_, refl}
 use mathlib.Core.Bool.{Bool, true, false}
 use mathlib.Core.List.{List, [], _∷_}
 use lib.ListN.{take, replicate}
-use Rattle.semantics.specs.Limits.{maxEdges, stepsLength}
+use Rattle.semantics.specs.Limits.{maxEdges, stepLength, stepsLength}
 use Rattle.semantics.specs.Entries.{graphIn}
 use Rattle.semantics.specs.declared.refusal.ImageRefusal.the-variants as Image
 use Rattle.semantics.specs.declared.refusal.PathRefusal.the-variants as P
@@ -14,6 +14,7 @@ use Rattle.semantics.specs.declared.answer.Replayed.the-variants as Replayed
 use Rattle.semantics.specs.Graph.{nodeId}
 use Rattle.semantics.specs.Image.{checkImage}
 use Rattle.semantics.specs.Cases.Graphs.{imageA, imageD}
+use Rattle.semantics.specs.Cases.Versions.{imageHigh}
 use Rattle.stepping.specs.Judged.{begunOf, judgedOf}
 use Rattle.semantics.specs.declared.replayed.Path.{Path}
 use Rattle.path.specs.declared.replay.ReplayOutcome.{ReplayOutcome}
@@ -42,18 +43,19 @@ values =
     ∷ replayed imageA 2 []
     ∷ replayed imageA 2 (0 ∷ 1 ∷ [])
     ∷ replayed imageD 2 (0 ∷ 1 ∷ 2 ∷ 3 ∷ [])
+    ∷ replayed imageHigh 2 []
     ∷ []
 
--- A step is its edge, the node it leads to, the tops of both stacks as 1 more than the step that made them, and what it made: symbol, first
+-- A step is its edge, the node it leads to, the tops of both stacks as 1 more than the step that made them, and what it made: symbol in two words, first
 -- attached scope, cell below, scope. On A: a refused image; 11; 15 behind an accepted edge; the reference alone; both edges. On D: behind the last
--- edge stands a jump to node 4
+-- edge stands a jump to node 4. In version 2: a reference that pushes 2^32 + 7
 pub value-cases : values
     ≡ record { answer = Replayed.Image Image.Length; path = none }
     ∷ record { answer = Replayed.Refused (Replay.Path (P.NotReference (nodeId 3))); path = none }
     ∷ record { answer = Replayed.Refused (Replay.Path (P.IncorrectPoppedSymbol (nodeId 5))); path = none }
     ∷ record {
       answer = Replayed.Done;
-      path = record { start = 2; end = 2; count = 0; edges = zeros maxEdges; jumps = unset maxEdges; steps = 0 ∷ 2 ∷ 1 ∷ 0 ∷ 7 ∷ 0 ∷ 0 ∷ 0 ∷ zeros 1016 };
+      path = record { start = 2; end = 2; count = 0; edges = zeros maxEdges; jumps = unset maxEdges; steps = 0 ∷ 2 ∷ 1 ∷ 0 ∷ 7 ∷ 0 ∷ 0 ∷ 0 ∷ 0 ∷ zeros (stepsLength - stepLength) };
     }
     ∷ record {
       answer = Replayed.Done;
@@ -63,7 +65,7 @@ pub value-cases : values
         count = 2;
         edges = 0 ∷ 1 ∷ zeros 125;
         jumps = unset maxEdges;
-        steps = 0 ∷ 2 ∷ 1 ∷ 0 ∷ 7 ∷ 0 ∷ 0 ∷ 0 ∷ 0 ∷ 3 ∷ 1 ∷ 0 ∷ 0 ∷ 0 ∷ 0 ∷ 0 ∷ 1 ∷ 4 ∷ 0 ∷ 0 ∷ 0 ∷ 0 ∷ 0 ∷ 0 ∷ zeros 1000;
+        steps = 0 ∷ 2 ∷ 1 ∷ 0 ∷ 7 ∷ 0 ∷ 0 ∷ 0 ∷ 0 ∷ 0 ∷ 3 ∷ 1 ∷ 0 ∷ 0 ∷ 0 ∷ 0 ∷ 0 ∷ 0 ∷ 1 ∷ 4 ∷ 0 ∷ 0 ∷ 0 ∷ 0 ∷ 0 ∷ 0 ∷ 0 ∷ zeros (stepsLength - 3 * stepLength);
       };
     }
     ∷ record {
@@ -75,13 +77,17 @@ pub value-cases : values
         edges = 0 ∷ 1 ∷ 2 ∷ 3 ∷ zeros 123;
         jumps = false ∷ false ∷ false ∷ true ∷ unset 123;
         steps =
-            0 ∷ 2 ∷ 1 ∷ 0 ∷ 9 ∷ 0 ∷ 0 ∷ 0
-            ∷ 0 ∷ 3 ∷ 2 ∷ 0 ∷ 7 ∷ 2 ∷ 1 ∷ 4
-            ∷ 1 ∷ 0 ∷ 2 ∷ 0 ∷ 0 ∷ 0 ∷ 0 ∷ 0
-            ∷ 2 ∷ 5 ∷ 1 ∷ 2 ∷ 0 ∷ 0 ∷ 0 ∷ 0
-            ∷ 3 ∷ 4 ∷ 1 ∷ 0 ∷ 0 ∷ 0 ∷ 0 ∷ 0
-            ∷ zeros 984;
+            0 ∷ 2 ∷ 1 ∷ 0 ∷ 9 ∷ 0 ∷ 0 ∷ 0 ∷ 0
+            ∷ 0 ∷ 3 ∷ 2 ∷ 0 ∷ 7 ∷ 0 ∷ 2 ∷ 1 ∷ 4
+            ∷ 1 ∷ 0 ∷ 2 ∷ 0 ∷ 0 ∷ 0 ∷ 0 ∷ 0 ∷ 0
+            ∷ 2 ∷ 5 ∷ 1 ∷ 2 ∷ 0 ∷ 0 ∷ 0 ∷ 0 ∷ 0
+            ∷ 3 ∷ 4 ∷ 1 ∷ 0 ∷ 0 ∷ 0 ∷ 0 ∷ 0 ∷ 0
+            ∷ zeros (stepsLength - 5 * stepLength);
       };
+    }
+    ∷ record {
+      answer = Replayed.Done;
+      path = record { start = 2; end = 2; count = 0; edges = zeros maxEdges; jumps = unset maxEdges; steps = 0 ∷ 2 ∷ 1 ∷ 0 ∷ 7 ∷ 1 ∷ 0 ∷ 0 ∷ 0 ∷ zeros (stepsLength - stepLength) };
     }
     ∷ []
 unfolding values begunOf judgedOf

@@ -12,8 +12,10 @@ pub const END: u32 = layout::END as u32;
 pub const SYMBOLS: u32 = layout::SYMBOLS as u32;
 // The top cell of the scope stack.
 pub const SCOPES: u32 = layout::SCOPES as u32;
-// The symbol that the step made.
+// The symbol that the step made, in two words.
 pub const SYMBOL: u32 = layout::SYMBOL as u32;
+
+pub const SYMBOL_HIGH: u32 = layout::SYMBOL_HIGH as u32;
 // The top cell of the scopes attached to it; 0 for none.
 pub const ATTACHED: u32 = layout::ATTACHED as u32;
 // The cell below it.

@@ -23,3 +23,11 @@ pub(crate) fn put_item(area: &mut [u32], at: usize, kind: u32, number: u32) -> u
     let next = put(area, at, kind);
     put(area, next, number)
 }
+
+// What an item is, and its number in two words.
+pub(crate) fn put_wide(area: &mut [u32], at: usize, kind: u32, high: u32, low: u32) -> usize
+    ensures { λ r. ⌜ Adds (now (area .entry)) at (now (area .exit)) r (kind ∷ high ∷ low ∷ []) ⌝ }
+{
+    let next = put_item(area, at, kind, high);
+    put(area, next, low)
+}

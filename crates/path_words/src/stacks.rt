@@ -8,6 +8,7 @@ use crate::cells::part;
 use crate::put::NONE;
 use crate::put::put;
 use crate::put::put_item;
+use crate::put::put_wide;
 
 // What stands in front of a scope.
 const SCOPE: u32 = 1;
@@ -39,12 +40,13 @@ fn write_symbol(steps: &[u32], k: u32, area: &mut [u32], from: usize) -> usize
     ensures { λ r. ⌜ Adds (now (area .entry)) from (now (area .exit)) r
         (symbolWord (stepAt (now (steps .entry)) k .symbol) (attachedOf (stepAt (now (steps .entry))) (stepAt (now (steps .entry)) k .attached))) ⌝ }
 {
-    let symbol = part(steps, k, cells::SYMBOL);
+    let low = part(steps, k, cells::SYMBOL);
+    let high = part(steps, k, cells::SYMBOL_HIGH);
     let attached = part(steps, k, cells::ATTACHED);
     if attached < 1 {
-        return put_item(area, from, PLAIN, symbol);
+        return put_wide(area, from, PLAIN, high, low);
     }
-    let next = put_item(area, from, SCOPED, symbol);
+    let next = put_wide(area, from, SCOPED, high, low);
     write_scopes(steps, attached, area, next)
 }
 

@@ -1,6 +1,6 @@
 // THE PUBLIC SURFACE. What is named here is offered; what is not is no public entry, whichever crate it stands in.
 // For Rattle: the calls by name, with the contracts that they have where they stand, and the types that they speak of.
-// For Rust and C: `filing`, `naming`, `reading` and `searching` export the same calls on numbers and slices, each of which writes its answer as the numbers
+// For Rust and C: `filing`, `naming`, `reading`, `searching` and `versions` export the same calls on numbers and slices, each of which writes its answer as the numbers
 // of semantics/specs/Told.antt into an area that the caller lends. A slice is passed as a pointer and a length.
 mod asked;
 pub mod filing;
@@ -8,6 +8,7 @@ pub mod naming;
 mod numbers;
 pub mod reading;
 pub mod searching;
+pub mod versions;
 
 // The calls.
 pub use database::fresh::fresh;
@@ -22,6 +23,8 @@ pub use path::judgement::is_complete;
 pub use path::judgement::shadows;
 pub use path::path::step;
 pub use path::replay::replay;
+pub use rewriting::rewrite::narrow;
+pub use rewriting::rewrite::widen;
 pub use stitching::stitched::search as stitched;
 pub use stitching::stitched::search_recorded as stitched_recorded;
 pub use storage::check::check;
@@ -36,6 +39,7 @@ pub use semantics::answer::LinearResolution;
 pub use semantics::answer::Replacement;
 pub use semantics::answer::Replayed;
 pub use semantics::answer::Resolution;
+pub use semantics::answer::Rewriting;
 pub use semantics::graph::EdgeId;
 pub use semantics::graph::FileId;
 pub use semantics::graph::NodeId;

@@ -4,7 +4,7 @@ ghost use mathlib.Core.List.{[], _∷_};
 ghost use lib.ListN.{length, getD};
 ghost use Rattle.semantics.specs.Written.{written};
 ghost use Rattle.semantics.specs.Told.{toldFlag, toldStats, toldPartialStats};
-ghost use Rattle.semantics.specs.Told.{toldChecked, toldReplayed, toldJudgement, toldResolution, toldLinearResolution, toldCreation, toldReplacement, toldFinding};
+ghost use Rattle.semantics.specs.Told.{toldChecked, toldReplayed, toldJudgement, toldResolution, toldLinearResolution, toldCreation, toldReplacement, toldFinding, toldRewriting};
 ghost use Rattle.told.specs.Numbers.{numbersOf};
 ghost use Rattle.pozhdaghi.specs.Written.{numbersIn};
 use semantics::answer::Checked;
@@ -15,6 +15,7 @@ use semantics::answer::LinearResolution;
 use semantics::answer::Replacement;
 use semantics::answer::Replayed;
 use semantics::answer::Resolution;
+use semantics::answer::Rewriting;
 use semantics::search::PartialPathStats;
 use semantics::search::SearchStats;
 use told::refusal;
@@ -185,6 +186,17 @@ pub(crate) fn of_finding(answer: Finding) -> Numbers
         Finding::Image(r) => of_told(refusal::image(r)),
         Finding::NotDefinition(node) => of_told(refusal::not_definition(node)),
         Finding::Refused(r) => of_told(refusal::search(r)),
+    }
+}
+
+pub(crate) fn of_rewriting(answer: Rewriting) -> Numbers
+    ensures { λ r. ⌜ numbersIn r ≡ toldRewriting answer ⌝ }
+{
+    match answer {
+        Rewriting::Done { length } => pair(0, length as u64),
+        Rewriting::Image(r) => of_told(refusal::image(r)),
+        Rewriting::WideSymbol { place } => of_told(refusal::wide_symbol(place)),
+        Rewriting::NoRoom => of_told(refusal::no_room()),
     }
 }
 

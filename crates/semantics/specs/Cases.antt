@@ -24,6 +24,7 @@ pub mod Databases
 pub mod Stitching
 pub mod Instance
 pub mod Entries
+pub mod Versions
 
 pub starred : List (Row (List (List ℕ)))
 unfolding directly partialsIn stitching firstFiled replaying linearly

@@ -22,6 +22,7 @@ use Rattle.semantics.specs.Image.{symbolBytes, checkImage}
 use Rattle.semantics.specs.Database.{Part, knownOwners, lookupPart}
 use Rattle.semantics.specs.Calls.{ReplayOutcome, Request, LinearRequest, FileRequest, Outcome, Change, Reply, checkCall, replayCall, completeCall, shadowsCall, directCall, linearCall, stitchedCall, freshCall, replaceCall}
 use Rattle.semantics.specs.Finding.{FindRequest, findCall}
+use Rattle.semantics.specs.Rewriting.{Rewritten, widen, narrow}
 use Rattle.semantics.specs.Asked.{orderAsked, lengthAsked, expansionsAsked, limitsAsked}
 
 -- what a call reads of its image: an accepted graph or 1 to 5
@@ -70,6 +71,13 @@ stitchedSearch reply im words r order limits ws rs = stitchedCall base reply kno
 -- a name for a definition: the image, the node, the limit on length, the work and the result area
 abbrev pub findName : List ℕ → ℕ → Limit → List ℕ → List ℕ → Outcome Finding
 findName im n most ws rs = findCall base (graphIn im) (nameRequestOf most ws rs n)
+
+-- an image rewritten in the other version: the image, and the lent bytes
+abbrev pub widenImage : List ℕ → List ℕ → Rewritten
+widenImage im area = widen im (length area)
+
+abbrev pub narrowImage : List ℕ → List ℕ → Rewritten
+narrowImage im area = narrow im (length area)
 
 abbrev pub freshDatabase : List ℕ → List ℕ → Change Creation
 freshDatabase im words = freshCall (graphIn im) words

@@ -1,5 +1,5 @@
 -- The bytes of a graph image: its header, the test of each record, what a record holds, and the whole check in document 01's order.
--- Document 01, "Graph image" and the rows 1 to 5 of "Turned back". A symbol has w bytes; in the base w is 4.
+-- Document 01, "Graph image" and the rows 1 to 5 of "Turned back"; document 02, order 3. A symbol has w bytes; the version says how many.
 use Prim.Native.Nat.{ℕ, zero, suc, _+_, _*_}
 use mathlib.Core.Bool.{Bool, true, false, not}
 use mathlib.Core.List.{List, [], _∷_}
@@ -17,9 +17,29 @@ use Rattle.semantics.specs.Bytes.{byteAt, short, long, wide, signed}
 use Rattle.semantics.specs.Graph.{nodeId, fileId, Graph, viewOf}
 use Rattle.semantics.specs.Acceptance.{nodeFits, edgeFits}
 pub mod Laws
+pub mod Encoding
+pub mod NoFreeBytes
+pub mod Reading
+pub mod Former
 
-abbrev pub symbolBytes : ℕ
-symbolBytes = 4
+-- the bytes of a symbol, by version; 0 where there is no such version
+abbrev pub symbolBytes : ℕ → ℕ
+symbolBytes v = pick (eqb v 1) 4 (pick (eqb v 2) 8 0)
+
+-- one version alone is wanted
+abbrev pub only : (ℕ → ℕ) → ℕ → ℕ → ℕ
+only widths wanted v = pick (eqb v wanted) (widths v) 0
+
+-- the bytes of a symbol in an image, by its version
+abbrev pub widthIn : List ℕ → ℕ
+widthIn im = symbolBytes (byteAt im 0)
+
+-- how many bytes an image may have, and one of a version
+abbrev pub longestImage : ℕ
+longestImage = 65536
+
+abbrev pub mostBytes : ℕ → ℕ
+mostBytes v = pick (eqb v 1) 63499 longestImage
 
 abbrev pub filesOf : List ℕ → ℕ
 filesOf im = short im 5
@@ -35,17 +55,18 @@ abbrev pub firstRecord : ℕ
 firstRecord = 11
 
 -- size and length, then the version, then the counts; the place of the first record
-unfoldable pub header : List ℕ → Answer ImageRefusal ℕ
-header im =
+unfoldable pub header : (ℕ → ℕ) → List ℕ → Answer ImageRefusal ℕ
+header widths im =
     pick (ltb (length im) 11) (refuse Image.Length)
-    (pick (ltb 63499 (length im)) (refuse Image.Length)
+    (pick (ltb longestImage (length im)) (refuse Image.Length)
     (pick (not (eqb (long im 1 + 5) (length im))) (refuse Image.Length)
-    (pick (not (eqb (byteAt im 0) 1)) (refuse Image.Version)
+    (pick (eqb (widths (byteAt im 0)) 0) (refuse Image.Version)
+    (pick (ltb (mostBytes (byteAt im 0)) (length im)) (refuse Image.Length)
     (pick (ltb 256 (filesOf im)) (refuse Image.Counts)
     (pick (ltb (nodesOf im) 2) (refuse Image.Counts)
     (pick (ltb 2048 (nodesOf im)) (refuse Image.Counts)
     (pick (ltb 4096 (edgesOf im)) (refuse Image.Counts)
-    (ok firstRecord))))))))
+    (ok firstRecord)))))))))
 
 -- a cut: no count byte, a count of 0, or a count that reaches behind the last byte
 unfoldable pub isCut : List ℕ → ℕ → Bool
@@ -152,9 +173,14 @@ unfoldable pub references : List ℕ → Graph → Answer ImageRefusal ℕ
 unfolding nodeMisfit edgeMisfit placeOf
 references im g = nodeMisfit im g firstRecord (g .nodes) (edgeMisfit im g (firstEdge im) (g .edges))
 
--- size, length, version, counts, the records in order, bytes left over, and last 5
-unfoldable pub checkImage : ℕ → List ℕ → Answer ImageRefusal Graph
+-- size, length, version, counts, the records in order, bytes left over, and last 5; a symbol has w bytes
+unfoldable pub checkWith : ℕ → (ℕ → ℕ) → List ℕ → Answer ImageRefusal Graph
 unfolding header scan nodeRecord edgeRecord references graphOf
-checkImage w im =
-    andThen (header im) (λ first. andThen (scan (nodeRecord w im (filesOf im)) 0 first (nodesOf im)) (λ middle. andThen (scan (λ e. edgeRecord im) 0 middle (edgesOf im))
+checkWith w widths im =
+    andThen (header widths im) (λ first. andThen (scan (nodeRecord w im (filesOf im)) 0 first (nodesOf im)) (λ middle. andThen (scan (λ e. edgeRecord im) 0 middle (edgesOf im))
     (λ last. pick (eqb last (length im)) (andThen (references im (graphOf w im)) (λ x. ok (graphOf w im))) (refuse Image.Length))))
+
+-- the version says how many bytes a symbol has
+unfoldable pub checkImage : (ℕ → ℕ) → List ℕ → Answer ImageRefusal Graph
+unfolding checkWith
+checkImage widths im = checkWith (widths (byteAt im 0)) widths im

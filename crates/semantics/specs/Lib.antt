@@ -18,10 +18,12 @@ pub mod Words
 pub mod Database
 pub mod Calls
 pub mod Finding
+pub mod Halves
 pub mod ReplayedPaths
 pub mod Asked
 pub mod Written
 pub mod PathWords
 pub mod Entries
+pub mod Rewriting
 pub mod Demand
 pub mod Cases

@@ -47,9 +47,9 @@ recordWords bd = bd .edges + 4
 abbrev pub recordLength : ℕ
 recordLength = recordWords base
 
--- a step of a path in words, and all steps of a path: one for the reference and one for each edge
+-- a step of a path in words, of which its symbol has two, and all steps of a path: one for the reference and one for each edge
 abbrev pub stepLength : ℕ
-stepLength = 8
+stepLength = 9
 
 abbrev pub stepsLength : ℕ
 stepsLength = stepLength * slotLength

@@ -4,6 +4,7 @@ use Prim.Native.Nat.{ℕ}
 use mathlib.Core.Option.{Option, none, some}
 use mathlib.Core.List.{List, [], _∷_, _++_}
 use Rattle.semantics.specs.Path.{Symbol}
+use Rattle.semantics.specs.Halves.{lowWord, highWord}
 use Rattle.semantics.specs.Calls.{Passage, edge, jump, ReplayedPath}
 pub mod Alike
 
@@ -22,11 +23,11 @@ unfoldable pub scopeWords : List ℕ → List ℕ
 scopeWords [] = []
 scopeWords (s ∷ ss) = 1 ∷ s ∷ scopeWords ss
 
--- a symbol: 1 where no scopes are attached, else 2 and the scopes behind it
+-- a symbol, its high word first: 1 in front of it where no scopes are attached, else 2, and the scopes behind it
 unfoldable pub symbolWord : ℕ → Option (List ℕ) → List ℕ
 unfolding scopeWords
-symbolWord x none = 1 ∷ x ∷ []
-symbolWord x (some ss) = 2 ∷ x ∷ closed (scopeWords ss)
+symbolWord x none = 1 ∷ highWord x ∷ lowWord x ∷ []
+symbolWord x (some ss) = 2 ∷ highWord x ∷ lowWord x ∷ closed (scopeWords ss)
 
 -- the symbols, top first
 unfoldable pub symbolWords : List Symbol → List ℕ

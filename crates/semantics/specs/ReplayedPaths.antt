@@ -10,6 +10,7 @@ use Rattle.semantics.specs.declared.replayed.Step.{Step}
 use Rattle.semantics.specs.declared.replayed.Path.{Path}
 use Rattle.semantics.specs.Lists.{consIf}
 use Rattle.semantics.specs.Path.{Symbol}
+use Rattle.semantics.specs.Halves.{joined}
 use Rattle.semantics.specs.Calls.{Passage, edge, jump, ReplayedPath}
 
 -- step k: the edge and the end, the top cells of both stacks, and the cell that the step made
@@ -20,10 +21,10 @@ stepAt l k =
       end = getD l (stepLength * k + 1) 0;
       symbols = getD l (stepLength * k + 2) 0;
       scopes = getD l (stepLength * k + 3) 0;
-      symbol = getD l (stepLength * k + 4) 0;
-      attached = getD l (stepLength * k + 5) 0;
-      below = getD l (stepLength * k + 6) 0;
-      scope = getD l (stepLength * k + 7) 0;
+      symbol = joined (getD l (stepLength * k + 4) 0) (getD l (stepLength * k + 5) 0);
+      attached = getD l (stepLength * k + 6) 0;
+      below = getD l (stepLength * k + 7) 0;
+      scope = getD l (stepLength * k + 8) 0;
     }
 
 -- THE STACKS that cells stand for, tops first; f gives each step

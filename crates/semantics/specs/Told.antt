@@ -36,6 +36,8 @@ use Rattle.semantics.specs.declared.answer.Replacement.{Replacement}
 use Rattle.semantics.specs.declared.answer.Replacement.the-variants as Replacement
 use Rattle.semantics.specs.declared.answer.Finding.{Finding}
 use Rattle.semantics.specs.declared.answer.Finding.the-variants as Finding
+use Rattle.semantics.specs.declared.answer.Rewriting.{Rewriting}
+use Rattle.semantics.specs.declared.answer.Rewriting.the-variants as Rewriting
 pub mod Laws
 
 -- THE REFUSALS, row by row of document 01's table
@@ -146,3 +148,10 @@ toldFinding (Finding.Refused r) = toldSearch r
 -- where a part begins, and how many words it has
 abbrev pub toldPart : Part → List ℕ
 toldPart p = p .from ∷ (p .upTo - p .from) ∷ []
+
+-- order 3 of document 02
+abbrev pub toldRewriting : Rewriting → List ℕ
+toldRewriting (Rewriting.Done length) = 0 ∷ length ∷ []
+toldRewriting (Rewriting.Image r) = toldImage r
+toldRewriting (Rewriting.WideSymbol place) = 38 ∷ place ∷ []
+toldRewriting Rewriting.NoRoom = 32 ∷ []

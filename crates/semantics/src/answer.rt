@@ -68,3 +68,12 @@ pub enum Finding {
     NotDefinition(NodeId),
     Refused(SearchRefusal),
 }
+
+// An image rewritten in another version: how many bytes were written. 1 to 5 of the given image, 38 with the place there of the first record whose symbol does not fit,
+// 2, told as Image, where the result would be too long, and 32.
+pub enum Rewriting {
+    Done { length: u32 },
+    Image(ImageRefusal),
+    WideSymbol { place: u32 },
+    NoRoom,
+}

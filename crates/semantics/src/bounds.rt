@@ -6,8 +6,8 @@ pub const MAX_EDGES: usize = 127;
 pub const SLOT_WORDS: usize = MAX_EDGES + 1;
 // A database slot in words: file + 1, start, end, the count and the edges.
 pub const RECORD_WORDS: usize = MAX_EDGES + 4;
-// A step of a path in words, and all steps of a path: one for the reference and one for each edge.
-pub const STEP_WORDS: usize = 8;
+// A step of a path in words, of which its symbol has two, and all steps of a path: one for the reference and one for each edge.
+pub const STEP_WORDS: usize = 9;
 
 pub const STEPS_WORDS: usize = STEP_WORDS * SLOT_WORDS;
 // How many slots a database may have.

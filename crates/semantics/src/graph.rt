@@ -23,23 +23,23 @@ pub enum Node {
     },
     Push {
         file: FileId,
-        symbol: u32,
+        symbol: u64,
         reference: bool,
     },
     Pop {
         file: FileId,
-        symbol: u32,
+        symbol: u64,
         definition: bool,
     },
     PushScoped {
         file: FileId,
-        symbol: u32,
+        symbol: u64,
         scope: NodeId,
         reference: bool,
     },
     PopScoped {
         file: FileId,
-        symbol: u32,
+        symbol: u64,
         definition: bool,
     },
     DropScopes {

@@ -11,7 +11,7 @@ pub struct Step {
     pub symbols: u32,
     pub scopes: u32,
     // the cell that this step made: a symbol, the scopes attached to it, the symbol below; a scope, on the scope stack
-    pub symbol: u32,
+    pub symbol: u64,
     pub attached: u32,
     pub below: u32,
     pub scope: u32,

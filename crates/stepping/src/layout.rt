@@ -5,10 +5,13 @@ pub const SYMBOLS: usize = 2;
 
 pub const SCOPES: usize = 3;
 
+// A symbol has two words, the low one first.
 pub const SYMBOL: usize = 4;
 
-pub const ATTACHED: usize = 5;
+pub const SYMBOL_HIGH: usize = 5;
 
-pub const BELOW: usize = 6;
+pub const ATTACHED: usize = 6;
 
-pub const SCOPE: usize = 7;
+pub const BELOW: usize = 7;
+
+pub const SCOPE: usize = 8;

@@ -15,6 +15,7 @@ use semantics::kinds;
 use semantics::replayed::Step;
 use storage::blocks;
 use storage::store;
+use words::halves;
 
 // Writes step k, and hands it on.
 fn lay(steps: &mut [u32], k: usize, step: Step) -> Step
@@ -39,7 +40,7 @@ fn by_kind(index: &[u32], steps: &mut [u32], k: usize, target: u32, edge: u32, l
             lay(steps, k, step)
         }
         kinds::PUSH => {
-            let symbol = index[at + blocks::SYMBOL];
+            let symbol = halves::join(index[at + blocks::SYMBOL], index[at + blocks::SYMBOL_HIGH]);
             lay(steps, k, step::push(symbol, target, edge, k as u32, last))
         }
         kinds::POP => {
@@ -47,7 +48,7 @@ fn by_kind(index: &[u32], steps: &mut [u32], k: usize, target: u32, edge: u32, l
             lay(steps, k, step::plain(edge, target, top.below, last.scopes))
         }
         kinds::PUSH_SCOPED => {
-            let symbol = index[at + blocks::SYMBOL];
+            let symbol = halves::join(index[at + blocks::SYMBOL], index[at + blocks::SYMBOL_HIGH]);
             let scope = index[at + blocks::SCOPE];
             let step = step::pushed_scoped(symbol, scope, target, edge, k as u32, last);
             lay(steps, k, step)

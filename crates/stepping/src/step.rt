@@ -38,7 +38,7 @@ pub(crate) fn plain(edge: u32, end: u32, symbols: u32, scopes: u32) -> Step
     }
 }
 
-fn pop(target: u32, edge: u32, symbol: u32, last: Step, top: Step) -> Effect
+fn pop(target: u32, edge: u32, symbol: u64, last: Step, top: Step) -> Effect
     ensures { λ r. ⌜ r ≡ popOf target edge symbol last top ⌝ }
 {
     if last.symbols == 0 {
@@ -53,7 +53,7 @@ fn pop(target: u32, edge: u32, symbol: u32, last: Step, top: Step) -> Effect
     Effect::Done(plain(edge, target, top.below, last.scopes))
 }
 
-fn pop_scoped(target: u32, edge: u32, symbol: u32, last: Step, top: Step) -> Effect
+fn pop_scoped(target: u32, edge: u32, symbol: u64, last: Step, top: Step) -> Effect
     ensures { λ r. ⌜ r ≡ popScopedOf target edge symbol last top ⌝ }
 {
     if last.symbols == 0 {
@@ -80,7 +80,7 @@ fn jump(exported: bool, target: u32, edge: u32, last: Step, over: Step) -> Effec
     Effect::Refused(PathRefusal::UnknownAttachedScope(NodeId(over.scope)))
 }
 
-pub(crate) fn push(symbol: u32, target: u32, edge: u32, k: u32, last: Step) -> Step
+pub(crate) fn push(symbol: u64, target: u32, edge: u32, k: u32, last: Step) -> Step
     requires { ⌜ k < 4294967295 ⌝ }
     ensures { λ r. ⌜ r ≡ pushStep symbol target edge k last ⌝ }
 {
@@ -97,7 +97,7 @@ pub(crate) fn push(symbol: u32, target: u32, edge: u32, k: u32, last: Step) -> S
 }
 
 pub(crate) fn pushed_scoped(
-    symbol: u32,
+    symbol: u64,
     scope: u32,
     target: u32,
     edge: u32,
@@ -121,7 +121,7 @@ pub(crate) fn pushed_scoped(
 
 fn push_scoped(
     exported: bool,
-    symbol: u32,
+    symbol: u64,
     scope: u32,
     target: u32,
     edge: u32,

@@ -1,4 +1,4 @@
-// The steps of a path in a word area that is lent, 8 words for each. Document 01, "Path".
+// The steps of a path in a word area that is lent, 9 words for each. Document 01, "Path".
 // Truncation is free, and nothing is copied when a path grows.
 ghost use mathlib.Core.Path.{_≡_};
 ghost use Prim.Native.Nat.{_+_, _-_, _*_, _≤_};
@@ -13,6 +13,7 @@ use crate::step::Effect;
 use crate::step::follow;
 use semantics::bounds::STEP_WORDS;
 use semantics::replayed::Step;
+use words::halves;
 
 pub fn get_step(steps: &[u32], k: usize) -> Step
     requires { ⌜ stepLength * k + stepLength ≤ length (now steps) ⌝ }
@@ -24,7 +25,7 @@ pub fn get_step(steps: &[u32], k: usize) -> Step
         end: steps[at + layout::END],
         symbols: steps[at + layout::SYMBOLS],
         scopes: steps[at + layout::SCOPES],
-        symbol: steps[at + layout::SYMBOL],
+        symbol: halves::join(steps[at + layout::SYMBOL], steps[at + layout::SYMBOL_HIGH]),
         attached: steps[at + layout::ATTACHED],
         below: steps[at + layout::BELOW],
         scope: steps[at + layout::SCOPE],
@@ -35,12 +36,15 @@ pub fn put_step(steps: &mut [u32], k: usize, s: Step)
     requires { ⌜ stepLength * k + stepLength ≤ length (now steps) ⌝ }
     ensures { λ _. ⌜ now (steps .exit) ≡ withStep (now (steps .entry)) k s ⌝ }
 {
+    let low = halves::low(s.symbol);
+    let high = halves::high(s.symbol);
     let at = STEP_WORDS * k;
     steps[at] = s.edge;
     steps[at + layout::END] = s.end;
     steps[at + layout::SYMBOLS] = s.symbols;
     steps[at + layout::SCOPES] = s.scopes;
-    steps[at + layout::SYMBOL] = s.symbol;
+    steps[at + layout::SYMBOL] = low;
+    steps[at + layout::SYMBOL_HIGH] = high;
     steps[at + layout::ATTACHED] = s.attached;
     steps[at + layout::BELOW] = s.below;
     steps[at + layout::SCOPE] = s.scope;

@@ -5,9 +5,10 @@ use mathlib.Core.List.{List}
 use Rattle.semantics.specs.declared.refusal.ImageRefusal.{ImageRefusal}
 use Rattle.semantics.specs.Answer.{Answer, ok, andThen}
 use Rattle.semantics.specs.Graph.{Graph}
-use Rattle.semantics.specs.Image.{symbolBytes, graphOf, references}
+use Rattle.semantics.specs.Image.{references}
+use Rattle.image.specs.Records.{graphRead}
 pub mod Laws
 
 -- what the records refer to: the graph
 abbrev pub referencesOf : List ℕ → Answer ImageRefusal Graph
-referencesOf im = andThen (references im (graphOf symbolBytes im)) (λ x. ok (graphOf symbolBytes im))
+referencesOf im = andThen (references im (graphRead im)) (λ x. ok (graphRead im))

@@ -13,7 +13,7 @@ use Rattle.semantics.specs.Graph.{Graph, viewOf}
 use Rattle.semantics.specs.Image.{firstRecord, nodesOf, edgesOf}
 use Rattle.image.specs.Records.{Headed, Room}
 -- the blocks themselves are those that the pass over the image fills; crates above find both here
-pub use Rattle.image.specs.Index.{NODES, EDGES, BLOCK, KIND, FLAG, FILE, SYMBOL, SCOPE, FIRST, SOURCE, TARGET, NEXT, PRECEDENCE, INDEX, FEW, SMALL, Blocks, firstRow, Fresh}
+pub use Rattle.image.specs.Index.{NODES, EDGES, BLOCK, KIND, FLAG, FILE, SYMBOL, SYMBOL-HIGH, SCOPE, FIRST, SOURCE, TARGET, NEXT, PRECEDENCE, INDEX, FEW, SMALL, Blocks, symbolRow, firstRow, Fresh}
 unfoldable pub use Rattle.image.specs.Index.{cell, nodeOf, edgeOf, nodeRow, edgeRow, put}
 pub mod Laws
 pub mod Use

@@ -1,5 +1,5 @@
 // The check of a whole image, and the index of the graph that it holds.
-// Document 01, "Turned back": size and length as 2, then 1, 3, the records in order, bytes left over, and last 5 in record order.
+// Document 01, "Turned back": size and length as 2, then 1, 2 by the version's size, 3, the records in order, bytes left over, and last 5 in record order.
 ghost use mathlib.Core.Path.{_≡_};
 ghost use Prim.Native.Nat.{_<_};
 ghost use lib.ListN.{length};
@@ -10,11 +10,11 @@ ghost use Rattle.semantics.specs.declared.refusal.ImageRefusal.the-variants as 
 ghost use Rattle.semantics.specs.Answer.{ok};
 ghost use Rattle.semantics.specs.Calls.{checkCall};
 ghost use Rattle.semantics.specs.Graph.{Graph};
-ghost use Rattle.semantics.specs.Image.{symbolBytes, firstRecord, header, placeOf, graphOf};
+ghost use Rattle.semantics.specs.Image.{symbolBytes, firstRecord, header, placeOf};
 ghost use Rattle.semantics.specs.Told.{toldChecked};
 ghost use Rattle.storage.specs.Checks.{referencesOf};
 ghost use Rattle.image.specs.Filling.{Held};
-ghost use Rattle.image.specs.Records.{Headed, Room};
+ghost use Rattle.image.specs.Records.{Headed, Room, graphRead};
 ghost use Rattle.storage.specs.Index.{INDEX, isSmall, Takes, Loaded};
 use crate::blocks;
 use crate::links;
@@ -38,7 +38,7 @@ fn misfit(image: &[u8], from: usize, k: u32) -> Checked
 // Is all there that the records refer to? 5 at the place of the first that does not fit, else the counts. Nothing is linked yet.
 fn judge_references(image: &[u8], index: &[u32]) -> Checked
     requires { ⌜ Headed (now image) ⌝ }
-    requires { ⌜ Held (graphOf symbolBytes (now image)) (now index) ⌝ }
+    requires { ⌜ Held (graphRead (now image)) (now index) ⌝ }
     ensures { λ r. ⌜ r ≡ checkCall (referencesOf (now (image .entry))) ⌝ }
     ensures { λ _. ⌜ ((g : Graph) → referencesOf (now (image .entry)) ≡ ok g → Sources (now (index .entry))) ⌝ }
 {
@@ -62,7 +62,7 @@ fn judge_references(image: &[u8], index: &[u32]) -> Checked
 // What the records refer to is judged; where all is well, the edges are linked.
 fn refer(image: &[u8], index: &mut [u32]) -> Checked
     requires { ⌜ Headed (now image) ⌝ }
-    requires { ⌜ Held (graphOf symbolBytes (now image)) (now index) ⌝ }
+    requires { ⌜ Held (graphRead (now image)) (now index) ⌝ }
     requires { ⌜ Room (now image) (now index) ⌝ }
     ensures { λ r. ⌜ r ≡ checkCall (referencesOf (now (image .entry))) ⌝ }
     ensures { λ r. ⌜ ((g : Graph) → referencesOf (now (image .entry)) ≡ ok g → Loaded g (now (index .exit))) ⌝ }
@@ -82,7 +82,7 @@ fn refer(image: &[u8], index: &mut [u32]) -> Checked
 
 // The records in order, bytes left over, what the records refer to.
 fn read(image: &[u8], index: &mut [u32]) -> Checked
-    requires { ⌜ header (now image) ≡ ok firstRecord ⌝ }
+    requires { ⌜ header symbolBytes (now image) ≡ ok firstRecord ⌝ }
     requires { ⌜ Takes (now image) (now index) ⌝ }
     ensures { λ r. ⌜ r ≡ checkOf (now (image .entry)) ⌝ }
     ensures { λ r. ⌜ ((g : Graph) → graphIn (now (image .entry)) ≡ ok g → Loaded g (now (index .exit))) ⌝ }

@@ -5,7 +5,8 @@ ghost use Prim.Native.Nat.{_+_, _*_, _<_};
 ghost use lib.Dec.{eqb};
 ghost use lib.ListN.{length, getD};
 ghost use Rattle.semantics.specs.Graph.{fileOf, isFile, isReference, isDefinition, isExported, isStart, isEndpoint};
-ghost use Rattle.storage.specs.Index.{FLAG, BLOCK, Blocks, cell, nodeRow, edgeRow, firstRow, nextRow, targetRow, isPlain};
+ghost use Rattle.semantics.specs.Halves.{joined};
+ghost use Rattle.storage.specs.Index.{FLAG, SYMBOL, SYMBOL-HIGH, BLOCK, Blocks, cell, nodeRow, edgeRow, firstRow, nextRow, targetRow, isPlain};
 use crate::blocks;
 use semantics::graph::Edge;
 use semantics::graph::EdgeId;
@@ -14,6 +15,7 @@ use semantics::graph::Node;
 use semantics::graph::NodeId;
 use semantics::kinds;
 use words::bytes;
+use words::halves;
 
 // The word of a node's flag, in the block that stands at a place.
 fn flag(index: &[u32], at: usize) -> bool
@@ -21,6 +23,14 @@ fn flag(index: &[u32], at: usize) -> bool
     ensures { λ r. ⌜ r ≡ eqb (getD (now (index .entry)) (at + FLAG) 0) 1 ⌝ }
 {
     index[at + blocks::FLAG] == 1
+}
+
+// The two words of a node's symbol, in the block that stands at a place.
+fn symbol(index: &[u32], at: usize) -> u64
+    requires { ⌜ at + SYMBOL-HIGH < length (now index) ⌝ }
+    ensures { λ r. ⌜ r ≡ joined (getD (now (index .entry)) (at + SYMBOL) 0) (getD (now (index .entry)) (at + SYMBOL-HIGH) 0) ⌝ }
+{
+    halves::join(index[at + blocks::SYMBOL], index[at + blocks::SYMBOL_HIGH])
 }
 
 // Each kind reads the words that it has.
@@ -42,23 +52,23 @@ pub fn node(index: &[u32], n: NodeId) -> Node
         },
         kinds::PUSH => Node::Push {
             file: FileId(index[at + blocks::FILE]),
-            symbol: index[at + blocks::SYMBOL],
+            symbol: symbol(index, at),
             reference: flag(index, at),
         },
         kinds::POP => Node::Pop {
             file: FileId(index[at + blocks::FILE]),
-            symbol: index[at + blocks::SYMBOL],
+            symbol: symbol(index, at),
             definition: flag(index, at),
         },
         kinds::PUSH_SCOPED => Node::PushScoped {
             file: FileId(index[at + blocks::FILE]),
-            symbol: index[at + blocks::SYMBOL],
+            symbol: symbol(index, at),
             scope: NodeId(index[at + blocks::SCOPE]),
             reference: flag(index, at),
         },
         kinds::POP_SCOPED => Node::PopScoped {
             file: FileId(index[at + blocks::FILE]),
-            symbol: index[at + blocks::SYMBOL],
+            symbol: symbol(index, at),
             definition: flag(index, at),
         },
         kinds::DROP_SCOPES => Node::DropScopes {

@@ -143,3 +143,17 @@ pub fn not_definition(node: NodeId) -> Told
 {
     valued(37, node.0)
 }
+
+// Document 02's 38: a symbol that does not fit 32 bits.
+pub fn wide_symbol(place: u32) -> Told
+    ensures { λ r. ⌜ numbersOf r ≡ 38 ∷ place ∷ [] ⌝ }
+{
+    valued(38, place)
+}
+
+// 32 of an area of bytes.
+pub fn no_room() -> Told
+    ensures { λ r. ⌜ numbersOf r ≡ 32 ∷ [] ⌝ }
+{
+    bare(32)
+}

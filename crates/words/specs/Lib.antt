@@ -3,3 +3,4 @@ pub mod Copies
 pub mod Reversal
 pub mod Ring
 pub mod Slots
+pub mod Writing

@@ -4,6 +4,7 @@ ghost use mathlib.Core.Path.{_≡_};
 ghost use Prim.Native.Nat.{_+_, _<_, _^_};
 ghost use lib.ListN.{length};
 ghost use Rattle.semantics.specs.Bytes.{byteAt, short, long, signed};
+ghost use Rattle.semantics.specs.Bytes.Written.{unsigned};
 
 const SIGN: u32 = 0x8000_0000;
 
@@ -57,5 +58,16 @@ pub fn signed(x: u32) -> i32
         x as i32
     } else {
         -1 - ((0xffff_ffff - x) as i32)
+    }
+}
+
+// The 32 bits of a signed number, the other way round.
+pub fn unsigned(x: i32) -> u32
+    ensures { λ r. ⌜ r ≡ unsigned x ⌝ }
+{
+    if x < 0 {
+        0xffff_ffff - ((-1 - x) as u32)
+    } else {
+        x as u32
     }
 }

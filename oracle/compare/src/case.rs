@@ -19,9 +19,15 @@ pub enum Call {
     Lookup,
     Stitched,
     StitchedRecorded,
+    Widen,
+    Narrow,
 }
 
 impl Call {
+    pub fn is_rewriting(self) -> bool {
+        matches!(self, Self::Widen | Self::Narrow)
+    }
+
     pub fn is_recorded(self) -> bool {
         matches!(
             self,
@@ -47,6 +53,8 @@ pub struct Case {
     pub work: Vec<u32>,
     /// The result slots, or the words for a replayed path.
     pub result: Vec<u32>,
+    /// The bytes for a rewritten image.
+    pub area: Vec<u8>,
     /// How many numbers of the answer are asked for.
     pub answer_length: usize,
 }
@@ -67,6 +75,7 @@ impl Case {
             words: vec![],
             work: vec![],
             result: vec![],
+            area: vec![],
             answer_length: LONGEST_ANSWER,
         }
     }
@@ -91,6 +100,7 @@ pub struct Outcome {
     pub words: Vec<u32>,
     pub work: Vec<u32>,
     pub result: Vec<u32>,
+    pub area: Vec<u8>,
 }
 
 impl Outcome {
@@ -101,6 +111,7 @@ impl Outcome {
             words: case.words.clone(),
             work: vec![0; case.work.len()],
             result: vec![0; case.result.len()],
+            area: vec![0; case.area.len()],
         }
     }
 

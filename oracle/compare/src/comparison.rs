@@ -1,7 +1,7 @@
 //! A case put to all three, and where they differ.
 
 use crate::case::{Call, Case, Outcome};
-use crate::{given, ours, second};
+use crate::{given, ours, second, turned};
 use std::panic::{AssertUnwindSafe, catch_unwind, set_hook, take_hook};
 
 /// What the three left behind; the given library only where it has the answer.
@@ -14,6 +14,10 @@ pub struct Compared {
     pub second: Outcome,
     /// None within where the given library panicked.
     pub given: Option<Option<Outcome>>,
+    /// Ours on the image in the other version, if it has one.
+    pub turned: Option<Outcome>,
+    /// The image that a rewriting hands back is rewritten to the given one.
+    pub is_undone: bool,
 }
 
 impl Compared {
@@ -22,7 +26,11 @@ impl Compared {
             .given
             .as_ref()
             .is_some_and(|given| given.as_ref() != Some(&self.counted));
-        self.ours != self.second || from_given
+        let from_turned = self
+            .turned
+            .as_ref()
+            .is_some_and(|turned| *turned != self.ours);
+        self.ours != self.second || from_given || from_turned || !self.is_undone
     }
 }
 
@@ -42,6 +50,8 @@ pub fn compare(case: &Case) -> Option<Compared> {
     Some(Compared {
         number,
         counted: ours.without_waited(case.call),
+        turned: turned::run(case),
+        is_undone: !case.call.is_rewriting() || turned::is_undone(case, &whole, &ours),
         ours,
         second: whole.cut(case),
         given,

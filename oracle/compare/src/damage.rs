@@ -6,6 +6,12 @@ use crate::random::Random;
 /// Bytes before the first record: version, length, three counts.
 const FIRST_RECORD: usize = 11;
 
+/// The two that are read, and others.
+const VERSIONS: [u8; 6] = [1, 1, 2, 2, 0, 3];
+
+/// Sizes about the bounds of both versions.
+const ABOUT_BOUNDS: [(usize, usize); 2] = [(63_490, 63_510), (65_530, 65_542)];
+
 /// The graph's bytes with some damage, which now and then changes nothing that matters.
 pub fn damaged(random: &mut Random, graph: &Graph) -> Vec<u8> {
     let mut image = graph.image();
@@ -25,17 +31,23 @@ pub fn damaged(random: &mut Random, graph: &Graph) -> Vec<u8> {
 
 /// Any bytes at all, of a length that the head may match.
 pub fn noise(random: &mut Random) -> Vec<u8> {
+    if random.percent(8) {
+        return about_bounds(random);
+    }
     let length = random.below(40);
     let mut image: Vec<u8> = (0..length).map(|_| random.word() as u8 % 12).collect();
     if image.len() > 4 && random.percent(70) {
-        image = with_head(&image[5..]);
-    }
-    if random.percent(5) {
-        let longer = random.within(63_490, 63_510);
-        image.resize(longer, 0);
-        image = with_head(&image[5..]);
+        image = with_head(*random.one_of(&VERSIONS), &image[5..]);
     }
     image
+}
+
+/// As many bytes as an image of either version may just have, or just not; of
+/// what is in them the counts are refused first.
+pub fn about_bounds(random: &mut Random) -> Vec<u8> {
+    let (first, last) = *random.one_of(&ABOUT_BOUNDS);
+    let body = vec![0; random.within(first, last) - 5];
+    with_head(*random.one_of(&VERSIONS), &body)
 }
 
 fn set_length(image: &mut [u8]) {
@@ -60,7 +72,7 @@ fn change_head(random: &mut Random, image: &mut [u8]) {
     let counts: [u16; 12] = [0, 1, 2, 3, 255, 256, 257, 2_047, 2_048, 2_049, 4_096, 4_097];
     let count = *random.one_of(&counts);
     match random.below(5) {
-        0 => image[0] = *random.one_of(&[0, 2, 255]),
+        0 => image[0] = *random.one_of(&[0, 1, 2, 3, 255]),
         1 => image[random.within(1, 4)] ^= 1 << random.below(8),
         place => {
             let at = 1 + 2 * place;

@@ -1,23 +1,56 @@
 //! Graphs drawn at random: every accepted image is possible in kind, small ones
 //! with many agreeing symbols are frequent.
 
-use crate::graph::{Edge, Graph, Node};
+use crate::graph::{Edge, Graph, Node, Version};
 use crate::path::Path;
 use crate::random::Random;
 use crate::shapes;
 
-/// An accepted graph.
+/// An accepted graph, of version 2 half of the time.
 pub fn graph(random: &mut Random) -> Graph {
+    let mut graph = narrow(random);
+    if random.percent(50) {
+        widen(random, &mut graph);
+    }
+    graph
+}
+
+/// Symbols of 64 bits: those of a row differ in the high half alone, in the low half
+/// alone, about the bounds of both widths, and all of them fit 32 bits.
+const WIDE_SYMBOLS: [[u64; 4]; 4] = [
+    [7, 1 << 32 | 7, 1 << 63 | 7, 0xFFFF_FFFF << 32 | 7],
+    [u64::MAX, u64::MAX - 1, u64::MAX - (1 << 31), u64::MAX << 32],
+    [0xFFFF_FFFF, 1 << 32, u64::MAX, 0],
+    [0, 7, 1 << 31, 0xFFFF_FFFF],
+];
+
+/// Version 2 with the symbols of a row, from any place of it on, for the graph's own;
+/// different ones stay different.
+pub fn widen(random: &mut Random, graph: &mut Graph) {
+    graph.version = Version::Wide;
+    let own = graph.symbols();
+    let row = WIDE_SYMBOLS[random.weighted(&[4, 1, 1, 2])];
+    let first = random.below(row.len());
+    assert!(own.len() <= row.len(), "there are as many names as symbols");
+    for symbol in graph.nodes.iter_mut().filter_map(Node::symbol_mut) {
+        let place = own.iter().take_while(|&other| other != symbol).count();
+        *symbol = row[(first + place) % row.len()];
+    }
+}
+
+/// One of version 1.
+fn narrow(random: &mut Random) -> Graph {
     if random.below(1_500) == 0 {
         return shapes::largest(random);
     }
-    match random.weighted(&[70, 13, 4, 6, 6, 1]) {
+    match random.weighted(&[64, 13, 4, 6, 6, 1, 6]) {
         0 => mixed(random),
         1 => shapes::chain(random),
         2 => shapes::tower(random),
         3 => shapes::ladder(random),
         4 => shapes::fan(random),
-        _ => shapes::fileless(random),
+        5 => shapes::fileless(random),
+        _ => shapes::namesakes(random),
     }
 }
 
@@ -31,6 +64,7 @@ fn mixed(random: &mut Random) -> Graph {
     };
     let symbols = *random.one_of(&[1, 2, 2, 3]);
     let mut graph = Graph {
+        version: Version::Narrow,
         files,
         nodes: vec![Node::Root, Node::Jump],
         edges: vec![],
@@ -66,8 +100,8 @@ fn add_name(random: &mut Random, graph: &mut Graph, symbols: usize) {
 }
 
 /// Symbols that differ in one byte only, so that a byte left out would be seen.
-fn symbol(random: &mut Random, symbols: usize) -> u32 {
-    [7, 8, 7 << 24 | 7, u32::MAX][random.low(symbols)]
+fn symbol(random: &mut Random, symbols: usize) -> u64 {
+    [7, 8, 7 << 24 | 7, 0xFFFF_FFFF][random.low(symbols)]
 }
 
 /// A node of any kind but root and jump; its scope is chosen later. Exported

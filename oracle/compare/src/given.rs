@@ -6,7 +6,7 @@ use crate::case::{Call, Case, Outcome};
 use crate::check::Refusal;
 use crate::database::{self, FILES, NODES};
 use crate::graph::{JUMP, MOST_FILES, MOST_NODES};
-use crate::load::{Graph, load};
+use crate::load::{Graph, Symbol, load};
 use crate::replayed::{Passage, Replayed};
 use cfglib::graph::search::SearchOrder;
 use cfglib::graph::stack::{
@@ -18,7 +18,7 @@ use cfglib::graph::stack::{
 /// Whether the given library has what led to an answer of this number.
 pub fn has(case: &Case, number: u64) -> bool {
     match case.call {
-        Call::FindName => false,
+        Call::FindName | Call::Widen | Call::Narrow => false,
         Call::Lookup => is_buildable(&case.words),
         Call::ReplaceFile | Call::Stitched | Call::StitchedRecorded => {
             is_answer(number) && is_buildable(&case.words)
@@ -102,7 +102,7 @@ fn linear_refusal(error: StackLinearResolutionError) -> Refusal {
     }
 }
 
-fn replay(graph: &Graph, reference: u32, edges: &[u32]) -> Result<StackPath<u32>, Refusal> {
+fn replay(graph: &Graph, reference: u32, edges: &[u32]) -> Result<StackPath<Symbol>, Refusal> {
     let mut path =
         StackPath::from_reference(graph, StackNodeId::from_raw(reference)).map_err(path_refusal)?;
     for &edge in edges {
@@ -113,7 +113,7 @@ fn replay(graph: &Graph, reference: u32, edges: &[u32]) -> Result<StackPath<u32>
 }
 
 /// The library's stacks have their tops last, and its jumps name their source too.
-fn replayed(path: &StackPath<u32>) -> Replayed {
+fn replayed(path: &StackPath<Symbol>) -> Replayed {
     let reversed = |scopes: &[StackNodeId]| scopes.iter().rev().map(|scope| scope.raw()).collect();
     let steps = path.steps().iter().map(|step| match step {
         StackPathStep::Edge(edge) => Passage::Edge(edge.raw()),
@@ -175,7 +175,7 @@ fn searched(case: &Case, mut graph: Graph) -> Result<Outcome, Refusal> {
     Ok(resolved(case, &found))
 }
 
-fn resolved(case: &Case, found: &StackResolution<u32>) -> Outcome {
+fn resolved(case: &Case, found: &StackResolution<Symbol>) -> Outcome {
     let stats = found.stats();
     let counts = [
         found.paths().len(),
@@ -195,7 +195,7 @@ fn resolved(case: &Case, found: &StackResolution<u32>) -> Outcome {
     outcome
 }
 
-fn edges_of(path: &StackPath<u32>) -> Vec<u32> {
+fn edges_of(path: &StackPath<Symbol>) -> Vec<u32> {
     let edges = path.steps().iter().filter_map(|step| match step {
         StackPathStep::Edge(edge) => Some(edge.raw()),
         StackPathStep::Jump { .. } => None,

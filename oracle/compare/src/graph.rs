@@ -1,10 +1,60 @@
-//! A graph as an image describes it (document 01, "Graph image"), and its bytes.
+//! A graph as an image describes it (document 01, "Graph image"), and its bytes in
+//! either version (document 02, order 3).
 
 pub const ROOT: u32 = 0;
 pub const JUMP: u32 = 1;
 pub const MOST_FILES: usize = 256;
 pub const MOST_NODES: usize = 2_048;
 pub const MOST_GRAPH_EDGES: usize = 4_096;
+
+/// "Image version 2 stores symbols in eight bytes."
+#[derive(Clone, Copy, PartialEq, Eq, Debug)]
+pub enum Version {
+    Narrow,
+    Wide,
+}
+
+impl Version {
+    /// The first byte of an image.
+    pub fn byte(self) -> u8 {
+        match self {
+            Self::Narrow => 1,
+            Self::Wide => 2,
+        }
+    }
+
+    pub fn of_byte(byte: u8) -> Option<Self> {
+        [Self::Narrow, Self::Wide]
+            .into_iter()
+            .find(|version| version.byte() == byte)
+    }
+
+    pub fn other(self) -> Self {
+        match self {
+            Self::Narrow => Self::Wide,
+            Self::Wide => Self::Narrow,
+        }
+    }
+
+    pub fn symbol_bytes(self) -> usize {
+        match self {
+            Self::Narrow => 4,
+            Self::Wide => 8,
+        }
+    }
+
+    /// How many bytes an image may have.
+    pub fn longest(self) -> usize {
+        match self {
+            Self::Narrow => 63_499,
+            Self::Wide => 65_536,
+        }
+    }
+
+    pub fn fits(self, symbol: u64) -> bool {
+        self == Self::Wide || symbol <= u64::from(u32::MAX)
+    }
+}
 
 /// A node. The flag means exported on a scope, reference on a push, definition on a pop.
 #[derive(Clone, Copy, PartialEq, Eq, Debug)]
@@ -18,23 +68,23 @@ pub enum Node {
     },
     Push {
         file: u32,
-        symbol: u32,
+        symbol: u64,
         flag: bool,
     },
     Pop {
         file: u32,
-        symbol: u32,
+        symbol: u64,
         flag: bool,
     },
     PushScoped {
         file: u32,
-        symbol: u32,
+        symbol: u64,
         scope: u32,
         flag: bool,
     },
     PopScoped {
         file: u32,
-        symbol: u32,
+        symbol: u64,
         flag: bool,
     },
     DropScopes {
@@ -53,6 +103,26 @@ impl Node {
             | Self::PushScoped { file, .. }
             | Self::PopScoped { file, .. }
             | Self::DropScopes { file } => Some(file),
+        }
+    }
+
+    pub fn symbol(self) -> Option<u64> {
+        match self {
+            Self::Push { symbol, .. }
+            | Self::Pop { symbol, .. }
+            | Self::PushScoped { symbol, .. }
+            | Self::PopScoped { symbol, .. } => Some(symbol),
+            _ => None,
+        }
+    }
+
+    pub fn symbol_mut(&mut self) -> Option<&mut u64> {
+        match self {
+            Self::Push { symbol, .. }
+            | Self::Pop { symbol, .. }
+            | Self::PushScoped { symbol, .. }
+            | Self::PopScoped { symbol, .. } => Some(symbol),
+            _ => None,
         }
     }
 
@@ -82,9 +152,11 @@ pub struct Edge {
     pub precedence: i32,
 }
 
-/// Records are numbered from 0; a removed edge is None.
+/// Records are numbered from 0; a removed edge is None. The version is that of the
+/// image; every symbol fits it.
 #[derive(Clone, PartialEq, Eq, Debug)]
 pub struct Graph {
+    pub version: Version,
     pub files: usize,
     pub nodes: Vec<Node>,
     pub edges: Vec<Option<Edge>>,
@@ -141,24 +213,35 @@ impl Graph {
         node.is_some_and(|node| node.is_exported_scope() && node.file() == Some(file))
     }
 
+    /// The symbols, each once, in the order of their nodes.
+    pub fn symbols(&self) -> Vec<u64> {
+        let mut symbols = Vec::new();
+        for symbol in self.nodes.iter().filter_map(|node| node.symbol()) {
+            if !symbols.contains(&symbol) {
+                symbols.push(symbol);
+            }
+        }
+        symbols
+    }
+
     pub fn image(&self) -> Vec<u8> {
         let mut body = Vec::new();
         for count in [self.files, self.nodes.len(), self.edges.len()] {
             body.extend((count as u16).to_be_bytes());
         }
         for &node in &self.nodes {
-            put_record(&mut body, &node_bytes(node));
+            put_record(&mut body, &node_bytes(node, self.version));
         }
         for &edge in &self.edges {
             put_record(&mut body, &edge_bytes(edge));
         }
-        with_head(&body)
+        with_head(self.version.byte(), &body)
     }
 }
 
-/// Version 1 and the length before what follows them.
-pub fn with_head(body: &[u8]) -> Vec<u8> {
-    let mut image = vec![1];
+/// The version and the length before what follows them.
+pub fn with_head(version: u8, body: &[u8]) -> Vec<u8> {
+    let mut image = vec![version];
     image.extend((body.len() as u32).to_be_bytes());
     image.extend(body);
     image
@@ -172,13 +255,13 @@ fn put_record(body: &mut Vec<u8>, record: &[u8]) {
 fn fields(
     kind: u8,
     file: u32,
-    symbol: Option<u32>,
+    symbol: Option<&[u8]>,
     scope: Option<u32>,
     flag: Option<bool>,
 ) -> Vec<u8> {
     let mut bytes = vec![kind];
     bytes.extend((file as u16).to_be_bytes());
-    bytes.extend(symbol.into_iter().flat_map(u32::to_be_bytes));
+    bytes.extend(symbol.into_iter().flatten());
     bytes.extend(
         scope
             .into_iter()
@@ -188,21 +271,22 @@ fn fields(
     bytes
 }
 
-fn node_bytes(node: Node) -> Vec<u8> {
+/// The record of a node without its count byte.
+pub fn node_bytes(node: Node, version: Version) -> Vec<u8> {
+    let wide = node.symbol().unwrap_or(0).to_be_bytes();
+    // The last bytes of a big-endian number.
+    let symbol = Some(&wide[wide.len() - version.symbol_bytes()..]);
     match node {
         Node::Removed => vec![0],
         Node::Root => vec![1],
         Node::Jump => vec![2],
         Node::Scope { file, flag } => fields(3, file, None, None, Some(flag)),
-        Node::Push { file, symbol, flag } => fields(4, file, Some(symbol), None, Some(flag)),
-        Node::Pop { file, symbol, flag } => fields(5, file, Some(symbol), None, Some(flag)),
+        Node::Push { file, flag, .. } => fields(4, file, symbol, None, Some(flag)),
+        Node::Pop { file, flag, .. } => fields(5, file, symbol, None, Some(flag)),
         Node::PushScoped {
-            file,
-            symbol,
-            scope,
-            flag,
-        } => fields(6, file, Some(symbol), Some(scope), Some(flag)),
-        Node::PopScoped { file, symbol, flag } => fields(7, file, Some(symbol), None, Some(flag)),
+            file, scope, flag, ..
+        } => fields(6, file, symbol, Some(scope), Some(flag)),
+        Node::PopScoped { file, flag, .. } => fields(7, file, symbol, None, Some(flag)),
         Node::DropScopes { file } => fields(8, file, None, None, None),
     }
 }

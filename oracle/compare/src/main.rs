@@ -21,12 +21,14 @@ mod random;
 mod replayed;
 mod report;
 mod requests;
+mod rewriting;
 mod scenes;
 mod search;
 mod second;
 mod shapes;
 mod shrink;
 mod slots;
+mod turned;
 
 use comparison::compare;
 use random::Random;

@@ -43,6 +43,10 @@ unsafe extern "C" {
         words: *const u32, words_len: usize,
         reference: u32, asked: *const u64, asked_len: usize, work: *mut u32, work_len: usize,
         result: *mut u32, result_len: usize, answer: *mut u64, answer_len: usize);
+    fn pozhdaghi_widen(image: *const u8, image_len: usize, area: *mut u8, area_len: usize,
+        answer: *mut u64, answer_len: usize);
+    fn pozhdaghi_narrow(image: *const u8, image_len: usize, area: *mut u8, area_len: usize,
+        answer: *mut u64, answer_len: usize);
 }
 
 /// What an unwritten number of the answer would show.
@@ -55,6 +59,7 @@ pub fn run(case: &Case) -> Outcome {
         words: case.words.clone(),
         work: case.work.clone(),
         result: case.result.clone(),
+        area: case.area.clone(),
     };
     call(case, &mut outcome);
     outcome
@@ -69,6 +74,7 @@ fn call(c: &Case, o: &mut Outcome) {
     let (words, words_n) = (o.words.as_mut_ptr(), o.words.len());
     let (work, work_n) = (o.work.as_mut_ptr(), o.work.len());
     let (result, result_n) = (o.result.as_mut_ptr(), o.result.len());
+    let (area, area_n) = (o.area.as_mut_ptr(), o.area.len());
     let (answer, answer_n) = (o.answer.as_mut_ptr(), o.answer.len());
     unsafe {
         match c.call {
@@ -97,6 +103,8 @@ fn call(c: &Case, o: &mut Outcome) {
                 asked, asked_n, work, work_n, result, result_n, answer, answer_n),
             Call::StitchedRecorded => pozhdaghi_stitched_recorded(image, n, words, words_n,
                 c.number, asked, asked_n, work, work_n, result, result_n, answer, answer_n),
+            Call::Widen => pozhdaghi_widen(image, n, area, area_n, answer, answer_n),
+            Call::Narrow => pozhdaghi_narrow(image, n, area, area_n, answer, answer_n),
         }
     }
 }

@@ -11,7 +11,7 @@ pub const MOST_EDGES: usize = 127;
 type Step = (u32, i32);
 
 /// A symbol with the scopes attached to it, if it has any.
-type Symbol = (u32, Option<Vec<u32>>);
+type Symbol = (u64, Option<Vec<u32>>);
 
 /// Tops of stacks stand last.
 #[derive(Clone, PartialEq, Eq, Debug)]
@@ -89,7 +89,7 @@ impl Path {
     }
 
     /// The scopes of the top symbol, which is compared before they are looked at.
-    fn pop(&mut self, symbol: u32, number: u32) -> Result<Option<Vec<u32>>, Refusal> {
+    fn pop(&mut self, symbol: u64, number: u32) -> Result<Option<Vec<u32>>, Refusal> {
         let (top, scopes) = self.symbols.pop().ok_or(vec![14, number.into()])?;
         if top != symbol {
             return Err(vec![15, number.into()]);

@@ -13,13 +13,14 @@ pub struct Replayed {
     pub end: u32,
     pub steps: Vec<Passage>,
     /// Each symbol with the scopes attached to it, if it has any.
-    pub symbols: Vec<(u32, Option<Vec<u32>>)>,
+    pub symbols: Vec<(u64, Option<Vec<u32>>)>,
     pub scopes: Vec<u32>,
 }
 
 impl Replayed {
     /// The end, the steps, the symbols, the scopes. A number in front of each item
-    /// says what it is, and a 0 ends each list.
+    /// says what it is, and a 0 ends each list. A symbol has two words, the high one
+    /// first.
     pub fn words(&self) -> Vec<u32> {
         let mut words = vec![self.end];
         for &step in &self.steps {
@@ -30,7 +31,8 @@ impl Replayed {
         }
         words.push(0);
         for (symbol, attached) in &self.symbols {
-            words.extend([1 + u32::from(attached.is_some()), *symbol]);
+            let (high, low) = ((symbol >> 32) as u32, *symbol as u32);
+            words.extend([1 + u32::from(attached.is_some()), high, low]);
             if let Some(scopes) = attached {
                 put_scopes(&mut words, scopes);
             }

@@ -5,6 +5,7 @@ use crate::case::{Call, Case, Outcome};
 use crate::check::check;
 use crate::comparison::{Compared, compare};
 use crate::database::lookup;
+use crate::graph::Version;
 use crate::names::{Named, find_name};
 use crate::path::replay;
 use crate::replayed::Passage;
@@ -23,6 +24,9 @@ pub struct Counts {
     /// Lookups that hand back an empty part.
     empty_parts: u64,
     paths: u64,
+    /// Accepted images of version 2, and cases put to both versions.
+    wide: u64,
+    turned: u64,
     flags: [u64; 3],
     /// Names: all, and those of a reference behind others, those of a shadowed path.
     names: [u64; 3],
@@ -35,6 +39,8 @@ impl Counts {
         self.cases += 1;
         self.differences += u64::from(compared.differs());
         self.given += u64::from(compared.given.is_some());
+        self.wide += u64::from(is_wide(case));
+        self.turned += u64::from(compared.turned.is_some());
         *self
             .numbers
             .entry(case.call)
@@ -129,6 +135,10 @@ impl Counts {
             "replayed paths {replayed}: with jumps {jumps}, with symbols {symbols}, \
              with attached scopes {attached}, with scopes {scopes}"
         );
+        println!(
+            "accepted images of version 2 {}, calls put to both versions {}",
+            self.wide, self.turned
+        );
         println!("flags: length {length}, path count {count}, complete paths {complete}");
         println!(
             "cases {}, of these also put to the given Rust {}",
@@ -136,6 +146,10 @@ impl Counts {
         );
         println!("differences {}", self.differences);
     }
+}
+
+fn is_wide(case: &Case) -> bool {
+    check(&case.image).is_ok_and(|graph| graph.version == Version::Wide)
 }
 
 /// The input of a case, as far as its call takes it, and every answer to it.
@@ -161,9 +175,10 @@ pub fn show(case: &Case) {
     println!("asked {:?}: {:?}", case.asked, case.meaning());
     println!("database {}", sparse(&case.words));
     println!(
-        "work {} words, result {} words",
+        "work {} words, result {} words, area {} bytes",
         case.work.len(),
-        case.result.len()
+        case.result.len(),
+        case.area.len()
     );
     show_answers(case);
 }
@@ -179,12 +194,21 @@ fn show_answers(case: &Case) {
         Some(None) => println!("given Rust: panicked"),
         Some(Some(given)) => show_outcome("given Rust", case, &given),
     }
+    if let Some(turned) = compared.turned {
+        show_outcome("ours on the other version", case, &turned);
+    }
+    if !compared.is_undone {
+        println!("rewritten back it is not the image given");
+    }
 }
 
 /// Words that are as they must be after most calls are left out.
 fn show_outcome(name: &str, case: &Case, outcome: &Outcome) {
     println!("{name}: answer {:?}", outcome.answer);
     println!("  result {}", sparse(&outcome.result));
+    if !outcome.area.is_empty() {
+        println!("  area {}", hex(&outcome.area));
+    }
     if outcome.work.iter().any(|&word| word != 0) {
         println!("  work {}", sparse(&outcome.work));
     }

@@ -9,6 +9,7 @@ use crate::names::find_name;
 use crate::partials::compute;
 use crate::path::replay;
 use crate::random::Random;
+use crate::rewriting::bytes_of_other;
 use crate::second::found;
 
 /// What a search turned out to need without areas; guesses for one that is refused.
@@ -117,6 +118,21 @@ pub fn path_area(random: &mut Random, graph: &Graph, reference: u32, edges: &[u3
         _ => need + random.below(40),
     };
     random.rubbish(count)
+}
+
+/// Bytes for a rewritten image: mostly as many as it has or some more, at times one
+/// too few, or none.
+pub fn image_area(random: &mut Random, graph: &Graph) -> Vec<u8> {
+    let other = bytes_of_other(graph);
+    let need = other.map_or(graph.image().len(), |bytes| bytes.len());
+    let count = match random.below(8) {
+        0 => random.below(need + 1),
+        1 | 2 => need.saturating_sub(1),
+        3 | 4 => need,
+        _ => need + random.below(40),
+    };
+    let words = random.rubbish(count);
+    words.into_iter().map(|word| word as u8).collect()
 }
 
 fn numbers(asked: Asked) -> Vec<u64> {

@@ -1,15 +1,18 @@
 //! A scene: a drawn graph and the calls that are tried on it.
 
 use crate::case::{Call, Case};
+use crate::check::check;
 use crate::damage;
 use crate::database::{DATABASE_SLOT, FIRST_SLOT, USED};
 use crate::draw;
-use crate::graph::Graph;
+use crate::graph::{Graph, Node, Version};
 use crate::lists;
 use crate::random::Random;
 use crate::requests::{self, number_about};
 use crate::second;
+use crate::shapes;
 use crate::slots;
+use crate::turned::rewriting_of;
 
 const SEARCHES: [Call; 5] = [
     Call::Direct,
@@ -22,11 +25,12 @@ const STITCHED: [Call; 2] = [Call::Stitched, Call::StitchedRecorded];
 
 pub fn scene(random: &mut Random) -> Vec<Case> {
     let graph = draw::graph(random);
-    let mut cases = match random.weighted(&[30, 30, 25, 15]) {
+    let mut cases = match random.weighted(&[30, 30, 25, 15, 12]) {
         0 => searches(random, &graph),
         1 => filing(random, &graph),
         2 => any_slots(random, &graph),
-        _ => damages(random, &graph),
+        3 => damages(random, &graph),
+        _ => rewritings(random, &graph),
     };
     cases.push(Case::new(Call::Check, &graph.image()));
     cases
@@ -214,12 +218,74 @@ fn damages(random: &mut Random, graph: &Graph) -> Vec<Case> {
     cases
 }
 
+/// Both rewritings of the graph, of others with its records, and of damaged images.
+fn rewritings(random: &mut Random, graph: &Graph) -> Vec<Case> {
+    let mut cases = Vec::new();
+    for _ in 0..10 {
+        let graph = with_other_symbols(random, graph);
+        let image = match random.weighted(&[78, 18, 4]) {
+            0 => graph.image(),
+            1 => damage::damaged(random, &graph),
+            _ => damage::about_bounds(random),
+        };
+        cases.push(rewriting(random, &graph, &image));
+    }
+    if random.percent(10) {
+        let version = *random.one_of(&[Version::Narrow, Version::Wide]);
+        let graph = shapes::brim(random, version);
+        cases.push(Case::new(Call::Check, &graph.image()));
+        cases.push(rewriting(random, &graph, &graph.image()));
+    }
+    cases
+}
+
+/// The same graph, or of version 2 with symbols drawn anew.
+fn with_other_symbols(random: &mut Random, graph: &Graph) -> Graph {
+    let mut other = graph.clone();
+    if other.version == Version::Wide {
+        draw::widen(random, &mut other);
+        if random.percent(40) {
+            widen_one(random, &mut other);
+        }
+    }
+    other
+}
+
+/// At most one record has a symbol that does not fit 32 bits.
+fn widen_one(random: &mut Random, graph: &mut Graph) {
+    let with_symbol = graph.nodes.iter_mut().filter_map(Node::symbol_mut);
+    let mut symbols: Vec<&mut u64> = with_symbol.collect();
+    for symbol in &mut symbols {
+        **symbol &= u64::from(u32::MAX);
+    }
+    if !symbols.is_empty() {
+        let place = random.below(symbols.len());
+        *symbols[place] = *random.one_of(&[0xFFFF_FFFF, 1 << 32, 1 << 63, u64::MAX]);
+    }
+}
+
+/// Mostly to the version that the graph's image has not; a damaged one is refused as
+/// often for its version as for its damage.
+fn rewriting(random: &mut Random, graph: &Graph, image: &[u8]) -> Case {
+    let chance = if check(image).is_ok() { 90 } else { 50 };
+    let version = if random.percent(chance) {
+        graph.version
+    } else {
+        graph.version.other()
+    };
+    let mut case = Case::new(rewriting_of(version), image);
+    case.area = requests::image_area(random, graph);
+    case.answer_length = requests::answer_length(random);
+    case
+}
+
 fn other_call(random: &mut Random, graph: &Graph, image: &[u8]) -> Option<Case> {
     let mut words = slots::any_words(random, graph);
     if random.percent(30) {
         slots::spoil(random, &mut words);
     }
-    match random.below(8) {
+    match random.below(9) {
+        8 => Some(rewriting(random, graph, image)),
         0 => Some(judgement(random, graph, image)),
         6 => Some(replay(random, graph, image)),
         7 => name(random, graph, image),

@@ -4,8 +4,10 @@ use crate::budget::{SLOT, Slots};
 use crate::case::{Call, Case, Outcome};
 use crate::check::{Refusal, check};
 use crate::database::{check_database, fresh, lookup, partial_paths, replace_file};
+use crate::graph::Version;
 use crate::names::find_name;
 use crate::path::replay;
+use crate::rewriting;
 use crate::search::{Found, direct, linear, stitched};
 
 /// What the call must leave behind, the answer whole.
@@ -29,6 +31,8 @@ fn answered(case: &Case) -> Result<Outcome, Refusal> {
         Call::Fresh => created(case),
         Call::ReplaceFile => replaced(case),
         Call::Lookup => Ok(looked_up(case)),
+        Call::Widen => rewritten(case, Version::Wide),
+        Call::Narrow => rewritten(case, Version::Narrow),
     }
 }
 
@@ -133,6 +137,14 @@ fn replaced(case: &Case) -> Result<Outcome, Refusal> {
         &mut outcome.words,
     )?;
     outcome.answer.extend(computed.told());
+    Ok(outcome)
+}
+
+/// "Bytes behind the rewritten image are zero."
+fn rewritten(case: &Case, wanted: Version) -> Result<Outcome, Refusal> {
+    let bytes = rewriting::rewritten(&case.image, wanted, case.area.len())?;
+    let mut outcome = Outcome::new(case, vec![0, bytes.len() as u64]);
+    outcome.area[..bytes.len()].copy_from_slice(&bytes);
     Ok(outcome)
 }
 

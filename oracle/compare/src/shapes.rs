@@ -2,14 +2,17 @@
 //! 127 edges, deep stacks, long lists of scopes, many paths at once.
 
 use crate::draw::precedence;
-use crate::graph::{Edge, Graph, JUMP, MOST_FILES, MOST_GRAPH_EDGES, MOST_NODES, Node, ROOT};
+use crate::graph::{
+    Edge, Graph, JUMP, MOST_FILES, MOST_GRAPH_EDGES, MOST_NODES, Node, ROOT, Version,
+};
 use crate::random::Random;
 
-const SYMBOL: u32 = 7;
-const SCOPED: u32 = 9;
+const SYMBOL: u64 = 7;
+const SCOPED: u64 = 9;
 
 fn start(files: usize) -> Graph {
     Graph {
+        version: Version::Narrow,
         files,
         nodes: vec![Node::Root, Node::Jump],
         edges: vec![],
@@ -215,6 +218,21 @@ fn doubles(random: &mut Random, graph: &mut Graph, source: u32, target: u32) {
     }
 }
 
+/// References and definitions of several symbols about one scope: each reference
+/// meets every definition, and its own symbol once.
+pub fn namesakes(random: &mut Random) -> Graph {
+    let mut graph = start(1);
+    let between = add(&mut graph, scope(0, true));
+    let (file, flag) = (0, true);
+    for symbol in SYMBOL..SYMBOL + random.within(2, 4) as u64 {
+        let reference = add(&mut graph, Node::Push { file, symbol, flag });
+        let definition = add(&mut graph, Node::Pop { file, symbol, flag });
+        join(&mut graph, reference, between, precedence(random));
+        join(&mut graph, between, definition, precedence(random));
+    }
+    graph
+}
+
 /// As many files, nodes and edges as an image may have, in rows of three nodes;
 /// the last edges are doubles, or removed.
 pub fn largest(random: &mut Random) -> Graph {
@@ -233,6 +251,35 @@ pub fn largest(random: &mut Random) -> Graph {
     while graph.edges.len() < MOST_GRAPH_EDGES {
         let double = *random.one_of(&graph.edges);
         graph.edges.push(double.filter(|_| random.percent(90)));
+    }
+    graph
+}
+
+/// An image of about so many bytes, which is some about the bound of a version.
+/// Nearly all of its nodes are push-scoped, and removed ones fill it up.
+pub fn brim(random: &mut Random, version: Version) -> Graph {
+    let mut graph = start(1);
+    graph.version = version;
+    let attached = add(&mut graph, scope(0, true));
+    for _ in 0..MOST_GRAPH_EDGES {
+        join(&mut graph, attached, attached, precedence(random));
+    }
+    let size = Version::Wide.longest() - 8 + random.below(17);
+    // In version 2: the image so far, records of a push-scoped and of a removed node.
+    let (record, removed) = (15, 2);
+    let mut length = Graph {
+        version: Version::Wide,
+        ..graph.clone()
+    }
+    .image()
+    .len();
+    while length + record <= size {
+        graph.nodes.push(push_scoped(attached));
+        length += record;
+    }
+    while length + removed <= size {
+        graph.nodes.push(Node::Removed);
+        length += removed;
     }
     graph
 }

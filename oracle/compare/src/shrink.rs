@@ -14,6 +14,9 @@ use crate::path::MOST_EDGES;
 /// Enough for every case drawn here; large words could go on for long.
 const MOST_TRIALS: usize = 20_000;
 
+/// A trial of an image counts one more for each time that it has so many bytes.
+const TRIAL_BYTES: usize = 2_048;
+
 type Cases<'a> = Box<dyn Iterator<Item = Case> + 'a>;
 
 /// The smallest case that is reached by dropping one thing after another.
@@ -21,14 +24,17 @@ pub fn shrink(case: &Case) -> Case {
     let mut smallest = case.clone();
     let mut trials = 0;
     loop {
-        let found = smaller(&smallest).find(|smaller| {
-            trials += 1;
+        let is_left = |_: &Case| {
+            trials += 1 + smallest.image.len() / TRIAL_BYTES;
+            trials < MOST_TRIALS
+        };
+        let found = smaller(&smallest).take_while(is_left).find(|smaller| {
             let is_new = *smaller != smallest;
             is_new && compare(smaller).is_some_and(|compared| compared.differs())
         });
         match found {
-            Some(found) if trials < MOST_TRIALS => smallest = found,
-            _ => return smallest,
+            Some(found) => smallest = found,
+            None => return smallest,
         }
     }
 }
@@ -243,10 +249,14 @@ fn shorter_areas(case: &Case) -> Cases<'_> {
             result: case.result[..length].to_vec(),
             ..case.clone()
         });
+    let areas = lengths(case.area.len(), 1).into_iter().map(|length| Case {
+        area: case.area[..length].to_vec(),
+        ..case.clone()
+    });
     let zero = zeroed(case, |case| &mut case.work)
         .into_iter()
         .chain(zeroed(case, |case| &mut case.result));
-    Box::new(works.chain(results).chain(zero))
+    Box::new(works.chain(results).chain(areas).chain(zero))
 }
 
 /// Fewer limits and lower ones, shorter edge lists, a whole answer.

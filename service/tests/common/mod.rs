@@ -13,30 +13,58 @@ pub type Edge = (u16, u16, i32);
 /// Nodes of file 0: references, which push, definitions, which pop, a scoped push
 /// that is no reference, scopes.
 pub fn reference(symbol: u32) -> Record {
-    with_symbol(4, symbol, &[1])
+    with_symbol(4, &symbol.to_be_bytes(), &[1])
 }
 
 pub fn definition(symbol: u32) -> Record {
-    with_symbol(5, symbol, &[1])
+    with_symbol(5, &symbol.to_be_bytes(), &[1])
 }
 
 pub fn scoped_reference(symbol: u32, scope: u8) -> Record {
-    with_symbol(6, symbol, &[0, scope, 1])
+    with_symbol(6, &symbol.to_be_bytes(), &[0, scope, 1])
 }
 
 pub fn scoped_push(symbol: u32, scope: u8) -> Record {
-    with_symbol(6, symbol, &[0, scope, 0])
+    with_symbol(6, &symbol.to_be_bytes(), &[0, scope, 0])
 }
 
 pub fn scoped_definition(symbol: u32) -> Record {
-    with_symbol(7, symbol, &[1])
+    with_symbol(7, &symbol.to_be_bytes(), &[1])
 }
 
-fn with_symbol(kind: u8, symbol: u32, rest: &[u8]) -> Record {
-    let mut record = vec![kind, 0, 0];
-    record.extend(symbol.to_be_bytes());
-    record.extend(rest);
-    record
+fn with_symbol(kind: u8, symbol: &[u8], rest: &[u8]) -> Record {
+    [&[kind, 0, 0], symbol, rest].concat()
+}
+
+/// The same nodes with symbols of 64 bits, and images of version 2 (document 02,
+/// order 3).
+pub mod wide {
+    use super::{live, versioned, with_symbol, Edge, Record};
+
+    pub fn reference(symbol: u64) -> Record {
+        with_symbol(4, &symbol.to_be_bytes(), &[1])
+    }
+
+    pub fn definition(symbol: u64) -> Record {
+        with_symbol(5, &symbol.to_be_bytes(), &[1])
+    }
+
+    pub fn scoped_reference(symbol: u64, scope: u8) -> Record {
+        with_symbol(6, &symbol.to_be_bytes(), &[0, scope, 1])
+    }
+
+    pub fn scoped_push(symbol: u64, scope: u8) -> Record {
+        with_symbol(6, &symbol.to_be_bytes(), &[0, scope, 0])
+    }
+
+    pub fn scoped_definition(symbol: u64) -> Record {
+        with_symbol(7, &symbol.to_be_bytes(), &[1])
+    }
+
+    pub fn image(nodes: &[Record], edges: &[Edge]) -> Vec<u8> {
+        let edges: Vec<Record> = edges.iter().map(live).collect();
+        versioned(2, 1, nodes, &edges)
+    }
 }
 
 pub fn scope(exported: bool) -> Record {
@@ -51,23 +79,35 @@ pub fn image(nodes: &[Record], edges: &[Edge]) -> Vec<u8> {
 
 /// The same with so many files, of which the nodes use file 0.
 pub fn image_of(files: u16, nodes: &[Record], edges: &[Edge]) -> Vec<u8> {
-    let mut records = vec![vec![1], vec![2]];
-    records.extend_from_slice(nodes);
+    let edges: Vec<Record> = edges.iter().map(live).collect();
+    versioned(1, files, nodes, &edges)
+}
+
+/// A live edge's record without its count byte.
+pub fn live(&(source, target, precedence): &Edge) -> Record {
+    let mut record = vec![1];
+    record.extend(source.to_be_bytes());
+    record.extend(target.to_be_bytes());
+    record.extend(precedence.to_be_bytes());
+    record
+}
+
+/// An image of a version, from the records of its nodes and edges.
+pub fn versioned(version: u8, files: u16, nodes: &[Record], edges: &[Record]) -> Vec<u8> {
+    let root_and_jump = [vec![1], vec![2]];
     let mut body = files.to_be_bytes().to_vec();
-    body.extend((records.len() as u16).to_be_bytes());
+    body.extend((2 + nodes.len() as u16).to_be_bytes());
     body.extend((edges.len() as u16).to_be_bytes());
-    records.extend(edges.iter().map(|&(source, target, precedence)| {
-        let mut record = vec![1];
-        record.extend(source.to_be_bytes());
-        record.extend(target.to_be_bytes());
-        record.extend(precedence.to_be_bytes());
-        record
-    }));
-    for record in records {
+    for record in root_and_jump.iter().chain(nodes).chain(edges) {
         body.push(record.len() as u8);
         body.extend(record);
     }
-    let mut bytes = vec![1];
+    with_head(version, &body)
+}
+
+/// The version and the length before what follows them.
+pub fn with_head(version: u8, body: &[u8]) -> Vec<u8> {
+    let mut bytes = vec![version];
     bytes.extend((body.len() as u32).to_be_bytes());
     bytes.extend(body);
     bytes
@@ -160,5 +200,22 @@ pub fn refusal(number: u64, values: &[u64]) -> Refusal {
     Refusal {
         number,
         values: [at(0), at(1)],
+    }
+}
+
+/// Numbers that look drawn: each the high part of a product.
+pub struct Drawn(pub u64);
+
+impl Drawn {
+    pub fn below(&mut self, limit: u64) -> u64 {
+        self.0 = self
+            .0
+            .wrapping_mul(6_364_136_223_846_793_005)
+            .wrapping_add(1_442_695_040_888_963_407);
+        (self.0 >> 33) % limit
+    }
+
+    pub fn one_of<T: Copy>(&mut self, items: &[T]) -> T {
+        items[self.below(items.len() as u64) as usize]
     }
 }

@@ -6,10 +6,10 @@ use Rattle.cases.proofs.main.Statement.{statement}
 use Rattle.cases.proofs.main.Tie as tie
 
 slice-aggregate-replay-all : tie.Need-slice-aggregate-replay-all
-slice-aggregate-replay-all c = sym (length-replicate {A = ℕ} 600000 0)
+slice-aggregate-replay-all c = sym (length-replicate {A = ℕ} 1300000 0)
 
 slice-aggregate-replay-all-2 : tie.Need-slice-aggregate-replay-all-2
-slice-aggregate-replay-all-2 c = sym (length-replicate {A = ℕ} 65536 0)
+slice-aggregate-replay-all-2 c = sym (length-replicate {A = ℕ} 65537 0)
 
 slice-aggregate-replay-all-3 : tie.Need-slice-aggregate-replay-all-3
 slice-aggregate-replay-all-3 c = sym (length-replicate {A = ℕ} 536841 0)

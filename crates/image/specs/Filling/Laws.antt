@@ -11,7 +11,8 @@ use Rattle.semantics.specs.declared.graph.Node.{Node}
 use Rattle.semantics.specs.declared.graph.Node.the-variants as N
 use Rattle.semantics.specs.declared.graph.Edge.{Edge}
 use Rattle.semantics.specs.declared.graph.Edge.the-variants as E
-use Rattle.image.specs.Index.{BLOCK, KIND, FLAG, FILE, SYMBOL, SCOPE, FIRST, SOURCE, TARGET, PRECEDENCE, Blocks, cell, nodeOf, edgeOf, nodeRow, edgeRow, firstRow, Fresh, put, putNode, putEdge}
+use Rattle.image.specs.Index.{BLOCK, KIND, FLAG, FILE, SYMBOL, SYMBOL-HIGH, SCOPE, FIRST, SOURCE, TARGET, PRECEDENCE, Blocks, cell, nodeOf, edgeOf, nodeRow, edgeRow, firstRow, Fresh, put, putNode, putEdge}
+use Rattle.semantics.specs.Halves.{joined}
 use Rattle.image.specs.Index.Laws.{cell-same, cell-other}
 use Rattle.image.specs.Filling.{upto, Filled}
 
@@ -50,7 +51,7 @@ module _ (l : List ℕ) (f : Fresh l) where
   }
 
 -- ONE NODE MORE
-module _ (l : List ℕ) (long : Blocks l) (n kind flag file symbol scope : ℕ) (h : BLOCK * n < length l) where
+module _ (l : List ℕ) (long : Blocks l) (n kind flag file low high scope : ℕ) (h : BLOCK * n < length l) where
   a1 : List ℕ
   a1 = put KIND n kind l
 
@@ -64,88 +65,97 @@ module _ (l : List ℕ) (long : Blocks l) (n kind flag file symbol scope : ℕ) 
 
   a4 : List ℕ
   unfolding a3
-  a4 = put SYMBOL n symbol a3
+  a4 = put SYMBOL n low a3
 
-  put-long : Blocks (putNode n kind flag file symbol scope l)
+  a5 : List ℕ
+  unfolding a4
+  a5 = put SYMBOL-HIGH n high a4
+
+  put-long : Blocks (putNode n kind flag file low high scope l)
   unfolding putNode
   put-long = simp length-set long
 
-  -- a word that is none of the five: one of another block, or one of the words behind them
-  put-apart : (row m : ℕ) → row < BLOCK → (m ≡ n → ⊥) → cell (putNode n kind flag file symbol scope l) row m ≡ cell l row m
-  unfolding a1 a2 a3 a4 putNode
+  -- a word that is none of the six: one of another block, or one of the words behind them
+  put-apart : (row m : ℕ) → row < BLOCK → (m ≡ n → ⊥) → cell (putNode n kind flag file low high scope l) row m ≡ cell l row m
+  unfolding a1 a2 a3 a4 a5 putNode
   put-apart row m b d =
-      cell-other a4 row m SCOPE n scope (λ x. d (omega arith)) ∙ cell-other a3 row m SYMBOL n symbol (λ x. d (omega arith)) ∙ cell-other a2 row m FILE n file (λ x. d (omega arith))
+      cell-other a5 row m SCOPE n scope (λ x. d (omega arith)) ∙ cell-other a4 row m SYMBOL-HIGH n high (λ x. d (omega arith)) ∙ cell-other a3 row m SYMBOL n low (λ x. d (omega arith)) ∙ cell-other a2 row m FILE n file (λ x. d (omega arith))
       ∙ cell-other a1 row m FLAG n flag (λ x. d (omega arith)) ∙ cell-other l row m KIND n kind (λ x. d (omega arith))
 
-  put-behind : (row m : ℕ) → SCOPE < row → row < BLOCK → cell (putNode n kind flag file symbol scope l) row m ≡ cell l row m
-  unfolding a1 a2 a3 a4 putNode
+  put-behind : (row m : ℕ) → SCOPE < row → row < BLOCK → cell (putNode n kind flag file low high scope l) row m ≡ cell l row m
+  unfolding a1 a2 a3 a4 a5 putNode
   put-behind row m a b =
-      cell-other a4 row m SCOPE n scope (λ x. omega arith) ∙ cell-other a3 row m SYMBOL n symbol (λ x. omega arith) ∙ cell-other a2 row m FILE n file (λ x. omega arith)
+      cell-other a5 row m SCOPE n scope (λ x. omega arith) ∙ cell-other a4 row m SYMBOL-HIGH n high (λ x. omega arith) ∙ cell-other a3 row m SYMBOL n low (λ x. omega arith) ∙ cell-other a2 row m FILE n file (λ x. omega arith)
       ∙ cell-other a1 row m FLAG n flag (λ x. omega arith) ∙ cell-other l row m KIND n kind (λ x. omega arith)
 
-  put-kind : cell (putNode n kind flag file symbol scope l) KIND n ≡ kind
-  unfolding a1 a2 a3 a4 putNode
+  put-kind : cell (putNode n kind flag file low high scope l) KIND n ≡ kind
+  unfolding a1 a2 a3 a4 a5 putNode
   put-kind =
-      cell-other a4 KIND n SCOPE n scope (λ x. omega arith) ∙ cell-other a3 KIND n SYMBOL n symbol (λ x. omega arith) ∙ cell-other a2 KIND n FILE n file (λ x. omega arith)
+      cell-other a5 KIND n SCOPE n scope (λ x. omega arith) ∙ cell-other a4 KIND n SYMBOL-HIGH n high (λ x. omega arith) ∙ cell-other a3 KIND n SYMBOL n low (λ x. omega arith) ∙ cell-other a2 KIND n FILE n file (λ x. omega arith)
       ∙ cell-other a1 KIND n FLAG n flag (λ x. omega arith) ∙ cell-same l KIND n kind (omega arith)
 
-  put-flag : cell (putNode n kind flag file symbol scope l) FLAG n ≡ flag
-  unfolding a1 a2 a3 a4 putNode
+  put-flag : cell (putNode n kind flag file low high scope l) FLAG n ≡ flag
+  unfolding a1 a2 a3 a4 a5 putNode
   put-flag =
-      cell-other a4 FLAG n SCOPE n scope (λ x. omega arith) ∙ cell-other a3 FLAG n SYMBOL n symbol (λ x. omega arith) ∙ cell-other a2 FLAG n FILE n file (λ x. omega arith)
+      cell-other a5 FLAG n SCOPE n scope (λ x. omega arith) ∙ cell-other a4 FLAG n SYMBOL-HIGH n high (λ x. omega arith) ∙ cell-other a3 FLAG n SYMBOL n low (λ x. omega arith) ∙ cell-other a2 FLAG n FILE n file (λ x. omega arith)
       ∙ cell-same a1 FLAG n flag (simp length-set (omega arith))
 
-  put-file : cell (putNode n kind flag file symbol scope l) FILE n ≡ file
-  unfolding a1 a2 a3 a4 putNode
+  put-file : cell (putNode n kind flag file low high scope l) FILE n ≡ file
+  unfolding a1 a2 a3 a4 a5 putNode
   put-file =
-      cell-other a4 FILE n SCOPE n scope (λ x. omega arith) ∙ cell-other a3 FILE n SYMBOL n symbol (λ x. omega arith) ∙ cell-same a2 FILE n file (simp length-set (omega arith))
+      cell-other a5 FILE n SCOPE n scope (λ x. omega arith) ∙ cell-other a4 FILE n SYMBOL-HIGH n high (λ x. omega arith) ∙ cell-other a3 FILE n SYMBOL n low (λ x. omega arith) ∙ cell-same a2 FILE n file (simp length-set (omega arith))
 
-  put-symbol : cell (putNode n kind flag file symbol scope l) SYMBOL n ≡ symbol
-  unfolding a1 a2 a3 a4 putNode
-  put-symbol = cell-other a4 SYMBOL n SCOPE n scope (λ x. omega arith) ∙ cell-same a3 SYMBOL n symbol (simp length-set (omega arith))
+  put-low : cell (putNode n kind flag file low high scope l) SYMBOL n ≡ low
+  unfolding a1 a2 a3 a4 a5 putNode
+  put-low =
+      cell-other a5 SYMBOL n SCOPE n scope (λ x. omega arith) ∙ cell-other a4 SYMBOL n SYMBOL-HIGH n high (λ x. omega arith) ∙ cell-same a3 SYMBOL n low (simp length-set (omega arith))
 
-  put-scope : cell (putNode n kind flag file symbol scope l) SCOPE n ≡ scope
-  unfolding a1 a2 a3 a4 putNode
-  put-scope = cell-same a4 SCOPE n scope (simp length-set (omega arith))
+  put-high : cell (putNode n kind flag file low high scope l) SYMBOL-HIGH n ≡ high
+  unfolding a1 a2 a3 a4 a5 putNode
+  put-high = cell-other a5 SYMBOL-HIGH n SCOPE n scope (λ x. omega arith) ∙ cell-same a4 SYMBOL-HIGH n high (simp length-set (omega arith))
 
-  put-here : nodeRow (putNode n kind flag file symbol scope l) n ≡ nodeOf kind flag file symbol scope
+  put-scope : cell (putNode n kind flag file low high scope l) SCOPE n ≡ scope
+  unfolding a1 a2 a3 a4 a5 putNode
+  put-scope = cell-same a5 SCOPE n scope (simp length-set (omega arith))
+
+  put-here : nodeRow (putNode n kind flag file low high scope l) n ≡ nodeOf kind flag file (joined low high) scope
   unfolding nodeRow
-  put-here = rw (put-kind, put-flag, put-file, put-symbol, put-scope)
+  put-here = rw (put-kind, put-flag, put-file, put-low, put-high, put-scope)
 
-  put-else : (m : ℕ) → (m ≡ n → ⊥) → nodeRow (putNode n kind flag file symbol scope l) m ≡ nodeRow l m
+  put-else : (m : ℕ) → (m ≡ n → ⊥) → nodeRow (putNode n kind flag file low high scope l) m ≡ nodeRow l m
   unfolding nodeRow
   put-else m d =
-      rw (put-apart KIND m (omega arith) d, put-apart FLAG m (omega arith) d, put-apart FILE m (omega arith) d, put-apart SYMBOL m (omega arith) d, put-apart SCOPE m (omega arith) d)
+      rw (put-apart KIND m (omega arith) d, put-apart FLAG m (omega arith) d, put-apart FILE m (omega arith) d, put-apart SYMBOL m (omega arith) d, put-apart SYMBOL-HIGH m (omega arith) d, put-apart SCOPE m (omega arith) d)
 
   -- what is no node stays
-  put-edges : (e : ℕ) → edgeRow (putNode n kind flag file symbol scope l) e ≡ edgeRow l e
+  put-edges : (e : ℕ) → edgeRow (putNode n kind flag file low high scope l) e ≡ edgeRow l e
   unfolding edgeRow
   put-edges e =
       rw (put-behind SOURCE e (omega arith) (omega arith), put-behind TARGET e (omega arith) (omega arith), put-behind PRECEDENCE e (omega arith) (omega arith))
 
-  put-firsts : (m : ℕ) → firstRow (putNode n kind flag file symbol scope l) m ≡ firstRow l m
+  put-firsts : (m : ℕ) → firstRow (putNode n kind flag file low high scope l) m ≡ firstRow l m
   put-firsts m = put-behind FIRST m (omega arith) (omega arith)
 
-  put-kinds : kind < 9 → ((m : ℕ) → cell l KIND m < 9) → (m : ℕ) → cell (putNode n kind flag file symbol scope l) KIND m < 9
+  put-kinds : kind < 9 → ((m : ℕ) → cell l KIND m < 9) → (m : ℕ) → cell (putNode n kind flag file low high scope l) KIND m < 9
   put-kinds k s m = go (ℕ-discrete m n)
     where
-      go : Dec (m ≡ n) → cell (putNode n kind flag file symbol scope l) KIND m < 9
+      go : Dec (m ≡ n) → cell (putNode n kind flag file low high scope l) KIND m < 9
       go (yes e) = rw e (rw put-kind k)
       go (no d) = rw (put-apart KIND m (omega arith) d) (s m)
 
-pub filled-node : (l : List ℕ) (f : ℕ → Node) (E : ℕ → Edge) (n kind flag file symbol scope : ℕ) → BLOCK * n < length l → kind < 9 → nodeOf kind flag file symbol scope ≡ f n
-    → Filled (upto n f N.Removed) E l → Filled (upto (n + 1) f N.Removed) E (putNode n kind flag file symbol scope l)
-filled-node l f E n kind flag file symbol scope h k e d = record {
-  long = put-long l (d .long) n kind flag file symbol scope h;
+pub filled-node : (l : List ℕ) (f : ℕ → Node) (E : ℕ → Edge) (n kind flag file low high scope : ℕ) → BLOCK * n < length l → kind < 9 → nodeOf kind flag file (joined low high) scope ≡ f n
+    → Filled (upto n f N.Removed) E l → Filled (upto (n + 1) f N.Removed) E (putNode n kind flag file low high scope l)
+filled-node l f E n kind flag file low high scope h k e d = record {
+  long = put-long l (d .long) n kind flag file low high scope h;
   node = λ m. go m (ℕ-discrete m n);
-  edge = λ m. put-edges l (d .long) n kind flag file symbol scope h m ∙ d .edge m;
-  kinds = put-kinds l (d .long) n kind flag file symbol scope h k (d .kinds);
-  unlinked = λ m. put-firsts l (d .long) n kind flag file symbol scope h m ∙ d .unlinked m;
+  edge = λ m. put-edges l (d .long) n kind flag file low high scope h m ∙ d .edge m;
+  kinds = put-kinds l (d .long) n kind flag file low high scope h k (d .kinds);
+  unlinked = λ m. put-firsts l (d .long) n kind flag file low high scope h m ∙ d .unlinked m;
 }
   where
-    go : (m : ℕ) → Dec (m ≡ n) → nodeRow (putNode n kind flag file symbol scope l) m ≡ upto (n + 1) f N.Removed m
-    go m (yes q) = rw q (put-here l (d .long) n kind flag file symbol scope h ∙ e ∙ sym (upto-last n f N.Removed))
-    go m (no q) = put-else l (d .long) n kind flag file symbol scope h m q ∙ d .node m ∙ sym (upto-more n f N.Removed m q)
+    go : (m : ℕ) → Dec (m ≡ n) → nodeRow (putNode n kind flag file low high scope l) m ≡ upto (n + 1) f N.Removed m
+    go m (yes q) = rw q (put-here l (d .long) n kind flag file low high scope h ∙ e ∙ sym (upto-last n f N.Removed))
+    go m (no q) = put-else l (d .long) n kind flag file low high scope h m q ∙ d .node m ∙ sym (upto-more n f N.Removed m q)
 
 -- ONE EDGE MORE
 module _ (l : List ℕ) (long : Blocks l) (e source target precedence : ℕ) (h : BLOCK * e < length l) where
@@ -196,7 +206,7 @@ module _ (l : List ℕ) (long : Blocks l) (e source target precedence : ℕ) (h 
   edge-nodes : (m : ℕ) → nodeRow (putEdge e source target precedence l) m ≡ nodeRow l m
   unfolding nodeRow
   edge-nodes m =
-      rw (edge-before KIND m (omega arith), edge-before FLAG m (omega arith), edge-before FILE m (omega arith), edge-before SYMBOL m (omega arith), edge-before SCOPE m (omega arith))
+      rw (edge-before KIND m (omega arith), edge-before FLAG m (omega arith), edge-before FILE m (omega arith), edge-before SYMBOL m (omega arith), edge-before SYMBOL-HIGH m (omega arith), edge-before SCOPE m (omega arith))
 
 pub filled-edge : (l : List ℕ) (F : ℕ → Node) (f : ℕ → Edge) (e source target precedence : ℕ) → BLOCK * e < length l → edgeOf source target precedence ≡ f e
     → Filled F (upto e f E.Removed) l → Filled F (upto (e + 1) f E.Removed) (putEdge e source target precedence l)

@@ -1,15 +1,15 @@
 -- A part of the check goes on or is refused, never both.
 -- Serves document 01, "Turned back".
-use Prim.Native.Nat.{ℕ, _+_, _<_}
+use Prim.Native.Nat.{ℕ, _+_, _<_, _≤_}
 use mathlib.Core.Bool.{Bool, true, false, not, false≢true}
 use mathlib.Core.List.{List}
-use borrow.Author.Tests.{eq-eqb, ne-eqb, ltb-false}
+use borrow.Author.Tests.{lt-ltb, le-ltb, eq-eqb, ne-eqb, ltb-false}
 use lib.Dec.{eqb, ltb}
 use lib.ListN.{length}
 use Rattle.semantics.specs.declared.refusal.ImageRefusal.the-variants as Image
 use Rattle.semantics.specs.Lists.{pick}
 use Rattle.semantics.specs.Bytes.{byteAt, long}
-use Rattle.semantics.specs.Image.{header}
+use Rattle.semantics.specs.Image.{symbolBytes, widthIn, longestImage, mostBytes, header}
 use Rattle.image.specs.Reached.{isSized, countsAnswer}
 use native.Mathlib.Omega.{arith}
 use mathlib.Core.Path.{_≡_, refl, sym, ap, _∙_}
@@ -37,24 +37,42 @@ pick-twice false true c x y = refl
 pick-twice false false true x y = refl
 pick-twice false false false x y = refl
 
-by-parts : (im : List ℕ) → header im ≡ pick (isSized im) (pick (not (eqb (byteAt im 0) 1)) (refuse Image.Version) (countsAnswer im)) (refuse Image.Length)
+-- behind size and length: the version, its size, the counts
+abbrev behind : List ℕ → Answer ImageRefusal ℕ
+behind im = pick (eqb (widthIn im) 0) (refuse Image.Version) (pick (ltb (mostBytes (byteAt im 0)) (length im)) (refuse Image.Length) (countsAnswer im))
+
+by-parts : (im : List ℕ) → header symbolBytes im ≡ pick (isSized im) (behind im) (refuse Image.Length)
 unfolding header isSized countsAnswer
-by-parts im = pick-twice (ltb (length im) 11) (ltb 63499 (length im)) (eqb (long im 1 + 5) (length im)) (refuse Image.Length) _
+by-parts im = pick-twice (ltb (length im) 11) (ltb longestImage (length im)) (eqb (long im 1 + 5) (length im)) (refuse Image.Length) _
 
 module _ (im : List ℕ) where
-  pub bad-size : isSized im ≡ false → refuse Image.Length ≡ header im
-  bad-size h = sym (by-parts im ∙ simp h)
+  pub bad-size : isSized im ≡ false → refuse Image.Length ≡ header symbolBytes im
+  bad-size h = sym (by-parts im ∙ ap (λ (b : Bool). pick b (behind im) (refuse Image.Length)) h)
 
-  pub bad-version : isSized im ≡ true → (byteAt im 0 ≡ 1 → ⊥) → refuse Image.Version ≡ header im
-  bad-version h v = sym (by-parts im ∙ simp (h, ne-eqb (byteAt im 0) 1 v))
+  module _ (sized : isSized im ≡ true) where
+    to-version : header symbolBytes im ≡ behind im
+    to-version = by-parts im ∙ ap (λ (b : Bool). pick b (behind im) (refuse Image.Length)) sized
 
-  pub by-counts : isSized im ≡ true → byteAt im 0 ≡ 1 → countsAnswer im ≡ header im
-  by-counts h v = sym (by-parts im ∙ simp (h, eq-eqb (byteAt im 0) 1 v))
+    abbrev to-size : Answer ImageRefusal ℕ
+    to-size = pick (ltb (mostBytes (byteAt im 0)) (length im)) (refuse Image.Length) (countsAnswer im)
+
+    pub bad-version : widthIn im ≡ 0 → refuse Image.Version ≡ header symbolBytes im
+    bad-version v = sym (to-version ∙ ap (λ (b : Bool). pick b (refuse Image.Version) to-size) (eq-eqb (widthIn im) 0 v))
+
+    module _ (version : widthIn im ≡ 0 → ⊥) where
+      of-version : header symbolBytes im ≡ to-size
+      of-version = to-version ∙ ap (λ (b : Bool). pick b (refuse Image.Version) to-size) (ne-eqb (widthIn im) 0 version)
+
+      pub too-long : mostBytes (byteAt im 0) < length im → refuse Image.Length ≡ header symbolBytes im
+      too-long l = sym (of-version ∙ ap (λ (b : Bool). pick b (refuse Image.Length) (countsAnswer im)) (lt-ltb (mostBytes (byteAt im 0)) (length im) l))
+
+      pub by-counts : length im ≤ mostBytes (byteAt im 0) → countsAnswer im ≡ header symbolBytes im
+      by-counts l = sym (of-version ∙ ap (λ (b : Bool). pick b (refuse Image.Length) (countsAnswer im)) (le-ltb (mostBytes (byteAt im 0)) (length im) l))
 
   pub sized-long : isSized im ≡ true → 10 < length im
   unfolding isSized
   sized-long h = go (ltb (length im) 11) refl h
     where
-      go : (b : Bool) → ltb (length im) 11 ≡ b → pick b false (pick (ltb 63499 (length im)) false (eqb (long im 1 + 5) (length im))) ≡ true → 10 < length im
+      go : (b : Bool) → ltb (length im) 11 ≡ b → pick b false (pick (ltb longestImage (length im)) false (eqb (long im 1 + 5) (length im))) ≡ true → 10 < length im
       go true e q = absurd (false≢true q)
       go false e q = omega (arith, ltb-false (length im) 11 e)

@@ -6,7 +6,8 @@ use native.Mathlib.Numerals.{add-one}
 use native.Mathlib.Decide.{decLt, ℕ-discrete}
 use mathlib.Core.Path.{_≡_, refl, sym, ap, _∙_, subst}
 use mathlib.Core.Bool.{Bool, true, false, not, true≢false}
-use mathlib.Core.List.{List}
+use mathlib.Core.Logic.{inl, inr}
+use mathlib.Core.List.{List, [], _∷_}
 use borrow.Author.Tests.{lt-ltb, le-ltb, le-leb, lt-leb, eq-eqb, ne-eqb, ltb-false, leb-false, eqb-false}
 use lib.Dec.{eqb, leb, ltb}
 use lib.ListN.{length, getD}
@@ -19,34 +20,46 @@ use Rattle.semantics.specs.declared.refusal.ImageRefusal.the-variants as Image
 use Rattle.semantics.specs.Lists.{pick}
 use Rattle.semantics.specs.Answer.{Answer, ok, refuse}
 use Rattle.semantics.specs.Answer.Laws.{ok-inj, refuse-ok}
-use Rattle.semantics.specs.Bytes.{byteAt, short, long}
-use Rattle.semantics.specs.Bytes.Laws.{wide-long}
+use Rattle.semantics.specs.Bytes.{byteAt, short, long, wide}
+use Rattle.semantics.specs.Bytes.Laws.{wide-long, wide-double}
+use Rattle.semantics.specs.Halves.{joined}
 use Rattle.semantics.specs.Graph.{viewOf}
-use Rattle.semantics.specs.Image.{symbolBytes, filesOf, nodesOf, edgesOf, header, isCut, mayStand, bodySize, fieldsFit, nextPlace, nodeRecord, edgeRecord, scan, flagAt, nodeIn, edgeIn, nodesFrom, edgesFrom, placeOf, firstRecord, firstEdge, graphOf}
+use Rattle.semantics.specs.Image.{symbolBytes, widthIn, longestImage, mostBytes, filesOf, nodesOf, edgesOf, header, isCut, mayStand, bodySize, fieldsFit, nextPlace, nodeRecord, edgeRecord, scan, flagAt, nodeIn, edgeIn, nodesFrom, edgesFrom, placeOf, firstRecord, firstEdge, graphOf}
 use Rattle.image.specs.Index.{BLOCK, Fresh, nodeOf, edgeOf, putNode, putEdge}
 use Rattle.image.specs.Filling.{upto, Filled, Held}
 use Rattle.image.specs.Filling.Laws.{filled-node, filled-edge, filled-as, cleared}
-use Rattle.image.specs.Records.{Headed, Fielded, nodeHere, edgeHere, nodeAt, edgeAt, NodePut, EdgePut, NodesPut, EdgesPut, Run, symbolIn, scopeIn}
+use Rattle.image.specs.Records.{Headed, Fielded, nodeHere, edgeHere, nodeAt, edgeAt, NodePut, EdgePut, NodesPut, EdgesPut, Run, KnownWidth, Named, hasSymbol, highIn, scopeIn, graphRead}
 
 -- THE HEADER
 pick-no : {A : Type 0} (b : Bool) (r : ImageRefusal) (y : Answer ImageRefusal A) (a : A) → pick b (refuse r) y ≡ ok a → (b ≡ false) × (y ≡ ok a)
 pick-no true r y a e = absurd (refuse-ok r a e)
 pick-no false r y a e = (refl, e)
 
-pub headed : (im : List ℕ) (x : ℕ) → header im ≡ ok x → Headed im × (x ≡ 11)
+-- a version that is read
+known-width : (v : ℕ) → eqb (symbolBytes v) 0 ≡ false → KnownWidth (symbolBytes v)
+known-width v e = go (eqb v 1) (eqb v 2) e
+  where
+    go : (a b : Bool) → eqb (pick a 4 (pick b 8 0)) 0 ≡ false → KnownWidth (pick a 4 (pick b 8 0))
+    go true b q = inl refl
+    go false true q = inr refl
+    go false false q = absurd (true≢false q)
+
+pub headed : (im : List ℕ) (x : ℕ) → header symbolBytes im ≡ ok x → Headed im × (x ≡ 11)
 unfolding header
 headed im x e =
     let a = pick-no (ltb (length im) 11) Image.Length _ x e in
-    let b = pick-no (ltb 63499 (length im)) Image.Length _ x (a .1) in
+    let b = pick-no (ltb longestImage (length im)) Image.Length _ x (a .1) in
     let c = pick-no (not (eqb (long im 1 + 5) (length im))) Image.Length _ x (b .1) in
-    let d = pick-no (not (eqb (byteAt im 0) 1)) Image.Version _ x (c .1) in
-    let f = pick-no (ltb 256 (filesOf im)) Image.Counts _ x (d .1) in
+    let d = pick-no (eqb (widthIn im) 0) Image.Version _ x (c .1) in
+    let l = pick-no (ltb (mostBytes (byteAt im 0)) (length im)) Image.Length _ x (d .1) in
+    let f = pick-no (ltb 256 (filesOf im)) Image.Counts _ x (l .1) in
     let n = pick-no (ltb (nodesOf im) 2) Image.Counts _ x (f .1) in
     let m = pick-no (ltb 2048 (nodesOf im)) Image.Counts _ x (n .1) in
     let k = pick-no (ltb 4096 (edgesOf im)) Image.Counts _ x (m .1) in (
       record {
         head = omega (arith, ltb-false (length im) 11 (a .0));
-        small = omega (arith, ltb-false 63499 (length im) (b .0));
+        small = omega (arith, ltb-false longestImage (length im) (b .0));
+        width = known-width (byteAt im 0) (d .0);
         files = ltb-false 256 (filesOf im) (f .0);
         some = ltb-false (nodesOf im) 2 (n .0);
         nodes = ltb-false 2048 (nodesOf im) (m .0);
@@ -56,34 +69,34 @@ headed im x e =
     )
 
 -- A NODE RECORD, by the values that were read
-module _ (im : List ℕ) (files n at : ℕ) {kind : ℕ} (isKind : byteAt im (at + 1) ≡ kind) where
-  pub node-cut : isCut im at ≡ true → refuse Image.Length ≡ nodeRecord symbolBytes im files n at
+module _ (w : ℕ) (im : List ℕ) (files n at : ℕ) {kind : ℕ} (isKind : byteAt im (at + 1) ≡ kind) where
+  pub node-cut : isCut im at ≡ true → refuse Image.Length ≡ nodeRecord w im files n at
   unfolding nodeRecord
   node-cut c = simp c
 
   module _ (whole : isCut im at ≡ false) where
-    pub no-kind : 8 < kind → refuse (Image.Record at) ≡ nodeRecord symbolBytes im files n at
+    pub no-kind : 8 < kind → refuse (Image.Record at) ≡ nodeRecord w im files n at
     unfolding nodeRecord
     no-kind h = simp (whole, isKind, lt-ltb 8 kind h)
 
     module _ (known : kind ≤ 8) where
-      pub misplaced : mayStand kind n ≡ false → refuse (Image.Record at) ≡ nodeRecord symbolBytes im files n at
+      pub misplaced : mayStand kind n ≡ false → refuse (Image.Record at) ≡ nodeRecord w im files n at
       unfolding nodeRecord
       misplaced m = simp (whole, isKind, le-ltb 8 kind known, m)
 
       module _ (stands : mayStand kind n ≡ true) where
-        pub miscounted : (byteAt im at ≡ bodySize symbolBytes kind → ⊥) → refuse Image.Length ≡ nodeRecord symbolBytes im files n at
+        pub miscounted : (byteAt im at ≡ bodySize w kind → ⊥) → refuse Image.Length ≡ nodeRecord w im files n at
         unfolding nodeRecord
-        miscounted c = simp (whole, isKind, le-ltb 8 kind known, stands, ne-eqb (byteAt im at) (bodySize symbolBytes kind) c)
+        miscounted c = simp (whole, isKind, le-ltb 8 kind known, stands, ne-eqb (byteAt im at) (bodySize w kind) c)
 
-        module _ (sized : byteAt im at ≡ bodySize symbolBytes kind) where
-          pub bare : kind < 3 → ok (nextPlace im at) ≡ nodeRecord symbolBytes im files n at
+        module _ (sized : byteAt im at ≡ bodySize w kind) where
+          pub bare : kind < 3 → ok (nextPlace im at) ≡ nodeRecord w im files n at
           unfolding nodeRecord
-          bare b = simp (whole, isKind, le-ltb 8 kind known, stands, eq-eqb (byteAt im at) (bodySize symbolBytes kind) sized, lt-ltb kind 3 b)
+          bare b = simp (whole, isKind, le-ltb 8 kind known, stands, eq-eqb (byteAt im at) (bodySize w kind) sized, lt-ltb kind 3 b)
 
-          pub by-fields : 3 ≤ kind → pick (fieldsFit im files kind at (byteAt im at)) (ok (nextPlace im at)) (refuse (Image.Record at)) ≡ nodeRecord symbolBytes im files n at
+          pub by-fields : 3 ≤ kind → pick (fieldsFit im files kind at (byteAt im at)) (ok (nextPlace im at)) (refuse (Image.Record at)) ≡ nodeRecord w im files n at
           unfolding nodeRecord
-          by-fields b = simp (whole, isKind, le-ltb 8 kind known, stands, eq-eqb (byteAt im at) (bodySize symbolBytes kind) sized, le-ltb kind 3 b)
+          by-fields b = simp (whole, isKind, le-ltb 8 kind known, stands, eq-eqb (byteAt im at) (bodySize w kind) sized, le-ltb kind 3 b)
 
 -- a record that is not cut reaches its last byte
 pub whole : (im : List ℕ) (at : ℕ) → isCut im at ≡ false → (0 < byteAt im at) × (at + byteAt im at < length im)
@@ -100,35 +113,79 @@ whole im at e = go (leb (length im) at) (eqb (byteAt im at) 0) refl e
         some (suc k) h = omega arith
 
 -- THE SIZES
-pub size-least : (kind : ℕ) → 3 ≤ kind → kind ≤ 8 → 3 ≤ bodySize symbolBytes kind
+pub size-least : (w kind : ℕ) → 3 ≤ kind → kind ≤ 8 → 3 ≤ bodySize w kind
 unfolding bodySize
-size-least zero h b = absurd (omega (arith, h))
-size-least (suc zero) h b = absurd (omega (arith, h))
-size-least (suc (suc zero)) h b = absurd (omega (arith, h))
-size-least (suc (suc (suc zero))) h b = omega arith
-size-least (suc (suc (suc (suc zero)))) h b = omega arith
-size-least (suc (suc (suc (suc (suc zero))))) h b = omega arith
-size-least (suc (suc (suc (suc (suc (suc zero)))))) h b = omega arith
-size-least (suc (suc (suc (suc (suc (suc (suc zero))))))) h b = omega arith
-size-least (suc (suc (suc (suc (suc (suc (suc (suc zero)))))))) h b = omega arith
-size-least (suc (suc (suc (suc (suc (suc (suc (suc (suc k))))))))) h b = absurd (omega (arith, b))
+size-least w zero h b = absurd (omega (arith, h))
+size-least w (suc zero) h b = absurd (omega (arith, h))
+size-least w (suc (suc zero)) h b = absurd (omega (arith, h))
+size-least w (suc (suc (suc zero))) h b = omega arith
+size-least w (suc (suc (suc (suc zero)))) h b = omega arith
+size-least w (suc (suc (suc (suc (suc zero))))) h b = omega arith
+size-least w (suc (suc (suc (suc (suc (suc zero)))))) h b = omega arith
+size-least w (suc (suc (suc (suc (suc (suc (suc zero))))))) h b = omega arith
+size-least w (suc (suc (suc (suc (suc (suc (suc (suc zero)))))))) h b = omega arith
+size-least w (suc (suc (suc (suc (suc (suc (suc (suc (suc k))))))))) h b = absurd (omega (arith, b))
+
+-- the bytes of a symbol, and those of one that has not four
+pub width-few : {w : ℕ} → KnownWidth w → w ≤ 8
+width-few (inl e) = omega arith
+width-few (inr e) = omega arith
+
+pub wide-symbol : {w : ℕ} → KnownWidth w → (w ≡ 4 → ⊥) → w ≡ 8
+wide-symbol (inl e) h = absurd (h e)
+wide-symbol (inr e) h = e
+
+-- by kind: with a symbol and without
+pub size-named : (w kind : ℕ) → kind < 9 → hasSymbol kind ≡ true → (kind ≡ 6 → ⊥) → 4 + w ≡ bodySize w kind
+unfolding bodySize
+size-named w zero b h d = absurd (true≢false (sym h))
+size-named w (suc zero) b h d = absurd (true≢false (sym h))
+size-named w (suc (suc zero)) b h d = absurd (true≢false (sym h))
+size-named w (suc (suc (suc zero))) b h d = absurd (true≢false (sym h))
+size-named w (suc (suc (suc (suc zero)))) b h d = refl
+size-named w (suc (suc (suc (suc (suc zero))))) b h d = refl
+size-named w (suc (suc (suc (suc (suc (suc zero)))))) b h d = absurd (d refl)
+size-named w (suc (suc (suc (suc (suc (suc (suc zero))))))) b h d = refl
+size-named w (suc (suc (suc (suc (suc (suc (suc (suc zero)))))))) b h d = absurd (true≢false (sym h))
+size-named w (suc (suc (suc (suc (suc (suc (suc (suc (suc k))))))))) b h d = absurd (omega (arith, b))
+
+pub size-bare : (w kind : ℕ) → kind < 9 → hasSymbol kind ≡ false → (kind ≡ 3 → ⊥) → (kind ≡ 8 → ⊥) → 1 ≡ bodySize w kind
+unfolding bodySize
+size-bare w zero b h d e = refl
+size-bare w (suc zero) b h d e = refl
+size-bare w (suc (suc zero)) b h d e = refl
+size-bare w (suc (suc (suc zero))) b h d e = absurd (d refl)
+size-bare w (suc (suc (suc (suc zero)))) b h d e = absurd (true≢false h)
+size-bare w (suc (suc (suc (suc (suc zero))))) b h d e = absurd (true≢false h)
+size-bare w (suc (suc (suc (suc (suc (suc zero)))))) b h d e = absurd (true≢false h)
+size-bare w (suc (suc (suc (suc (suc (suc (suc zero))))))) b h d e = absurd (true≢false h)
+size-bare w (suc (suc (suc (suc (suc (suc (suc (suc zero)))))))) b h d e = absurd (e refl)
+size-bare w (suc (suc (suc (suc (suc (suc (suc (suc (suc k))))))))) b h d e = absurd (omega (arith, b))
+
+pub size-plain : (w : ℕ) {kind : ℕ} → kind ≡ 3 → bodySize w kind ≡ 4
+unfolding bodySize
+size-plain w e = rw e
+
+pub size-drop : (w : ℕ) {kind : ℕ} → kind ≡ 8 → bodySize w kind ≡ 3
+unfolding bodySize
+size-drop w e = rw e
 
 -- the kinds with a symbol
-pub size-symbol : (kind : ℕ) → 3 ≤ kind → kind < 8 → (kind ≡ 3 → ⊥) → 8 ≤ bodySize symbolBytes kind
+pub size-symbol : (w kind : ℕ) → 3 ≤ kind → kind < 8 → (kind ≡ 3 → ⊥) → 4 + w ≤ bodySize w kind
 unfolding bodySize
-size-symbol zero h b d = absurd (omega (arith, h))
-size-symbol (suc zero) h b d = absurd (omega (arith, h))
-size-symbol (suc (suc zero)) h b d = absurd (omega (arith, h))
-size-symbol (suc (suc (suc zero))) h b d = absurd (d refl)
-size-symbol (suc (suc (suc (suc zero)))) h b d = omega arith
-size-symbol (suc (suc (suc (suc (suc zero))))) h b d = omega arith
-size-symbol (suc (suc (suc (suc (suc (suc zero)))))) h b d = omega arith
-size-symbol (suc (suc (suc (suc (suc (suc (suc zero))))))) h b d = omega arith
-size-symbol (suc (suc (suc (suc (suc (suc (suc (suc k)))))))) h b d = absurd (omega (arith, b))
+size-symbol w zero h b d = absurd (omega (arith, h))
+size-symbol w (suc zero) h b d = absurd (omega (arith, h))
+size-symbol w (suc (suc zero)) h b d = absurd (omega (arith, h))
+size-symbol w (suc (suc (suc zero))) h b d = absurd (d refl)
+size-symbol w (suc (suc (suc (suc zero)))) h b d = omega arith
+size-symbol w (suc (suc (suc (suc (suc zero))))) h b d = omega arith
+size-symbol w (suc (suc (suc (suc (suc (suc zero)))))) h b d = omega arith
+size-symbol w (suc (suc (suc (suc (suc (suc (suc zero))))))) h b d = omega arith
+size-symbol w (suc (suc (suc (suc (suc (suc (suc (suc k)))))))) h b d = absurd (omega (arith, b))
 
-pub size-scope : {kind : ℕ} → kind ≡ 6 → bodySize symbolBytes kind ≡ 10
+pub size-scope : (w : ℕ) {kind : ℕ} → kind ≡ 6 → bodySize w kind ≡ 6 + w
 unfolding bodySize
-size-scope e = rw e
+size-scope w e = rw e
 
 -- THE FIELDS of the kinds 3 to 8
 module _ (im : List ℕ) (files at kind count : ℕ) {file : ℕ} (next : ℕ) (isFile : file ≡ short im (at + 2)) where
@@ -154,10 +211,10 @@ module _ (im : List ℕ) (files at kind count : ℕ) {file : ℕ} (next : ℕ) (
       flag-fits h = simp (lt-leb files (short im (at + 2)) (omega arith), ne-eqb kind 8 flagged, lt-ltb (byteAt im (at + count)) 2 (omega arith))
 
 -- PUT INTO THE INDEX
-pub node-put : (n kind flag file symbol scope : ℕ) {x : Node} (before : List ℕ) {after : List ℕ} → BLOCK * n < length before → kind < 9 → nodeOf kind flag file symbol scope ≡ x
-    → after ≡ putNode n kind flag file symbol scope before → NodePut n x before after
-node-put n kind flag file symbol scope before h k e q f D g d =
-    subst (Filled (upto (n + 1) f N.Removed) D) (sym q) (filled-node before f D n kind flag file symbol scope h k (e ∙ g) d)
+pub node-put : (n kind flag file low high scope : ℕ) {x : Node} (before : List ℕ) {after : List ℕ} → BLOCK * n < length before → kind < 9
+    → nodeOf kind flag file (joined low high) scope ≡ x → after ≡ putNode n kind flag file low high scope before → NodePut n x before after
+node-put n kind flag file low high scope before h k e q f D g d =
+    subst (Filled (upto (n + 1) f N.Removed) D) (sym q) (filled-node before f D n kind flag file low high scope h k (e ∙ g) d)
 
 pub edge-put : (e source target precedence : ℕ) {x : Edge} (before : List ℕ) {after : List ℕ} → BLOCK * e < length before → edgeOf source target precedence ≡ x
     → after ≡ putEdge e source target precedence before → EdgePut e x before after
@@ -165,59 +222,79 @@ edge-put e source target precedence before h k q F f g d =
     subst (Filled F (upto (e + 1) f E.Removed)) (sym q) (filled-edge before F f e source target precedence h (k ∙ g) d)
 
 -- ITS WORDS
-pub bare-words : (im : List ℕ) (at kind : ℕ) → kind < 3 → nodeOf kind 0 0 0 0 ≡ nodeIn symbolBytes im at kind
+pub bare-words : (w : ℕ) (im : List ℕ) (at kind : ℕ) → kind < 3 → nodeOf kind 0 0 0 0 ≡ nodeIn w im at kind
 unfolding nodeOf nodeIn
-bare-words im at zero h = refl
-bare-words im at (suc zero) h = refl
-bare-words im at (suc (suc zero)) h = refl
-bare-words im at (suc (suc (suc k))) h = absurd (omega (arith, h))
+bare-words w im at zero h = refl
+bare-words w im at (suc zero) h = refl
+bare-words w im at (suc (suc zero)) h = refl
+bare-words w im at (suc (suc (suc k))) h = absurd (omega (arith, h))
 
-pub drop-words : (im : List ℕ) (at : ℕ) → nodeOf 8 0 (short im (at + 2)) 0 0 ≡ nodeIn symbolBytes im at 8
+pub drop-words : (w : ℕ) (im : List ℕ) (at : ℕ) → nodeOf 8 0 (short im (at + 2)) 0 0 ≡ nodeIn w im at 8
 unfolding nodeOf nodeIn
-drop-words im at = refl
+drop-words w im at = refl
 
-eight : (at : ℕ) → at + 4 + 4 ≡ at + 8
-eight at = omega arith
+-- the last byte of a record with a symbol, as the kinds 4, 5 and 7 and as kind 6 have it
+four : (at w : ℕ) → at + 4 + w ≡ at + (4 + w)
+four at w = omega arith
 
-ten : (at : ℕ) → at + 6 + 4 ≡ at + 10
-ten at = omega arith
+six : (at w : ℕ) → at + 6 + w ≡ at + (6 + w)
+six at w = omega arith
 
-pub full-words : (im : List ℕ) (at kind : ℕ) → 3 ≤ kind → kind < 8
-    → nodeOf kind (byteAt im (at + bodySize symbolBytes kind)) (short im (at + 2)) (symbolIn im at kind) (scopeIn im at kind) ≡ nodeIn symbolBytes im at kind
+-- a symbol of four or of eight bytes, by its two words
+symbol-words : {w : ℕ} → KnownWidth w → (im : List ℕ) (at : ℕ) → wide w im (at + 4) ≡ joined (long im (at + w)) (pick (eqb w 4) 0 (long im (at + 4)))
+symbol-words {w} (inl e) im at = let z : long im (at + 4) ≡ joined (long im (at + 4)) 0 = omega arith in rw e (wide-long im (at + 4) ∙ z)
+symbol-words {w} (inr e) im at = let z : at + 4 + 4 ≡ at + 8 = omega arith in rw (e, wide-double im (at + 4), z)
+
+pub scope-words : (w : ℕ) (im : List ℕ) (at : ℕ) → nodeOf 3 (byteAt im (at + bodySize w 3)) (short im (at + 2)) 0 0 ≡ nodeIn w im at 3
 unfolding nodeOf nodeIn bodySize flagAt
-full-words im at zero h b = absurd (omega (arith, h))
-full-words im at (suc zero) h b = absurd (omega (arith, h))
-full-words im at (suc (suc zero)) h b = absurd (omega (arith, h))
-full-words im at (suc (suc (suc zero))) h b = refl
-full-words im at (suc (suc (suc (suc zero)))) h b = rw (wide-long im (at + 4), eight at)
-full-words im at (suc (suc (suc (suc (suc zero))))) h b = rw (wide-long im (at + 4), eight at)
-full-words im at (suc (suc (suc (suc (suc (suc zero)))))) h b = rw (wide-long im (at + 4), eight at, ten at)
-full-words im at (suc (suc (suc (suc (suc (suc (suc zero))))))) h b = rw (wide-long im (at + 4), eight at)
-full-words im at (suc (suc (suc (suc (suc (suc (suc (suc k)))))))) h b = absurd (omega (arith, b))
+scope-words w im at = refl
+
+pub full-words : (w : ℕ) → KnownWidth w → (im : List ℕ) (at kind : ℕ) → 4 ≤ kind → kind < 8
+    → nodeOf kind (byteAt im (at + bodySize w kind)) (short im (at + 2)) (joined (long im (at + w)) (highIn w im at)) (scopeIn w im at kind) ≡ nodeIn w im at kind
+unfolding nodeOf nodeIn bodySize flagAt
+full-words w k im at zero h b = absurd (omega (arith, h))
+full-words w k im at (suc zero) h b = absurd (omega (arith, h))
+full-words w k im at (suc (suc zero)) h b = absurd (omega (arith, h))
+full-words w k im at (suc (suc (suc zero))) h b = absurd (omega (arith, h))
+full-words w k im at (suc (suc (suc (suc zero)))) h b = rw (symbol-words k im at, four at w)
+full-words w k im at (suc (suc (suc (suc (suc zero))))) h b = rw (symbol-words k im at, four at w)
+full-words w k im at (suc (suc (suc (suc (suc (suc zero)))))) h b = rw (symbol-words k im at, six at w)
+full-words w k im at (suc (suc (suc (suc (suc (suc (suc zero))))))) h b = rw (symbol-words k im at, four at w)
+full-words w k im at (suc (suc (suc (suc (suc (suc (suc (suc k′)))))))) h b = absurd (omega (arith, b))
 
 -- the words of a record that was read are put into the index
-pub bare-put : (im : List ℕ) (n at : ℕ) {kind : ℕ} (before : List ℕ) {after : List ℕ} → BLOCK * n < length before → byteAt im (at + 1) ≡ kind → kind < 3
-    → after ≡ putNode n kind 0 0 0 0 before → NodePut n (nodeHere im at) before after
-bare-put im n at {kind} before {after} h r b q = node-put n kind 0 0 0 0 {x = nodeHere im at} before h (omega arith) (rw r (bare-words im at kind b)) q
+pub bare-put : (w : ℕ) (im : List ℕ) (n at : ℕ) {kind : ℕ} (before : List ℕ) {after : List ℕ} → BLOCK * n < length before → byteAt im (at + 1) ≡ kind → kind < 3
+    → after ≡ putNode n kind 0 0 0 0 0 before → NodePut n (nodeHere w im at) before after
+bare-put w im n at {kind} before {after} h r b q = node-put n kind 0 0 0 0 0 {x = nodeHere w im at} before h (omega arith) (rw r (bare-words w im at kind b)) q
 
-pub drop-put : {im : List ℕ} (n : ℕ) {at kind file : ℕ} (before : List ℕ) {after : List ℕ} → BLOCK * n < length before → Fielded im at kind → kind ≡ 8 → file ≡ short im (at + 2)
-    → after ≡ putNode n kind 0 file 0 0 before → NodePut n (nodeHere im at) before after
-drop-put {im} n {at} {kind} {file} before {after} h k e f q =
-    node-put n kind 0 file 0 0 {x = nodeHere im at} before h (omega arith) (rw (k .reads, e, f) (drop-words im at)) q
+pub drop-put : {w : ℕ} {im : List ℕ} (n : ℕ) {at kind file : ℕ} (before : List ℕ) {after : List ℕ} → BLOCK * n < length before → Fielded w im at kind → kind ≡ 8 → file ≡ short im (at + 2)
+    → after ≡ putNode n kind 0 file 0 0 0 before → NodePut n (nodeHere w im at) before after
+drop-put {w} {im} n {at} {kind} {file} before {after} h k e f q =
+    node-put n kind 0 file 0 0 0 {x = nodeHere w im at} before h (omega arith) (rw (k .reads, e, f) (drop-words w im at)) q
 
-pub full-put : {im : List ℕ} (n : ℕ) {at kind flag file symbol scope : ℕ} (before : List ℕ) {after : List ℕ} → BLOCK * n < length before → Fielded im at kind → (kind ≡ 8 → ⊥)
-    → flag ≡ byteAt im (at + byteAt im at) → file ≡ short im (at + 2) → symbol ≡ symbolIn im at kind → scope ≡ scopeIn im at kind
-    → after ≡ putNode n kind flag file symbol scope before → NodePut n (nodeHere im at) before after
-full-put {im} n {at} {kind} {flag} {file} {symbol} {scope} before {after} h k d e f g i q =
-    node-put n kind flag file symbol scope {x = nodeHere im at} before h (omega (arith, k .high))
-    (rw (k .reads, e, f, g, i, k .size) (full-words im at kind (k .low) (less kind (k .high) d))) q
+pub scope-put : {w : ℕ} {im : List ℕ} (n : ℕ) {at kind flag file : ℕ} (before : List ℕ) {after : List ℕ} → BLOCK * n < length before → Fielded w im at kind → kind ≡ 3
+    → flag ≡ byteAt im (at + byteAt im at) → file ≡ short im (at + 2) → after ≡ putNode n kind flag file 0 0 0 before → NodePut n (nodeHere w im at) before after
+scope-put {w} {im} n {at} {kind} {flag} {file} before {after} h k e d f q =
+    node-put n kind flag file 0 0 0 {x = nodeHere w im at} before h (omega (arith, k .high)) (rw (k .reads, d, f, k .size, e) (scope-words w im at)) q
+
+-- a record with fields but for a scope and drop-scopes has a symbol
+less-than : (x m : ℕ) → x ≤ m → (x ≡ m → ⊥) → x < m
+less-than x m b c = go (ℕ-discrete x m)
   where
-    less : (x : ℕ) → x ≤ 8 → (x ≡ 8 → ⊥) → x < 8
-    less x b c = go (ℕ-discrete x 8)
-      where
-        go : Dec (x ≡ 8) → x < 8
-        go (yes y) = absurd (c y)
-        go (no y) = omega arith
+    go : Dec (x ≡ m) → x < m
+    go (yes y) = absurd (c y)
+    go (no y) = omega arith
+
+pub named : {w : ℕ} {im : List ℕ} {at kind : ℕ} → Fielded w im at kind → (kind ≡ 8 → ⊥) → (kind ≡ 3 → ⊥) → Named w im at
+named {w} {im} {at} {kind} k d s =
+    record { known = k .known; whole = omega (arith, k .whole, size-symbol w kind (k .low) (less-than kind 8 (k .high) d) s); small = k .small }
+
+pub full-put : {w : ℕ} {im : List ℕ} (n : ℕ) {at kind flag file low high scope : ℕ} (before : List ℕ) {after : List ℕ} → BLOCK * n < length before → Fielded w im at kind → (kind ≡ 8 → ⊥) → (kind ≡ 3 → ⊥)
+    → flag ≡ byteAt im (at + byteAt im at) → file ≡ short im (at + 2) → low ≡ long im (at + w) → high ≡ highIn w im at → scope ≡ scopeIn w im at kind
+    → after ≡ putNode n kind flag file low high scope before → NodePut n (nodeHere w im at) before after
+full-put {w} {im} n {at} {kind} {flag} {file} {low} {high} {scope} before {after} h k d s e f g j i q =
+    node-put n kind flag file low high scope {x = nodeHere w im at} before h (omega (arith, k .high))
+    (rw (k .reads, e, f, g, j, i, k .size) (full-words w (k .known) im at kind (less-than 3 kind (k .low) (λ z. s (sym z))) (less-than kind 8 (k .high) d))) q
 
 -- AN EDGE RECORD
 module _ (im : List ℕ) (at : ℕ) {kind : ℕ} (isKind : byteAt im (at + 1) ≡ kind) where
@@ -287,13 +364,13 @@ place-suc im at (suc k) = place-suc im (nextPlace im at) k
 pub place-next : (im : List ℕ) (at k : ℕ) → placeOf im at (k + 1) ≡ nextPlace im (placeOf im at k)
 place-next im at k = rw add-one (place-suc im at k)
 
-pub nodes-at : (im : List ℕ) (at k j : ℕ) → getD (nodesFrom symbolBytes im at k) j N.Removed ≡ upto k (nodeAt im at) N.Removed j
+pub nodes-at : (w : ℕ) (im : List ℕ) (at k j : ℕ) → getD (nodesFrom w im at k) j N.Removed ≡ upto k (nodeAt w im at) N.Removed j
 unfolding nodesFrom placeOf
-nodes-at im at zero j = rw (le-ltb j 0 (omega arith))
-nodes-at im at (suc k) zero = rw (lt-ltb 0 (suc k) (omega arith))
-nodes-at im at (suc k) (suc j) = nodes-at im (nextPlace im at) k j ∙ go (decLt j k)
+nodes-at w im at zero j = rw (le-ltb j 0 (omega arith))
+nodes-at w im at (suc k) zero = rw (lt-ltb 0 (suc k) (omega arith))
+nodes-at w im at (suc k) (suc j) = nodes-at w im (nextPlace im at) k j ∙ go (decLt j k)
   where
-    go : Dec (j < k) → upto k (nodeAt im (nextPlace im at)) N.Removed j ≡ upto (suc k) (nodeAt im at) N.Removed (suc j)
+    go : Dec (j < k) → upto k (nodeAt w im (nextPlace im at)) N.Removed j ≡ upto (suc k) (nodeAt w im at) N.Removed (suc j)
     go (yes p) = rw (lt-ltb j k p, lt-ltb (suc j) (suc k) (omega arith))
     go (no p) = rw (le-ltb j k (omega arith), le-ltb (suc j) (suc k) (omega arith))
 
@@ -307,10 +384,10 @@ edges-at im at (suc k) (suc j) = edges-at im (nextPlace im at) k j ∙ go (decLt
     go (yes p) = rw (lt-ltb j k p, lt-ltb (suc j) (suc k) (omega arith))
     go (no p) = rw (le-ltb j k (omega arith), le-ltb (suc j) (suc k) (omega arith))
 
-pub length-nodes : (im : List ℕ) (at k : ℕ) → length (nodesFrom symbolBytes im at k) ≡ k
+pub length-nodes : (w : ℕ) (im : List ℕ) (at k : ℕ) → length (nodesFrom w im at k) ≡ k
 unfolding nodesFrom
-length-nodes im at zero = refl
-length-nodes im at (suc k) = ap suc (length-nodes im (nextPlace im at) k)
+length-nodes w im at zero = refl
+length-nodes w im at (suc k) = ap suc (length-nodes w im (nextPlace im at) k)
 
 pub length-edges : (im : List ℕ) (at k : ℕ) → length (edgesFrom im at k) ≡ k
 unfolding edgesFrom
@@ -318,13 +395,13 @@ length-edges im at zero = refl
 length-edges im at (suc k) = ap suc (length-edges im (nextPlace im at) k)
 
 -- an accepted record ends where the next one starts
-pub node-place : (im : List ℕ) (files n at x : ℕ) → nodeRecord symbolBytes im files n at ≡ ok x → x ≡ nextPlace im at
+pub node-place : (w : ℕ) (im : List ℕ) (files n at x : ℕ) → nodeRecord w im files n at ≡ ok x → x ≡ nextPlace im at
 unfolding nodeRecord
-node-place im files n at x e =
+node-place w im files n at x e =
     let a = pick-no (isCut im at) Image.Length _ x e in
     let b = pick-no (ltb 8 (byteAt im (at + 1))) (Image.Record at) _ x (a .1) in
     let c = pick-no (not (mayStand (byteAt im (at + 1)) n)) (Image.Record at) _ x (b .1) in
-    let d = pick-no (not (eqb (byteAt im at) (bodySize symbolBytes (byteAt im (at + 1))))) Image.Length _ x (c .1) in
+    let d = pick-no (not (eqb (byteAt im at) (bodySize w (byteAt im (at + 1))))) Image.Length _ x (c .1) in
     go (ltb (byteAt im (at + 1)) 3) (fieldsFit im files (byteAt im (at + 1)) at (byteAt im at)) (d .1)
   where
     go : (a b : Bool) → pick a (ok (nextPlace im at)) (pick b (ok (nextPlace im at)) (refuse (Image.Record at))) ≡ ok x → x ≡ nextPlace im at
@@ -365,11 +442,11 @@ module _ (im : List ℕ) (test : ℕ → ℕ → Answer ImageRefusal ℕ) (from 
 none-below : {A : Type 0} (f : ℕ → A) (d : A) (j : ℕ) → d ≡ upto 0 f d j
 none-below f d j = rw (le-ltb j 0 (omega arith))
 
-pub no-nodes-put : (im l : List ℕ) → NodesPut im 0 l l
-no-nodes-put im l D k = filled-as l (none-below (nodeAt im firstRecord) N.Removed) (λ e. refl) k
+pub no-nodes-put : (w : ℕ) (im l : List ℕ) → NodesPut w im 0 l l
+no-nodes-put w im l D k = filled-as l (none-below (nodeAt w im firstRecord) N.Removed) (λ e. refl) k
 
-pub nodes-put-more : (im : List ℕ) (n : ℕ) {at : ℕ} (l before after : List ℕ) → at ≡ placeOf im firstRecord n → NodesPut im n l before → NodePut n (nodeHere im at) before after → NodesPut im (n + 1) l after
-nodes-put-more im n l before after p k s D f = s (nodeAt im firstRecord) D (ap (nodeHere im) p) (k D f)
+pub nodes-put-more : (w : ℕ) (im : List ℕ) (n : ℕ) {at : ℕ} (l before after : List ℕ) → at ≡ placeOf im firstRecord n → NodesPut w im n l before → NodePut n (nodeHere w im at) before after → NodesPut w im (n + 1) l after
+nodes-put-more w im n l before after p k s D f = s (nodeAt w im firstRecord) D (ap (nodeHere w im) p) (k D f)
 
 pub no-edges-put : (im : List ℕ) (from : ℕ) (l : List ℕ) → EdgesPut im from 0 l l
 no-edges-put im from l F k = filled-as l (λ n. refl) (none-below (edgeAt im from) E.Removed) k
@@ -378,14 +455,15 @@ pub edges-put-more : (im : List ℕ) (from e : ℕ) {at : ℕ} (l before after :
 edges-put-more im from e l before after p k s F f = s F (edgeAt im from) (ap (edgeHere im) p) (k F f)
 
 -- all records of the image are in the index
-pub all-put : (im : List ℕ) {l : List ℕ} → Filled (upto (nodesOf im) (nodeAt im firstRecord) N.Removed) (upto (edgesOf im) (edgeAt im (firstEdge im)) E.Removed) l → Held (graphOf symbolBytes im) l
+pub all-put : (im : List ℕ) {l : List ℕ} → Filled (upto (nodesOf im) (nodeAt (widthIn im) im firstRecord) N.Removed) (upto (edgesOf im) (edgeAt im (firstEdge im)) E.Removed) l → Held (graphRead im) l
 unfolding viewOf graphOf
-all-put im {l} k = filled-as l (λ n. sym (nodes-at im firstRecord (nodesOf im) n)) (λ e. sym (edges-at im (firstEdge im) (edgesOf im) e)) k
+all-put im {l} k = filled-as l (λ n. sym (nodes-at (widthIn im) im firstRecord (nodesOf im) n)) (λ e. sym (edges-at im (firstEdge im) (edgesOf im) e)) k
 
-pub records-put : (im : List ℕ) {count from m : ℕ} {l : List ℕ} (before after : List ℕ) → count ≡ nodesOf im → from ≡ placeOf im firstRecord count → m ≡ edgesOf im
-    → Fresh l → NodesPut im count l before → EdgesPut im from m before after → Held (graphOf symbolBytes im) after
-records-put im {from} {m} {l} before after c f e h n d =
+pub records-put : (im : List ℕ) {w count from m : ℕ} {l : List ℕ} (before after : List ℕ) → w ≡ widthIn im → count ≡ nodesOf im → from ≡ placeOf im firstRecord count → m ≡ edgesOf im
+    → Fresh l → NodesPut w im count l before → EdgesPut im from m before after → Held (graphRead im) after
+records-put im {count = count} {from = from} {m = m} {l = l} before after v c f e h n′ d =
+    let n : NodesPut (widthIn im) im count l before = subst (λ (k : ℕ). NodesPut k im count l before) v n′ in
     let p : from ≡ firstEdge im = f ∙ ap (placeOf im firstRecord) c in
-    all-put im (subst (λ (k : ℕ). Filled (upto (nodesOf im) (nodeAt im firstRecord) N.Removed) (upto k (edgeAt im (firstEdge im)) E.Removed) after) e
-    (subst (λ (k : ℕ). Filled (upto (nodesOf im) (nodeAt im firstRecord) N.Removed) (upto m (edgeAt im k) E.Removed) after) p
-    (subst (λ (k : ℕ). Filled (upto k (nodeAt im firstRecord) N.Removed) (upto m (edgeAt im from) E.Removed) after) c (d _ (n _ (cleared l h))))))
+    all-put im (subst (λ (k : ℕ). Filled (upto (nodesOf im) (nodeAt (widthIn im) im firstRecord) N.Removed) (upto k (edgeAt im (firstEdge im)) E.Removed) after) e
+    (subst (λ (k : ℕ). Filled (upto (nodesOf im) (nodeAt (widthIn im) im firstRecord) N.Removed) (upto m (edgeAt im k) E.Removed) after) p
+    (subst (λ (k : ℕ). Filled (upto k (nodeAt (widthIn im) im firstRecord) N.Removed) (upto m (edgeAt im from) E.Removed) after) c (d _ (n _ (cleared l h))))))

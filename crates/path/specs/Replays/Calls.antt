@@ -39,8 +39,8 @@ use Rattle.path.specs.Replays.{valueOf, replayValue, Answers, judgedAs}
 use Rattle.path.specs.Replays.Laws.{nodes-are, edges-are, value-loaded}
 
 -- an accepted graph has its jump at node 1
-pub accepted-jump : (w : ℕ) (im : List ℕ) (g : Graph) → checkImage w im ≡ ok g → JumpAt (viewOf g)
-accepted-jump w im g h = let a = image-accepted w im g h in record { there = jump-there g a; only = jump-only g a }
+pub accepted-jump : (widths : ℕ → ℕ) (im : List ℕ) (g : Graph) → checkImage widths im ≡ ok g → JumpAt (viewOf g)
+accepted-jump widths im g h = let a = image-accepted widths im g h in record { there = jump-there g a; only = jump-only g a }
 
 -- REPLAY: what is told, what is read, and the value whole
 abbrev Given : Answer ImageRefusal Graph → ℕ → List ℕ → R.ReplayOutcome → Type 0

@@ -12,6 +12,8 @@ use Rattle.semantics.specs.Written.{written}
 use Rattle.semantics.specs.ReplayedPaths.{stepAt, scopesFrom, scopesOf, attachedOf, symbolsFrom, symbolsOf, passagesTo, readPath}
 use Rattle.semantics.specs.Lists.{consIf}
 use Rattle.semantics.specs.Words.{zeros}
+use Rattle.semantics.specs.Halves.{wordRoom, joined, lowWord, highWord}
+use Rattle.semantics.specs.Halves.Laws.{low-joined, high-joined}
 use Rattle.semantics.specs.Calls.{Passage, edge, jump, noPath}
 use Rattle.semantics.specs.declared.replayed.Step.{Step}
 use Rattle.semantics.specs.declared.replayed.Path.{Path}
@@ -89,15 +91,22 @@ module _ (f : ℕ → Step) where
       (λ i. symbolWord (f (sym y i) .symbol) (attachedOf f (f (sym y i) .attached)) ++ symbolWords (symbolsFrom f (sym x i) (g2 i)))
 
   -- a symbol without scopes, and one with scopes
-  pub symbol-plain : {x y : ℕ} (c : ℕ) → x ≡ y → c < 1 → 1 ∷ x ∷ [] ≡ symbolWord y (attachedOf f c)
-  unfolding symbolWord
-  symbol-plain zero e h = ap (λ (z : ℕ). 1 ∷ z ∷ []) e
-  symbol-plain (suc c) e h = absurd (omega arith)
+  module _ (low high : ℕ) {y : ℕ} (fits : low < wordRoom) (is : joined low high ≡ y) where
+    high-word : high ≡ highWord y
+    high-word = sym (high-joined low high fits) ∙ ap highWord is
 
-  pub symbol-scoped : {x y : ℕ} (c : ℕ) → x ≡ y → 0 < c → (2 ∷ x ∷ []) ++ closed (scopeWords (scopesFrom f c c)) ≡ symbolWord y (attachedOf f c)
-  unfolding symbolWord
-  symbol-scoped zero e h = absurd (not-suc-le-zero h)
-  symbol-scoped (suc c) e h = ap (λ (z : ℕ). 2 ∷ z ∷ closed (scopeWords (scopesFrom f (suc c) (suc c)))) e
+    low-word : low ≡ lowWord y
+    low-word = sym (low-joined low high fits) ∙ ap lowWord is
+
+    pub symbol-plain : (c : ℕ) → c < 1 → 1 ∷ high ∷ low ∷ [] ≡ symbolWord y (attachedOf f c)
+    unfolding symbolWord
+    symbol-plain zero h = (λ i. 1 ∷ high-word i ∷ low-word i ∷ [])
+    symbol-plain (suc c) h = absurd (omega arith)
+
+    pub symbol-scoped : (c : ℕ) → 0 < c → (2 ∷ high ∷ low ∷ []) ++ closed (scopeWords (scopesFrom f c c)) ≡ symbolWord y (attachedOf f c)
+    unfolding symbolWord
+    symbol-scoped zero h = absurd (not-suc-le-zero h)
+    symbol-scoped (suc c) h = (λ i. 2 ∷ high-word i ∷ low-word i ∷ closed (scopeWords (scopesFrom f (suc c) (suc c))))
 
 -- THE STEPS
 steps-append : (ps qs : List Passage) → stepWords (ps ++ qs) ≡ stepWords ps ++ stepWords qs
@@ -161,6 +170,6 @@ none-written n = written-zeros n 4
 
 -- a path as an example: edge 3, a jump to scope 5, then edge 4; symbol 7 with the scopes 5 and 6 above symbol 8 without; scope 6
 example : pathWords (record { end = 9; steps = edge 3 ∷ jump 5 ∷ edge 4 ∷ []; symbols = record { symbol = 7; scopes = some (5 ∷ 6 ∷ []) } ∷ record { symbol = 8; scopes = none } ∷ []; scopes = 6 ∷ [] })
-    ≡ 9 ∷ 1 ∷ 3 ∷ 2 ∷ 5 ∷ 1 ∷ 4 ∷ 0 ∷ 2 ∷ 7 ∷ 1 ∷ 5 ∷ 1 ∷ 6 ∷ 0 ∷ 1 ∷ 8 ∷ 0 ∷ 1 ∷ 6 ∷ 0 ∷ []
+    ≡ 9 ∷ 1 ∷ 3 ∷ 2 ∷ 5 ∷ 1 ∷ 4 ∷ 0 ∷ 2 ∷ 0 ∷ 7 ∷ 1 ∷ 5 ∷ 1 ∷ 6 ∷ 0 ∷ 1 ∷ 0 ∷ 8 ∷ 0 ∷ 1 ∷ 6 ∷ 0 ∷ []
 unfolding pathWords
 example = refl

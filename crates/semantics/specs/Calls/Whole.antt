@@ -41,7 +41,7 @@ pub record Finished (o : Outcome Resolution) : Type 0 where
   pub uncounted : stats .countLimited ≡ false
   pub uncut : stats .completeLimited ≡ false
 
-module _ (w : ℕ) (bd : Bounds) where
+module _ (w : ℕ → ℕ) (bd : Bounds) where
   abbrev pub directRecorded : List ℕ → Request → Outcome Resolution
   directRecorded im q = directCall bd recorded (checkImage w im) q
 

@@ -4,7 +4,7 @@ use Prim.Native.Nat.{ℕ, _+_, _*_}
 use mathlib.Core.Path.{refl}
 use mathlib.Core.Bool.{true, false}
 use mathlib.Core.Option.{none, some}
-use mathlib.Core.List.{List, [], _∷_, _++_}
+use mathlib.Core.List.{List, [], _∷_, _++_, map}
 use lib.ListN.{replicate}
 use Rattle.semantics.specs.declared.search.Limit.{Limit}
 use Rattle.semantics.specs.declared.search.Limit.the-variants.{Absent, AtMost}
@@ -22,7 +22,8 @@ use Rattle.semantics.specs.Calls.{edge, jump, noPath, checkCall, replayC
 use Rattle.semantics.specs.Finding.{findCall}
 use Rattle.semantics.specs.Asked.{orderAsked, limitsAsked, lengthAsked, expansionsAsked}
 use Rattle.semantics.specs.Written.{written}
-use Rattle.semantics.specs.PathWords.{pathWords}
+use Rattle.semantics.specs.Path.{Symbol}
+use Rattle.semantics.specs.PathWords.{symbolWords, pathWords}
 use Rattle.semantics.specs.ReplayedPaths.{scopesFrom, symbolsFrom, passagesTo, readPath}
 use Rattle.semantics.specs.Entries.{checkOf, replayOf, completeOf, shadowsOf, lookupOf, freshDatabase, directAsked, linearAsked, stitchedAsked, nameAsked, replaceAsked}
 use Rattle.semantics.specs.Cases.Rows.{Row, _gives_, Agreed}
@@ -60,7 +61,7 @@ pub asking-cases : Agreed asking
 unfolding asking
 asking-cases = refl
 
--- A path by value of two edges: step 0 pushed 7; step 1, of edge 5, pushed 8 with scope 9 attached; edge 6 led to jump, and the path went on at 11
+-- A path by value of two edges: step 0 pushed 7; step 1, of edge 5, pushed 3 * 2^32 + 8 with scope 9 attached; edge 6 led to jump, and the path went on at 11
 abbrev walked : Path
 walked =
     record {
@@ -69,12 +70,15 @@ walked =
       count = 2;
       edges = 5 ∷ 6 ∷ replicate maxEdges 0;
       jumps = false ∷ true ∷ replicate maxEdges false;
-      steps = 0 ∷ 2 ∷ 1 ∷ 0 ∷ 7 ∷ 0 ∷ 0 ∷ 0 ∷ 5 ∷ 3 ∷ 2 ∷ 0 ∷ 8 ∷ 2 ∷ 1 ∷ 9 ∷ 6 ∷ 11 ∷ 2 ∷ 2 ∷ 0 ∷ 0 ∷ 0 ∷ 0 ∷ [];
+      steps = 0 ∷ 2 ∷ 1 ∷ 0 ∷ 7 ∷ 0 ∷ 0 ∷ 0 ∷ 0 ∷ 5 ∷ 3 ∷ 2 ∷ 0 ∷ 8 ∷ 3 ∷ 2 ∷ 1 ∷ 9 ∷ 6 ∷ 11 ∷ 2 ∷ 2 ∷ 0 ∷ 0 ∷ 0 ∷ 0 ∷ 0 ∷ [];
     }
+
+abbrev plainSymbol : ℕ → Symbol
+plainSymbol x = record { symbol = x; scopes = none }
 
 -- THE WORDS THAT ARE WRITTEN
 pub writing : List (Row (List ℕ))
-unfolding written pathWords readPath
+unfolding written pathWords symbolWords
 writing =
     -- as many as fit, and zeros behind
     (written 0 (7 ∷ []) gives [])
@@ -83,11 +87,13 @@ writing =
     ∷ (written 5 (7 ∷ 8 ∷ 9 ∷ []) gives 7 ∷ 8 ∷ 9 ∷ 0 ∷ 0 ∷ [])
     -- a part: where it begins and how long it is
     ∷ (toldPart (record { from = 7; upTo = 9 }) gives 7 ∷ 2 ∷ [])
-    -- a path: its end; 1 and an edge, 2 and a scope that was jumped to; 1 and a symbol, 2 and one with its scopes; 1 and a scope; a 0 behind each list
-    ∷ (pathWords (record { end = 9; steps = edge 3 ∷ jump 4 ∷ []; symbols = record { symbol = 7; scopes = none } ∷ record { symbol = 8; scopes = some (5 ∷ 6 ∷ []) } ∷ []; scopes = 2 ∷ [] }) gives 9 ∷ 1 ∷ 3 ∷ 2 ∷ 4 ∷ 0 ∷ 1 ∷ 7 ∷ 2 ∷ 8 ∷ 1 ∷ 5 ∷ 1 ∷ 6 ∷ 0 ∷ 0 ∷ 1 ∷ 2 ∷ 0 ∷ [])
+    -- a path: its end; 1 and an edge, 2 and a scope that was jumped to; 1 and a symbol in two words, 2 and one with its scopes; 1 and a scope; a 0 behind each list
+    ∷ (pathWords (record { end = 9; steps = edge 3 ∷ jump 4 ∷ []; symbols = record { symbol = 7; scopes = none } ∷ record { symbol = 12884901896; scopes = some (5 ∷ 6 ∷ []) } ∷ []; scopes = 2 ∷ [] }) gives 9 ∷ 1 ∷ 3 ∷ 2 ∷ 4 ∷ 0 ∷ 1 ∷ 0 ∷ 7 ∷ 2 ∷ 3 ∷ 8 ∷ 1 ∷ 5 ∷ 1 ∷ 6 ∷ 0 ∷ 0 ∷ 1 ∷ 2 ∷ 0 ∷ [])
+    -- the symbols 2^32 - 1, 2^32 and 2^64 - 1
+    ∷ (symbolWords (map plainSymbol (4294967295 ∷ 4294967296 ∷ 18446744073709551615 ∷ [])) gives 1 ∷ 0 ∷ 4294967295 ∷ 1 ∷ 1 ∷ 0 ∷ 1 ∷ 4294967295 ∷ 4294967295 ∷ [])
     ∷ (pathWords noPath gives 0 ∷ 0 ∷ 0 ∷ 0 ∷ [])
     -- a path by value, as it is read
-    ∷ (pathWords (readPath walked) gives 11 ∷ 1 ∷ 5 ∷ 1 ∷ 6 ∷ 2 ∷ 11 ∷ 0 ∷ 2 ∷ 8 ∷ 1 ∷ 9 ∷ 0 ∷ 1 ∷ 7 ∷ 0 ∷ 1 ∷ 9 ∷ 0 ∷ [])
+    ∷ (pathWords (readPath walked) gives 11 ∷ 1 ∷ 5 ∷ 1 ∷ 6 ∷ 2 ∷ 11 ∷ 0 ∷ 2 ∷ 3 ∷ 8 ∷ 1 ∷ 9 ∷ 0 ∷ 1 ∷ 0 ∷ 7 ∷ 0 ∷ 1 ∷ 9 ∷ 0 ∷ [])
     ∷ []
 
 pub writing-cases : Agreed writing

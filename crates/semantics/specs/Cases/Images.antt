@@ -107,7 +107,7 @@ decoded =
     -- big-endian fields of 16 and 32 bits, flags, a pop-scoped definition, precedences 2^31 - 1, -2^31, -1 and -2^31 + 1 (negsuc n is -(n + 1))
     ∷ (checkImage symbolBytes everyKind gives ok everyKindOf)
     -- the definitions are for every width of a symbol
-    ∷ (checkImage 2 shortSymbols gives ok shortSymbolsOf)
+    ∷ (checkImage (λ v. 2) shortSymbols gives ok shortSymbolsOf)
     ∷ []
 
 pub decoded-cases : Agreed decoded
@@ -132,12 +132,10 @@ checks =
     ∷ (length imageA ∷ [] gives 77 ∷ [])
     -- the builder of the other tables makes A's bytes
     ∷ (imageOf 1 (reference 0 7 ∷ exported 0 ∷ definition 0 7 ∷ definition 0 8 ∷ []) (2 ⟶ 3 ∷ 3 ⟶ 4 ∷ edgeOf 3 5 1 ∷ []) gives imageA)
-    -- SIZE: no bytes; 10 of a wrong version are too few, 11 are not; 63,499 of a wrong version are not too many, 63,500 are
+    -- SIZE: no bytes; 10 of a wrong version are too few, 11 are not. Cases/Versions has the sizes that are too great
     ∷ (checking [] gives 2 ∷ [])
-    ∷ (checking (2 ∷ 0 ∷ 0 ∷ 0 ∷ 5 ∷ 0 ∷ 0 ∷ 0 ∷ 2 ∷ 0 ∷ []) gives 2 ∷ [])
-    ∷ (checking (2 ∷ 0 ∷ 0 ∷ 0 ∷ 6 ∷ 0 ∷ 0 ∷ 0 ∷ 2 ∷ 0 ∷ 0 ∷ []) gives 1 ∷ [])
-    ∷ (checking (2 ∷ 0 ∷ 0 ∷ 248 ∷ 6 ∷ zeros 63494) gives 1 ∷ [])
-    ∷ (checking (2 ∷ 0 ∷ 0 ∷ 248 ∷ 7 ∷ zeros 63495) gives 2 ∷ [])
+    ∷ (checking (3 ∷ 0 ∷ 0 ∷ 0 ∷ 5 ∷ 0 ∷ 0 ∷ 0 ∷ 2 ∷ 0 ∷ []) gives 2 ∷ [])
+    ∷ (checking (3 ∷ 0 ∷ 0 ∷ 0 ∷ 6 ∷ 0 ∷ 0 ∷ 0 ∷ 2 ∷ 0 ∷ 0 ∷ []) gives 1 ∷ [])
     -- LENGTH: one less, one more, and each higher byte of the four
     ∷ (checking (put 4 71 imageA) gives 2 ∷ [])
     ∷ (checking (put 4 73 imageA) gives 2 ∷ [])
@@ -145,8 +143,8 @@ checks =
     ∷ (checking (put 2 1 imageA) gives 2 ∷ [])
     ∷ (checking (put 1 1 imageA) gives 2 ∷ [])
     -- length before version, version before counts, counts before records
-    ∷ (checking (put 0 2 (put 4 71 imageA)) gives 2 ∷ [])
-    ∷ (checking (put 0 2 (put 5 2 imageA)) gives 1 ∷ [])
+    ∷ (checking (put 0 3 (put 4 71 imageA)) gives 2 ∷ [])
+    ∷ (checking (put 0 3 (put 5 2 imageA)) gives 1 ∷ [])
     ∷ (checking (put 0 0 imageA) gives 1 ∷ [])
     ∷ (checking (put 5 2 (put 12 3 imageA)) gives 3 ∷ [])
     -- COUNTS: F 0, 255 and 256 are accepted, 257 is not

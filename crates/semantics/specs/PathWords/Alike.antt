@@ -6,6 +6,8 @@ use mathlib.Core.Option.{Option, none, some}
 use mathlib.Core.List.{List, [], _∷_, _++_, append-assoc}
 use lib.Seq.{append-snoc}
 use Rattle.semantics.specs.Path.{Symbol}
+use Rattle.semantics.specs.Halves.{lowWord, highWord}
+use Rattle.semantics.specs.Halves.Laws.{halves-alike}
 use Rattle.semantics.specs.Calls.{Passage, edge, jump, ReplayedPath}
 use Rattle.semantics.specs.PathWords.{stepWords, scopeWords, symbolWord, symbolWords, pathWords}
 
@@ -55,13 +57,16 @@ steps-alike (jump s ∷ ps) (jump t ∷ qs) l m e =
 
 symbol-alike : (x y : ℕ) (o p : Option (List ℕ)) (l m : List ℕ) → symbolWord x o ++ l ≡ symbolWord y p ++ m → (x ≡ y) × (o ≡ p) × (l ≡ m)
 unfolding symbolWord
-symbol-alike x y none none l m e = let i = item-alike 1 1 x y l m e in (i .1, refl, i .2)
+symbol-alike x y none none l m e =
+    let i = item-alike 1 1 (highWord x) (highWord y) _ _ e in
+    (halves-alike x y (i .1) (head-alike (lowWord x) (lowWord y) l m (i .2)), refl, tail-alike (lowWord x) (lowWord y) l m (i .2))
 symbol-alike x y none (some ts) l m e = absurd (apart 1 2 _ _ (λ (z : 1 ≡ 2). omega arith) e)
 symbol-alike x y (some ss) none l m e = absurd (apart 2 1 _ _ (λ (z : 2 ≡ 1). omega arith) e)
 symbol-alike x y (some ss) (some ts) l m e =
-    let i = item-alike 2 2 x y _ _ e in
-    let r = scopes-alike ss ts l m (sym (append-snoc (scopeWords ss) 0 l) ∙ i .2 ∙ append-snoc (scopeWords ts) 0 m) in
-    (i .1, ap some (r .0), r .1)
+    let i = item-alike 2 2 (highWord x) (highWord y) _ _ e in
+    let s = tail-alike (lowWord x) (lowWord y) _ _ (i .2) in
+    let r = scopes-alike ss ts l m (sym (append-snoc (scopeWords ss) 0 l) ∙ s ∙ append-snoc (scopeWords ts) 0 m) in
+    (halves-alike x y (i .1) (head-alike (lowWord x) (lowWord y) _ _ (i .2)), ap some (r .0), r .1)
 
 -- a symbol is not the end of a list
 symbol-some : (x : ℕ) (o : Option (List ℕ)) (l m : List ℕ) → symbolWord x o ++ l ≡ 0 ∷ m → ⊥

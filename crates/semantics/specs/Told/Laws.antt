@@ -40,7 +40,9 @@ use Rattle.semantics.specs.declared.answer.Finding.{Finding}
 use Rattle.semantics.specs.declared.answer.Finding.the-variants as Finding
 use Rattle.semantics.specs.Lists.{or, pick}
 use Rattle.semantics.specs.Graph.{nodeId, edgeId, fileId}
-use Rattle.semantics.specs.Told.{toldFlag, toldImage, toldPath, toldReplayRefusal, toldSearch, toldLinear, toldPartial, toldDatabase, toldStats, toldPartialStats, toldChecked, toldReplayed, toldJudgement, toldResolution, toldLinearResolution, toldCreation, toldReplacement, toldFinding}
+use Rattle.semantics.specs.Told.{toldFlag, toldImage, toldPath, toldReplayRefusal, toldSearch, toldLinear, toldPartial, toldDatabase, toldStats, toldPartialStats, toldChecked, toldReplayed, toldJudgement, toldResolution, toldLinearResolution, toldCreation, toldReplacement, toldFinding, toldRewriting}
+use Rattle.semantics.specs.declared.answer.Rewriting.{Rewriting}
+use Rattle.semantics.specs.declared.answer.Rewriting.the-variants as Rewriting
 
 -- what can be read back is told without loss
 told-alike : {A : Type 0} (told : A → List ℕ) (read : List ℕ → A) → ((a : A) → read (told a) ≡ a) → (a b : A) → told a ≡ told b → a ≡ b
@@ -356,3 +358,18 @@ finding-back (Finding.Refused r) = let k = search-back r in rw (k .image, not-37
 
 pub finding-alike : (a b : Finding) → toldFinding a ≡ toldFinding b → a ≡ b
 finding-alike = told-alike toldFinding readFinding finding-back
+
+abbrev otherRewriting : List ℕ → Rewriting
+otherRewriting t = pick (eqb (number t) 38) (Rewriting.WideSymbol (value 0 t)) Rewriting.NoRoom
+
+abbrev readRewriting : List ℕ → Rewriting
+readRewriting = readAnswer (λ t. Rewriting.Done (value 0 t)) Rewriting.Image otherRewriting
+
+rewriting-back : (a : Rewriting) → readRewriting (toldRewriting a) ≡ a
+rewriting-back (Rewriting.Done length) = refl
+rewriting-back (Rewriting.Image r) = image-answer (λ t. Rewriting.Done (value 0 t)) Rewriting.Image otherRewriting r
+rewriting-back (Rewriting.WideSymbol place) = refl
+rewriting-back Rewriting.NoRoom = refl
+
+pub rewriting-alike : (a b : Rewriting) → toldRewriting a ≡ toldRewriting b → a ≡ b
+rewriting-alike = told-alike toldRewriting readRewriting rewriting-back

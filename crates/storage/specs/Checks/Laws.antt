@@ -19,12 +19,12 @@ use Rattle.semantics.specs.Lists.{pick}
 use Rattle.semantics.specs.Answer.{Answer, ok, refuse, andThen}
 use Rattle.semantics.specs.Answer.Laws.{ok-inj, refuse-ok}
 use Rattle.semantics.specs.Graph.{Graph, viewOf}
-use Rattle.semantics.specs.Image.{symbolBytes, firstRecord, firstEdge, filesOf, nodesOf, edgesOf, header, nodeRecord, edgeRecord, scan, placeOf, edgeMisfit, graphOf, references, checkImage}
+use Rattle.semantics.specs.Image.{symbolBytes, widthIn, firstRecord, firstEdge, filesOf, nodesOf, edgesOf, header, nodeRecord, edgeRecord, scan, placeOf, edgeMisfit, graphOf, references, checkImage}
 use Rattle.storage.specs.Index.{Loaded}
 use Rattle.image.specs.Filling.{Held}
 use Rattle.storage.specs.Links.{Linked}
 use Rattle.storage.specs.Links.Laws.{nothing-linked}
-use Rattle.image.specs.Records.{Headed, recordsOf}
+use Rattle.image.specs.Records.{Headed, recordsOf, graphRead}
 use Rattle.image.specs.Records.Laws.{length-nodes, length-edges}
 use Rattle.storage.specs.References.{First, nodeTest, edgeTest, Sources}
 use Rattle.storage.specs.References.Laws.{nodes-fit, node-misfit, edges-fit, edge-misfit, sources-fit}
@@ -39,14 +39,14 @@ abbrev ending : List ℕ → ℕ → Answer ImageRefusal Graph
 ending im last = pick (eqb last (length im)) (referencesOf im) (refuse Image.Length)
 
 module _ (im : List ℕ) where
-  pub bad-header : (r : ImageRefusal) → header im ≡ refuse r → graphIn im ≡ refuse r
+  pub bad-header : (r : ImageRefusal) → header symbolBytes im ≡ refuse r → graphIn im ≡ refuse r
   unfolding checkImage
   bad-header r e = rw e
 
-  module _ (good : header im ≡ ok firstRecord) where
+  module _ (good : header symbolBytes im ≡ ok firstRecord) where
     behind-header : graphIn im ≡ andThen (recordsOf im) (ending im)
     unfolding checkImage
-    behind-header = rw good (then-assoc (scan (nodeRecord symbolBytes im (filesOf im)) 0 firstRecord (nodesOf im)) (λ middle. scan (λ e. edgeRecord im) 0 middle (edgesOf im)) (ending im))
+    behind-header = rw good (then-assoc (scan (nodeRecord (widthIn im) im (filesOf im)) 0 firstRecord (nodesOf im)) (λ middle. scan (λ e. edgeRecord im) 0 middle (edgesOf im)) (ending im))
 
     pub bad-record : (r : ImageRefusal) → recordsOf im ≡ refuse r → graphIn im ≡ refuse r
     bad-record r e = behind-header ∙ ap (λ x. andThen x (ending im)) e
@@ -62,68 +62,68 @@ module _ (im : List ℕ) where
       by-references h = at-end ∙ ap (λ (b : Bool). pick b (referencesOf im) (refuse Image.Length)) (eq-eqb last (length im) h)
 
 -- THE REFERENCES
-pub count-nodes : (im : List ℕ) → length ((graphOf symbolBytes im) .nodes) ≡ nodesOf im
+pub count-nodes : (im : List ℕ) → length ((graphRead im) .nodes) ≡ nodesOf im
 unfolding graphOf
-count-nodes im = length-nodes im firstRecord (nodesOf im)
+count-nodes im = length-nodes (widthIn im) im firstRecord (nodesOf im)
 
-pub count-edges : (im : List ℕ) → length ((graphOf symbolBytes im) .edges) ≡ edgesOf im
+pub count-edges : (im : List ℕ) → length ((graphRead im) .edges) ≡ edgesOf im
 unfolding graphOf
 count-edges im = length-edges im (firstEdge im) (edgesOf im)
 
-module _ (im : List ℕ) {n k : ℕ} (isNodes : n ≡ nodesOf im) (f : First (nodeTest (graphOf symbolBytes im)) n k) where
+module _ (im : List ℕ) {n k : ℕ} (isNodes : n ≡ nodesOf im) (f : First (nodeTest (graphRead im)) n k) where
   pub bad-node : k < n → referencesOf im ≡ refuse (Image.Reference (placeOf im firstRecord k))
   unfolding references viewOf
   bad-node h =
-      ap (λ x. andThen x (λ y. ok (graphOf symbolBytes im)))
-      (node-misfit im (graphOf symbolBytes im) ((graphOf symbolBytes im) .nodes) firstRecord k _ (omega (arith, count-nodes im)) (f .before) (f .here h))
+      ap (λ x. andThen x (λ y. ok (graphRead im)))
+      (node-misfit im (graphRead im) ((graphRead im) .nodes) firstRecord k _ (omega (arith, count-nodes im)) (f .before) (f .here h))
 
   module _ (fit : n ≤ k) where
     -- the nodes fit, so the edges decide
-    by-edges : references im (graphOf symbolBytes im) ≡ edgeMisfit im (graphOf symbolBytes im) (firstEdge im) ((graphOf symbolBytes im) .edges)
+    by-edges : references im (graphRead im) ≡ edgeMisfit im (graphRead im) (firstEdge im) ((graphRead im) .edges)
     unfolding references viewOf
-    by-edges = nodes-fit im (graphOf symbolBytes im) ((graphOf symbolBytes im) .nodes) firstRecord _ (λ j h. f .before j (omega (arith, h, count-nodes im)))
+    by-edges = nodes-fit im (graphRead im) ((graphRead im) .nodes) firstRecord _ (λ j h. f .before j (omega (arith, h, count-nodes im)))
 
-    module _ {m e : ℕ} (isEdges : m ≡ edgesOf im) (d : First (edgeTest (graphOf symbolBytes im)) m e) where
+    module _ {m e : ℕ} (isEdges : m ≡ edgesOf im) (d : First (edgeTest (graphRead im)) m e) where
       pub bad-edge : e < m → referencesOf im ≡ refuse (Image.Reference (placeOf im (firstEdge im) e))
       unfolding viewOf
       bad-edge h =
-          ap (λ x. andThen x (λ y. ok (graphOf symbolBytes im)))
-          (by-edges ∙ edge-misfit im (graphOf symbolBytes im) ((graphOf symbolBytes im) .edges) (firstEdge im) e (omega (arith, count-edges im)) (d .before) (d .here h))
+          ap (λ x. andThen x (λ y. ok (graphRead im)))
+          (by-edges ∙ edge-misfit im (graphRead im) ((graphRead im) .edges) (firstEdge im) e (omega (arith, count-edges im)) (d .before) (d .here h))
 
-      pub all-fit : m ≤ e → referencesOf im ≡ ok (graphOf symbolBytes im)
+      pub all-fit : m ≤ e → referencesOf im ≡ ok (graphRead im)
       unfolding viewOf
       all-fit h =
-          ap (λ x. andThen x (λ y. ok (graphOf symbolBytes im)))
-          (by-edges ∙ edges-fit im (graphOf symbolBytes im) ((graphOf symbolBytes im) .edges) (firstEdge im) (λ j b. d .before j (omega (arith, b, count-edges im))))
+          ap (λ x. andThen x (λ y. ok (graphRead im)))
+          (by-edges ∙ edges-fit im (graphRead im) ((graphRead im) .edges) (firstEdge im) (λ j b. d .before j (omega (arith, b, count-edges im))))
 
       -- what the linking is handed
-      pub sources-known : (l : List ℕ) → Held (graphOf symbolBytes im) l → m ≤ e → Sources l
-      sources-known l k h = sources-fit (graphOf symbolBytes im) l k m (omega (arith, count-edges im)) (λ j b. d .before j (omega arith))
+      pub sources-known : (l : List ℕ) → Held (graphRead im) l → m ≤ e → Sources l
+      sources-known l k h = sources-fit (graphRead im) l k m (omega (arith, count-edges im)) (λ j b. d .before j (omega arith))
 
-pub ready : {im : List ℕ} (l : List ℕ) {m : ℕ} → Headed im → m ≡ edgesOf im → Held (graphOf symbolBytes im) l → Linked (graphOf symbolBytes im) l m
-ready {im} l {m} h e k = nothing-linked (graphOf symbolBytes im) l m (omega (arith, count-edges im)) (omega (arith, count-nodes im, h .nodes)) (omega (arith, count-edges im, h .edges)) k
+pub ready : {im : List ℕ} (l : List ℕ) {m : ℕ} → Headed im → m ≡ edgesOf im → Held (graphRead im) l → Linked (graphRead im) l m
+ready {im} l {m} h e k = nothing-linked (graphRead im) l m (omega (arith, count-edges im)) (omega (arith, count-nodes im, h .nodes)) (omega (arith, count-edges im, h .edges)) k
 
 -- THE ANSWER
 pub told-refused : {x : Answer ImageRefusal Graph} (r : ImageRefusal) → x ≡ refuse r → Checked.Refused r ≡ checkCall x
 unfolding checkCall
 told-refused r e = sym (ap checkCall e)
 
-pub told-accepted : (im : List ℕ) {f n m : ℕ} → f ≡ filesOf im → n ≡ nodesOf im → m ≡ edgesOf im → referencesOf im ≡ ok (graphOf symbolBytes im) → Checked.Accepted f n m ≡ checkCall (referencesOf im)
+pub told-accepted : (im : List ℕ) {f n m : ℕ} → f ≡ filesOf im → n ≡ nodesOf im → m ≡ edgesOf im → referencesOf im ≡ ok (graphRead im) → Checked.Accepted f n m ≡ checkCall (referencesOf im)
 unfolding checkCall
 told-accepted im a b c e =
     let x = a ∙ sym files in let y = b ∙ sym (count-nodes im) in let z = c ∙ sym (count-edges im) in
     (λ i. Checked.Accepted (x i) (y i) (z i)) ∙ sym (ap checkCall e)
   where
-    files : (graphOf symbolBytes im) .files ≡ filesOf im
+    files : (graphRead im) .files ≡ filesOf im
     files = unfold graphOf in refl
 
 -- an image is accepted only with the graph that was put into the index
-pub accepted-graph : (im : List ℕ) (f n m : ℕ) → Checked.Accepted f n m ≡ checkCall (referencesOf im) → (referencesOf im ≡ ok (graphOf symbolBytes im)) × (m ≡ edgesOf im)
+pub accepted-graph : (im : List ℕ) (f n m : ℕ) → Checked.Accepted f n m ≡ checkCall (referencesOf im) → (referencesOf im ≡ ok (graphRead im)) × (m ≡ edgesOf im)
 unfolding checkCall
-accepted-graph im f n m e = on (references im (graphOf symbolBytes im)) refl e
+accepted-graph im f n m e = on (references im (graphRead im)) refl e
   where
-    on : (x : Answer ImageRefusal ℕ) → references im (graphOf symbolBytes im) ≡ x → Checked.Accepted f n m ≡ checkCall (andThen x (λ y. ok (graphOf symbolBytes im))) → (referencesOf im ≡ ok (graphOf symbolBytes im)) × (m ≡ edgesOf im)
-    on (ok y) q k = (ap (λ z. andThen z (λ w. ok (graphOf symbolBytes im))) q, let z : m ≡ length ((graphOf symbolBytes im) .edges) = cc in z ∙ count-edges im)
+    on : (x : Answer ImageRefusal ℕ) → references im (graphRead im) ≡ x → Checked.Accepted f n m ≡ checkCall (andThen x (λ y. ok (graphRead im))) → (referencesOf im ≡ ok (graphRead im)) × (m ≡ edgesOf im)
+    on (ok y) q k = (ap (λ z. andThen z (λ w. ok (graphRead im))) q, let z : m ≡ length ((graphRead im) .edges) = cc in z ∙ count-edges im)
     on (refuse r) q k = absurd (let z : _≡_ {A = ℕ} 0 1 = cc in omega arith)
 
 -- a refused one has none

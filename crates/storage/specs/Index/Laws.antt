@@ -22,11 +22,12 @@ use Rattle.semantics.specs.Lists.Laws.{or-true, and-true}
 use Rattle.semantics.specs.Graph.{nodeId, fileId, fileOf, isFile, isReference, isDefinition, isExported, isStart, isEndpoint}
 use Rattle.semantics.specs.Image.{firstRecord, nodesOf, edgesOf}
 pub use Rattle.image.specs.Index.Laws.{cell-out, cell-same, cell-other}
-use Rattle.storage.specs.Index.{BLOCK, KIND, FLAG, FILE, SYMBOL, SCOPE, SOURCE, TARGET, PRECEDENCE, INDEX, FEW, SMALL, cell, nodeOf, edgeOf, nodeRow, edgeRow, targetRow, isPlain, Fresh, Takes, isSmall}
+use Rattle.semantics.specs.Halves.{joined}
+use Rattle.storage.specs.Index.{BLOCK, KIND, FLAG, FILE, SYMBOL, SYMBOL-HIGH, SCOPE, SOURCE, TARGET, PRECEDENCE, INDEX, FEW, SMALL, cell, nodeOf, edgeOf, symbolRow, nodeRow, edgeRow, targetRow, isPlain, Fresh, Takes, isSmall}
 
 -- A RECORD'S WORDS, in its block and behind the last one
 pub node-in : (l : List ℕ) (n kind : ℕ) → getD l (BLOCK * n + KIND) 0 ≡ kind
-    → nodeOf kind (getD l (BLOCK * n + FLAG) 0) (getD l (BLOCK * n + FILE) 0) (getD l (BLOCK * n + SYMBOL) 0) (getD l (BLOCK * n + SCOPE) 0) ≡ nodeRow l n
+    → nodeOf kind (getD l (BLOCK * n + FLAG) 0) (getD l (BLOCK * n + FILE) 0) (joined (getD l (BLOCK * n + SYMBOL) 0) (getD l (BLOCK * n + SYMBOL-HIGH) 0)) (getD l (BLOCK * n + SCOPE) 0) ≡ nodeRow l n
 unfolding nodeRow
 node-in l n kind e = rw e
 
@@ -134,13 +135,13 @@ few-records im e h =
 -- A NODE BY ITS KIND: what holds at each of the nine kinds, and of a removed node behind them, holds of what the words stand for
 module _ (P : ℕ → Node → Type 0) (l : List ℕ) (n : ℕ)
     (removed : P 0 N.Removed) (root : P 1 N.Root) (jump : P 2 N.JumpToScope) (plain : P 3 (N.Scope (fileId (cell l FILE n)) (eqb (cell l FLAG n) 1)))
-    (push : P 4 (N.Push (fileId (cell l FILE n)) (cell l SYMBOL n) (eqb (cell l FLAG n) 1)))
-    (pop : P 5 (N.Pop (fileId (cell l FILE n)) (cell l SYMBOL n) (eqb (cell l FLAG n) 1)))
-    (pushScoped : P 6 (N.PushScoped (fileId (cell l FILE n)) (cell l SYMBOL n) (nodeId (cell l SCOPE n)) (eqb (cell l FLAG n) 1)))
-    (popScoped : P 7 (N.PopScoped (fileId (cell l FILE n)) (cell l SYMBOL n) (eqb (cell l FLAG n) 1)))
+    (push : P 4 (N.Push (fileId (cell l FILE n)) (symbolRow l n) (eqb (cell l FLAG n) 1)))
+    (pop : P 5 (N.Pop (fileId (cell l FILE n)) (symbolRow l n) (eqb (cell l FLAG n) 1)))
+    (pushScoped : P 6 (N.PushScoped (fileId (cell l FILE n)) (symbolRow l n) (nodeId (cell l SCOPE n)) (eqb (cell l FLAG n) 1)))
+    (popScoped : P 7 (N.PopScoped (fileId (cell l FILE n)) (symbolRow l n) (eqb (cell l FLAG n) 1)))
     (drop : P 8 (N.DropScopes (fileId (cell l FILE n)))) where
   abbrev Of : ℕ → Type 0
-  Of kind = P kind (nodeOf kind (cell l FLAG n) (cell l FILE n) (cell l SYMBOL n) (cell l SCOPE n))
+  Of kind = P kind (nodeOf kind (cell l FLAG n) (cell l FILE n) (symbolRow l n) (cell l SCOPE n))
 
   of-kind : (kind : ℕ) → kind < 9 → Of kind
   unfolding nodeOf
@@ -167,7 +168,7 @@ module _ (P : ℕ → Node → Type 0) (l : List ℕ) (n : ℕ)
       go k (yes h) = of-kind k h
       go k (no h) =
           let b : 9 ≤ k = omega arith in
-          subst (P k) (no-kind k (cell l FLAG n) (cell l FILE n) (cell l SYMBOL n) (cell l SCOPE n) (λ e. omega (arith, b, e)) (λ e. omega (arith, b, e)) (λ e. omega (arith, b, e)) (λ e. omega (arith, b, e)) (λ e. omega (arith, b, e)) (λ e. omega (arith, b, e)) (λ e. omega (arith, b, e)) (λ e. omega (arith, b, e))) (behind k b)
+          subst (P k) (no-kind k (cell l FLAG n) (cell l FILE n) (symbolRow l n) (cell l SCOPE n) (λ e. omega (arith, b, e)) (λ e. omega (arith, b, e)) (λ e. omega (arith, b, e)) (λ e. omega (arith, b, e)) (λ e. omega (arith, b, e)) (λ e. omega (arith, b, e)) (λ e. omega (arith, b, e)) (λ e. omega (arith, b, e))) (behind k b)
 
 -- is a kind among these: what the keys of a `match` say
 pub has-one : (ks : List ℕ) (k : ℕ) → OneOf ks k → has k ks ≡ true

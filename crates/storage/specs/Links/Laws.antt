@@ -18,7 +18,7 @@ use Rattle.semantics.specs.declared.graph.Edge.the-variants as E
 use Rattle.semantics.specs.Lists.{consIf}
 use Rattle.semantics.specs.Graph.{Graph, viewOf, outgoing}
 use Rattle.image.specs.Filling.{Held}
-use Rattle.storage.specs.Index.{NODES, EDGES, BLOCK, KIND, FLAG, FILE, SYMBOL, SCOPE, FIRST, SOURCE, TARGET, NEXT, PRECEDENCE, Blocks, cell, nodeRow, edgeRow, firstRow, nextRow, put, Runs, Loaded, putLink}
+use Rattle.storage.specs.Index.{NODES, EDGES, BLOCK, KIND, FLAG, FILE, SYMBOL, SYMBOL-HIGH, SCOPE, FIRST, SOURCE, TARGET, NEXT, PRECEDENCE, Blocks, cell, nodeRow, edgeRow, firstRow, nextRow, put, Runs, Loaded, putLink}
 use Rattle.storage.specs.Index.Laws.{cell-same, cell-other}
 use Rattle.storage.specs.Links.{Linked}
 
@@ -55,6 +55,7 @@ module _ (l : List ℕ) (long : Blocks l) (e s : ℕ) (h : BLOCK * e < length l)
         link-other FLAG m (λ x. omega arith) (λ x. omega arith),
         link-other FILE m (λ x. omega arith) (λ x. omega arith),
         link-other SYMBOL m (λ x. omega arith) (λ x. omega arith),
+        link-other SYMBOL-HIGH m (λ x. omega arith) (λ x. omega arith),
         link-other SCOPE m (λ x. omega arith) (λ x. omega arith),
       )
 

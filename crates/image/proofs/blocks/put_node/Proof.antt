@@ -1,4 +1,4 @@
--- `image::blocks::put_node`: five stores.
+-- `image::blocks::put_node`: six stores.
 use borrow.Author.Needs.{needs}
 use mathlib.Core.Path.{refl}
 use native.Mathlib.Omega.{arith}
@@ -55,6 +55,15 @@ mul-index-5 c = search needs
 slice-write-index-5 : tie.Need-slice-write-index-5
 slice-write-index-5 c = simp length-set (omega arith)
 
+add-index-6 : tie.Need-add-index-6
+add-index-6 c = search needs
+
+mul-index-6 : tie.Need-mul-index-6
+mul-index-6 c = search needs
+
+slice-write-index-6 : tie.Need-slice-write-index-6
+slice-write-index-6 c = simp length-set (omega arith)
+
 same-length : tie.Need-same-length
 same-length c = search needs
 
@@ -82,5 +91,8 @@ put-node-spec =
     add-index-5
     mul-index-5
     slice-write-index-5
+    add-index-6
+    mul-index-6
+    slice-write-index-6
     same-length
     returns)

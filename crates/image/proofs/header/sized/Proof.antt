@@ -6,6 +6,7 @@ use mathlib.Core.Path.{ap}
 use borrow.Author.Tests.{lt-ltb, le-ltb}
 use lib.Dec.{eqb}
 use lib.ListN.{length}
+use Rattle.semantics.specs.Image.{longestImage}
 use Rattle.image.specs.Reached.{isSized}
 use Rattle.image.proofs.header.sized.Statement.{statement}
 use Rattle.image.proofs.header.sized.Tie as tie
@@ -20,7 +21,7 @@ returns-2 : tie.Need-returns-2
 unfolding isSized
 returns-2 c =
     let im = c .before .before .before .args .image .now in
-    simp (le-ltb (length im) 11 (omega arith), lt-ltb 63499 (length im) (omega arith))
+    simp (le-ltb (length im) 11 (omega arith), lt-ltb longestImage (length im) (omega arith))
 
 long-requires : tie.Need-long-requires
 long-requires c κs = search needs
@@ -35,7 +36,7 @@ returns-3 : tie.Need-returns-3
 unfolding isSized
 returns-3 c =
     let im = c .before .before .before .before .args .image .now in
-    simp (le-ltb (length im) 11 (omega arith), le-ltb 63499 (length im) (omega arith)) (ap (λ (k : ℕ). eqb (k + 5) (length im)) (c .long .ensures .0))
+    simp (le-ltb (length im) 11 (omega arith), le-ltb longestImage (length im) (omega arith)) (ap (λ (k : ℕ). eqb (k + 5) (length im)) (c .long .ensures .0))
 
 pub sized-spec : {M : Type 1} → statement M
 sized-spec = tie.close (tie.spec returns returns-2 long-requires cast-result add-result returns-3)

@@ -6,7 +6,7 @@ use mathlib.Core.Path.{_≡_, refl, sym, ap, _∙_}
 use borrow.Author.Tests.{not-true, not-false}
 use Rattle.semantics.specs.Answer.{ok}
 use Rattle.semantics.specs.Bytes.{byteAt}
-use Rattle.semantics.specs.Image.{bodySize, symbolBytes, nextPlace}
+use Rattle.semantics.specs.Image.{bodySize, nextPlace}
 use Rattle.image.specs.Records.Laws.{whole, node-cut, no-kind, misplaced, miscounted, bare, by-fields, bare-put}
 use Rattle.image.specs.Reached.Laws.{never}
 use Rattle.image.proofs.record.node.Statement.{statement}
@@ -18,7 +18,7 @@ is-cut-requires c κs = search needs
 returns : tie.Need-returns
 returns c =
     let a = c .before .before .before .before .args in
-    (node-cut (a .image .now) (a .files) (a .n) (a .at) {kind = _} refl (sym (c .before .is-cut .ensures) ∙ c .if1 .taken), λ x e. absurd (never e))
+    (node-cut (a .width) (a .image .now) (a .files) (a .n) (a .at) {kind = _} refl (sym (c .before .is-cut .ensures) ∙ c .if1 .taken), λ x e. absurd (never e))
 
 add-byte : tie.Need-add-byte
 add-byte c = let w = whole (c .before .before .before .before .args .image .now) (c .before .before .before .before .args .at) (sym (c .before .is-cut .ensures) ∙ c .if1 .left) in omega (arith, w .1)
@@ -26,19 +26,19 @@ add-byte c = let w = whole (c .before .before .before .before .args .image .now)
 byte-requires : tie.Need-byte-requires
 byte-requires c κs = let w = whole (c .before .before .before .before .args .image .now) (c .before .before .before .before .args .at) (sym (c .before .is-cut .ensures) ∙ c .if1 .left) in omega (arith, w .0, w .1)
 
-cast-t12 : tie.Need-cast-t12
-cast-t12 c = let w = whole (c .before .before .before .before .before .before .args .image .now) (c .before .before .before .before .before .before .args .at) (sym (c .before .before .before .is-cut .ensures) ∙ c .before .before .if1 .left) in omega (arith, w .1)
+cast-t13 : tie.Need-cast-t13
+cast-t13 c = let w = whole (c .before .before .before .before .before .before .args .image .now) (c .before .before .before .before .before .before .args .at) (sym (c .before .before .before .is-cut .ensures) ∙ c .before .before .if1 .left) in omega (arith, w .1)
 
 returns-2 : tie.Need-returns-2
 returns-2 c =
     let a = c .before .before .before .before .before .before .args in
-    (no-kind (a .image .now) (a .files) (a .n) (a .at) (sym (c .before .byte .ensures .0)) (sym (c .before .before .before .is-cut .ensures) ∙ c .before .before .if1 .left) (c .if2 .taken), λ x e. absurd (never e))
+    (no-kind (a .width) (a .image .now) (a .files) (a .n) (a .at) (sym (c .before .byte .ensures .0)) (sym (c .before .before .before .is-cut .ensures) ∙ c .before .before .if1 .left) (c .if2 .taken), λ x e. absurd (never e))
 
 may-stand-requires : tie.Need-may-stand-requires
 may-stand-requires c κs = search needs
 
-cast-t15 : tie.Need-cast-t15
-cast-t15 c =
+cast-t16 : tie.Need-cast-t16
+cast-t16 c =
     let a = c .before .before .before .before .before .before .before .before .args in
     let w = whole (a .image .now) (a .at)
     (sym (c .before .before .before .before .before .is-cut .ensures) ∙ c .before .before .before .before .if1 .left) in
@@ -47,7 +47,7 @@ cast-t15 c =
 returns-3 : tie.Need-returns-3
 returns-3 c =
     let a = c .before .before .before .before .before .before .before .before .args in (
-      misplaced (a .image .now) (a .files) (a .n) (a .at) (sym (c .before .before .before .byte .ensures .0))
+      misplaced (a .width) (a .image .now) (a .files) (a .n) (a .at) (sym (c .before .before .before .byte .ensures .0))
           (sym (c .before .before .before .before .before .is-cut .ensures) ∙ c .before .before .before .before .if1 .left) (c .before .before .if2 .left)
           (sym (c .before .may-stand .ensures) ∙ not-true (c .before .may-stand .result) (c .if3 .taken)),
       λ x e. absurd (never e),
@@ -70,7 +70,7 @@ returns-4 c =
     let c₁ = c .before .before .before .before .before .before .before .before in
     let is-cut = c₁ .is-cut in
     let a = c₁ .before .before .before .args in (
-      miscounted (a .image .now) (a .files) (a .n) (a .at) (sym (c .before .before .before .before .before .before .byte .ensures .0))
+      miscounted (a .width) (a .image .now) (a .files) (a .n) (a .at) (sym (c .before .before .before .before .before .before .byte .ensures .0))
           (sym (is-cut .ensures) ∙ if1 .left) (c .before .before .before .before .before .if2 .left)
           (sym (may-stand .ensures) ∙ not-false (may-stand .result) (c .before .before .before .if3 .left))
           (λ e. c .if4 .taken (c .before .before .byte2 .ensures .0 ∙ e ∙ sym (c .before .body-size .ensures))),
@@ -80,11 +80,11 @@ returns-4 c =
 put-node-requires : tie.Need-put-node-requires
 put-node-requires c κs = search needs
 
-cast-t22 : tie.Need-cast-t22
-cast-t22 c = search needs
+cast-t23 : tie.Need-cast-t23
+cast-t23 c = search needs
 
-add-t23 : tie.Need-add-t23
-add-t23 c =
+add-t24 : tie.Need-add-t24
+add-t24 c =
     let c₁ = c .before .before .before .before .before .before .before .before .before .before .before .before in
     let if1 = c₁ .if1 in
     let is-cut = c₁ .before .is-cut in
@@ -92,8 +92,8 @@ add-t23 c =
     let w = whole (a .image .now) (a .at) (sym (is-cut .ensures) ∙ if1 .left) in
     omega (arith, w .1)
 
-add-t24 : tie.Need-add-t24
-add-t24 c =
+add-t25 : tie.Need-add-t25
+add-t25 c =
     let c₁ = c .before .before .before .before .before .before .before .before .before .before .before .before in
     let if1 = c₁ .if1 in
     let is-cut = c₁ .before .is-cut in
@@ -120,15 +120,18 @@ returns-5 c =
     let a = c₂ .args in
     let p = c₂ .pre in
     let im = a .image .now in
-    let s : byteAt im (a .at) ≡ bodySize symbolBytes (byte .result) = sym (byte2 .ensures .0)
+    let s : byteAt im (a .at) ≡ bodySize (a .width) (byte .result) = sym (byte2 .ensures .0)
     ∙ c .before .before .before .before .before .if4 .left
     ∙ body-size .ensures in
     let z : a .at + byte2 .result + 1 ≡ nextPlace im (a .at) = omega (arith, byte2 .ensures .0) in (
       ap ok z
-          ∙ bare im (a .files) (a .n) (a .at) (sym (byte .ensures .0)) (sym (is-cut .ensures) ∙ if1 .left) (if2 .left)
+          ∙ bare (a .width) im (a .files) (a .n) (a .at) (sym (byte .ensures .0)) (sym (is-cut .ensures) ∙ if1 .left) (if2 .left)
           (sym (may-stand .ensures) ∙ not-false (may-stand .result) (if3 .left)) s if5,
-      λ x e. bare-put im (a .n) (a .at) (a .index .now) (p .1 .1) (sym (byte .ensures .0)) if5 (c .before .before .put-node .ensures),
+      λ x e. bare-put (a .width) im (a .n) (a .at) (a .index .now) (p .1 .1) (sym (byte .ensures .0)) if5 (c .before .before .put-node .ensures),
     )
+
+cast-fields : tie.Need-cast-fields
+cast-fields c = search needs
 
 fields-requires : tie.Need-fields-requires
 fields-requires c κs =
@@ -140,18 +143,22 @@ fields-requires c κs =
     let a = c₁ .before .before .before .before .before .args in
     let p = c₁ .before .before .before .before .before .pre in
     let im = a .image .now in
-    let s : byteAt im (a .at) ≡ bodySize symbolBytes (byte .result) = sym (c .before .before .before .before .byte2 .ensures .0)
+    let s : byteAt im (a .at) ≡ bodySize (a .width) (byte .result) = sym (c .before .before .before .before .byte2 .ensures .0)
     ∙ c .before .before .if4 .left
     ∙ c .before .before .before .body-size .ensures in
     let w = whole im (a .at) (sym (is-cut .ensures) ∙ if1 .left) in (
-      record {
-        low = c .before .if5 .left;
-        high = if2 .left;
-        reads = sym (byte .ensures .0);
-        size = s;
-        whole = omega (arith, w .1, s);
-        small = p .0;
-      },
+      (
+        record {
+          low = c .before .if5 .left;
+          high = if2 .left;
+          reads = sym (byte .ensures .0);
+          size = s;
+          whole = omega (arith, w .1, s);
+          small = p .0 .1;
+          known = p .0 .0;
+        },
+        c .before .before .before .before .byte2 .ensures .0,
+      ),
       (p .1 .0, p .1 .1),
     )
 
@@ -171,11 +178,11 @@ returns-6 c =
     let is-cut = c₁ .before .before .before .before .before .is-cut in
     let a = c₁ .before .before .before .before .before .before .before .before .args in
     let im = a .image .now in
-    let s : byteAt im (a .at) ≡ bodySize symbolBytes (byte .result) = sym (byte2 .ensures .0)
+    let s : byteAt im (a .at) ≡ bodySize (a .width) (byte .result) = sym (byte2 .ensures .0)
     ∙ c .before .before .before .before .before .if4 .left
     ∙ body-size .ensures in (
       c .before .before .fields .ensures .0
-          ∙ by-fields im (a .files) (a .n) (a .at) (sym (byte .ensures .0)) (sym (is-cut .ensures) ∙ if1 .left) (if2 .left)
+          ∙ by-fields (a .width) im (a .files) (a .n) (a .at) (sym (byte .ensures .0)) (sym (is-cut .ensures) ∙ if1 .left) (if2 .left)
           (sym (may-stand .ensures) ∙ not-false (may-stand .result) (if3 .left)) s (c .before .before .before .before .if5 .left),
       c .before .before .fields .ensures .1,
     )
@@ -188,20 +195,21 @@ node-spec =
     returns
     add-byte
     byte-requires
-    cast-t12
+    cast-t13
     returns-2
     may-stand-requires
-    cast-t15
+    cast-t16
     returns-3
     byte-requires-2
     body-size-requires
     returns-4
     put-node-requires
-    cast-t22
-    add-t23
+    cast-t23
     add-t24
+    add-t25
     same-length
     returns-5
+    cast-fields
     fields-requires
     same-length-2
     returns-6)

@@ -1,10 +1,12 @@
 -- `stepping::remaking::by_kind`: each kind writes the step that its node makes.
+use Prim.Native.Nat.{ℕ, _+_, _*_}
 use mathlib.Core.Path.{sym, ap, _∙_}
+use lib.ListN.{getD}
 use Rattle.semantics.specs.declared.graph.Node.{Node}
-use Rattle.storage.specs.Index.{cell, nodeOf}
+use Rattle.storage.specs.Index.{BLOCK, SCOPE, cell, nodeOf}
 use Rattle.storage.specs.Index.Laws.{node-in}
 use Rattle.semantics.specs.declared.replayed.Step.{Step}
-use Rattle.stepping.specs.Steps.{plainStep, remadeOf}
+use Rattle.stepping.specs.Steps.{plainStep, pushStep, pushScopedStep, remadeOf}
 use Rattle.stepping.specs.Steps.Laws.{other-remade}
 use Rattle.stepping.specs.StepWords.{makerIn}
 use borrow.Author.Needs.{needs}
@@ -32,14 +34,26 @@ plain-requires c κs = search needs
 lay-requires : tie.Need-lay-requires
 lay-requires c κs = search needs
 
-add-symbol : tie.Need-add-symbol
-add-symbol c = search needs
+add-join : tie.Need-add-join
+add-join c = search needs
 
-mul-symbol : tie.Need-mul-symbol
-mul-symbol c = search needs
+mul-join : tie.Need-mul-join
+mul-join c = search needs
 
-shared-slice-read-symbol : tie.Need-shared-slice-read-symbol
-shared-slice-read-symbol c = search needs
+shared-slice-read-join : tie.Need-shared-slice-read-join
+shared-slice-read-join c = search needs
+
+add-join-2 : tie.Need-add-join-2
+add-join-2 c = search needs
+
+mul-join-2 : tie.Need-mul-join-2
+mul-join-2 c = search needs
+
+shared-slice-read-join-2 : tie.Need-shared-slice-read-join-2
+shared-slice-read-join-2 c = search needs
+
+join-requires : tie.Need-join-requires
+join-requires c κs = search needs
 
 cast-push : tie.Need-cast-push
 cast-push c = search needs
@@ -59,14 +73,26 @@ plain-requires-2 c κs = search needs
 lay-requires-3 : tie.Need-lay-requires-3
 lay-requires-3 c κs = search needs
 
-add-symbol-2 : tie.Need-add-symbol-2
-add-symbol-2 c = search needs
+add-join-3 : tie.Need-add-join-3
+add-join-3 c = search needs
 
-mul-symbol-2 : tie.Need-mul-symbol-2
-mul-symbol-2 c = search needs
+mul-join-3 : tie.Need-mul-join-3
+mul-join-3 c = search needs
 
-shared-slice-read-symbol-2 : tie.Need-shared-slice-read-symbol-2
-shared-slice-read-symbol-2 c = search needs
+shared-slice-read-join-3 : tie.Need-shared-slice-read-join-3
+shared-slice-read-join-3 c = search needs
+
+add-join-4 : tie.Need-add-join-4
+add-join-4 c = search needs
+
+mul-join-4 : tie.Need-mul-join-4
+mul-join-4 c = search needs
+
+shared-slice-read-join-4 : tie.Need-shared-slice-read-join-4
+shared-slice-read-join-4 c = search needs
+
+join-requires-2 : tie.Need-join-requires-2
+join-requires-2 c κs = search needs
 
 add-scope : tie.Need-add-scope
 add-scope c = search needs
@@ -131,13 +157,14 @@ same-length-2 c = search needs
 returns-2 : tie.Need-returns-2
 unfolding remadeOf nodeOf
 returns-2 c =
-    let a = c .before .before .before .before .before .before .before .before .before .before .args in
+    let a = c .before .before .before .before .before .before .before .before .before .before .before .before .args in
     let s = a .last in
     let w = a .steps .now in (
       c .before .before .lay2 .ensures .0
           ∙ c .before .before .before .push .ensures
+          ∙ ap (λ (x : ℕ). pushStep x (a .target) (a .edge) (a .k) s) (c .before .before .before .before .before .join .ensures)
           ∙ ap (λ (x : Node). remadeOf x (a .target) (a .edge) (a .k) s (makerIn w (s .symbols)) (makerIn w (s .scopes)))
-          (node-in (a .index .now) (a .target) 4 (c .before .before .before .before .before .before .match .keys2)),
+          (node-in (a .index .now) (a .target) 4 (c .before .before .before .before .before .before .before .before .match .keys2)),
       c .before .before .lay2 .ensures .1,
     )
 
@@ -165,12 +192,14 @@ same-length-4 c = search needs
 returns-4 : tie.Need-returns-4
 unfolding remadeOf nodeOf
 returns-4 c =
-    let match = c .before .before .before .before .before .before .before .match in
-    let a = c .before .before .before .before .before .before .before .before .before .before .before .args in
+    let match = c .before .before .before .before .before .before .before .before .before .match in
+    let a = c .before .before .before .before .before .before .before .before .before .before .before .before .before .args in
     let s = a .last in
     let w = a .steps .now in (
       c .before .before .lay4 .ensures .0
           ∙ c .before .before .before .before .pushed-scoped .ensures
+          ∙ ap (λ (x : ℕ). pushScopedStep x (getD (a .index .now) (BLOCK * a .target + SCOPE) 0) (a .target) (a .edge) (a .k) s)
+          (c .before .before .before .before .before .before .join2 .ensures)
           ∙ ap (λ (x : Node). remadeOf x (a .target) (a .edge) (a .k) s (makerIn w (s .symbols)) (makerIn w (s .scopes)))
           (node-in (a .index .now) (a .target) 6 (match .keys4)),
       c .before .before .lay4 .ensures .1,
@@ -238,18 +267,26 @@ by-kind-spec =
     maker-requires
     plain-requires
     lay-requires
-    add-symbol
-    mul-symbol
-    shared-slice-read-symbol
+    add-join
+    mul-join
+    shared-slice-read-join
+    add-join-2
+    mul-join-2
+    shared-slice-read-join-2
+    join-requires
     cast-push
     push-requires
     lay-requires-2
     maker-requires-2
     plain-requires-2
     lay-requires-3
-    add-symbol-2
-    mul-symbol-2
-    shared-slice-read-symbol-2
+    add-join-3
+    mul-join-3
+    shared-slice-read-join-3
+    add-join-4
+    mul-join-4
+    shared-slice-read-join-4
+    join-requires-2
     add-scope
     mul-scope
     shared-slice-read-scope

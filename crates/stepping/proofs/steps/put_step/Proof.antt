@@ -1,7 +1,24 @@
-use lib.ListN.{length-set}
+-- `stepping::steps::put_step`: a store for each word.
+use Prim.Native.Nat.{ℕ, _+_, _*_}
+use mathlib.Core.List.{List}
+use lib.ListN.{set, length-set}
+use Rattle.semantics.specs.Limits.{stepLength}
+use Rattle.semantics.specs.declared.replayed.Step.{Step}
 use borrow.Author.Needs.{needs}
 use Rattle.stepping.proofs.steps.put_step.Statement.{statement}
 use Rattle.stepping.proofs.steps.put_step.Tie as tie
+
+-- the stores, with any two words for the symbol
+abbrev written : List ℕ → ℕ → Step → ℕ → ℕ → List ℕ
+written l k s low high =
+    set (set (set (set (set (set (set (set (set l (stepLength * k) (s .edge)) (stepLength * k + 1) (s .end)) (stepLength * k + 2) (s .symbols)) (stepLength * k + 3) (s .scopes))
+    (stepLength * k + 4) low) (stepLength * k + 5) high) (stepLength * k + 6) (s .attached)) (stepLength * k + 7) (s .below)) (stepLength * k + 8) (s .scope)
+
+low-requires : tie.Need-low-requires
+low-requires c κs = search needs
+
+high-requires : tie.Need-high-requires
+high-requires c κs = search needs
 
 mul-at : tie.Need-mul-at
 mul-at c = search needs
@@ -75,16 +92,29 @@ mul-steps-8 c = search needs
 slice-write-steps-8 : tie.Need-slice-write-steps-8
 slice-write-steps-8 c = simp length-set (search needs)
 
+add-steps-8 : tie.Need-add-steps-8
+add-steps-8 c = search needs
+
+mul-steps-9 : tie.Need-mul-steps-9
+mul-steps-9 c = search needs
+
+slice-write-steps-9 : tie.Need-slice-write-steps-9
+slice-write-steps-9 c = simp length-set (search needs)
+
 same-length : tie.Need-same-length
 same-length c = search needs
 
 returns : tie.Need-returns
-returns c = search needs
+returns c =
+    let a = c .before .before .before .args in
+    λ i. written (a .steps .now) (a .k) (a .s) (c .before .low .ensures i) (c .high .ensures i)
 
 pub put-step-spec : {M : Type 1} → statement M
 put-step-spec =
     tie.close
     (tie.spec
+    low-requires
+    high-requires
     mul-at
     mul-steps
     slice-write-steps
@@ -109,5 +139,8 @@ put-step-spec =
     add-steps-7
     mul-steps-8
     slice-write-steps-8
+    add-steps-8
+    mul-steps-9
+    slice-write-steps-9
     same-length
     returns)

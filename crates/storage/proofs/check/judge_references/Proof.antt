@@ -4,7 +4,8 @@ use Prim.Native.Nat.{ℕ}
 use mathlib.Core.Path.{ap, _∙_}
 use Rattle.semantics.specs.declared.answer.Checked.the-variants as Checked
 use Rattle.semantics.specs.declared.refusal.ImageRefusal.the-variants as Image
-use Rattle.semantics.specs.Image.{symbolBytes, firstRecord, placeOf, graphOf}
+use Rattle.semantics.specs.Image.{firstRecord, placeOf}
+use Rattle.image.specs.Records.{graphRead}
 use Rattle.storage.specs.Checks.Laws.{bad-node, bad-edge, all-fit, sources-known, told-refused, told-accepted, none-known}
 use Rattle.storage.proofs.check.judge_references.Statement.{statement}
 use Rattle.storage.proofs.check.judge_references.Tie as tie
@@ -21,7 +22,7 @@ misfit-requires c κs = search needs
 returns : tie.Need-returns
 returns c =
     let im = c .before .before .before .before .before .before .args .image .now in
-    let e = bad-node im (c .before .before .before .nodes .ensures) (c .before .before .misfit-node .ensures .1 (graphOf symbolBytes im) (c .before .before .before .before .before .before .pre .1)) (c .before .if1 .taken) in
+    let e = bad-node im (c .before .before .before .nodes .ensures) (c .before .before .misfit-node .ensures .1 (graphRead im) (c .before .before .before .before .before .before .pre .1)) (c .before .if1 .taken) in
     (c .misfit .ensures ∙ told-refused _ e, none-known _ e)
 
 edges-requires : tie.Need-edges-requires
@@ -45,8 +46,8 @@ returns-2 c =
     let p′ = c₁ .pre in
     let im = a .image .now in
     let h = p′ .1 in
-    let e = bad-edge im (nodes .ensures) (misfit-node .ensures .1 (graphOf symbolBytes im) h) (c .before .before .before .before .before .if1 .left)
-    (c .before .before .before .before .edges .ensures) (c .before .before .before .misfit-edge .ensures .1 (graphOf symbolBytes im) h)
+    let e = bad-edge im (nodes .ensures) (misfit-node .ensures .1 (graphRead im) h) (c .before .before .before .before .before .if1 .left)
+    (c .before .before .before .before .edges .ensures) (c .before .before .before .misfit-edge .ensures .1 (graphRead im) h)
     (c .before .before .if2 .taken) in
     let place = c .before .place .ensures .0 ∙ ap (placeOf im firstRecord) (nodes .ensures) in (
       c .misfit2 .ensures
@@ -68,8 +69,8 @@ returns-3 c =
     let p = c₁ .pre in
     let im = a .image .now in
     let h = p .1 in
-    let fits = c .before .before .before .before .before .misfit-node .ensures .1 (graphOf symbolBytes im) h in
-    let joins = c .before .before .misfit-edge .ensures .1 (graphOf symbolBytes im) h in
+    let fits = c .before .before .before .before .before .misfit-node .ensures .1 (graphRead im) h in
+    let joins = c .before .before .misfit-edge .ensures .1 (graphRead im) h in
     let e = all-fit im (nodes .ensures) fits if1 (edges .ensures) joins (c .before .if2 .left) in
     let known = sources-known im (nodes .ensures) fits if1 (edges .ensures) joins (a .index .now) h (c .before .if2 .left) in
     (told-accepted im (c .files .ensures) (nodes .ensures) (edges .ensures) e, λ g q. known)

@@ -2,7 +2,7 @@
 use borrow.Author.Needs.{needs}
 use mathlib.Core.Path.{_≡_, sym, ap, _∙_}
 use Rattle.semantics.specs.Answer.{ok}
-use Rattle.semantics.specs.Image.{header}
+use Rattle.semantics.specs.Image.{symbolBytes, header}
 use Rattle.image.specs.Records.Laws.{headed}
 use Rattle.image.specs.Reached.{answerOf}
 use Rattle.storage.specs.Checks.Laws.{bad-header, told-refused, none-loaded}
@@ -18,7 +18,7 @@ enum-told c = search needs
 read-requires : tie.Need-read-requires
 read-requires c κs =
     let im = c .before .before .before .before .before .before .args .image .now in
-    let e : header im ≡ ok (c .before .enum-told .given .0 .0) = sym (c .before .before .before .header .ensures) ∙ ap answerOf (c .before .enum-told .given .1) in
+    let e : header symbolBytes im ≡ ok (c .before .enum-told .given .0 .0) = sym (c .before .before .before .header .ensures) ∙ ap answerOf (c .before .enum-told .given .1) in
     (e ∙ ap ok (headed im _ e .1), c .before .before .before .before .before .before .pre)
 
 enum-known-r : tie.Need-enum-known-r

@@ -2,7 +2,7 @@
 use borrow.Author.Needs.{needs}
 use native.Mathlib.Omega.{arith}
 use mathlib.Core.Path.{sym, _∙_}
-use Rattle.semantics.specs.Image.{symbolBytes, graphOf}
+use Rattle.image.specs.Records.{graphRead}
 use Rattle.storage.specs.Index.{Loaded}
 use Rattle.storage.specs.Checks.Laws.{accepted-graph, refused-graph, ready, count-edges, one-loaded}
 use Rattle.storage.proofs.check.refer.Statement.{statement}
@@ -28,7 +28,7 @@ link-requires c κs =
     let im = c .before .before .before .before .before .before .before .before .args .image .now in
     let x = accepted-graph im (c .before .before .judged .given .0 .0) (c .before .before .judged .given .0 .1 .0) (c .before .before .judged .given .0 .1 .1 .0) (sym (c .before .before .judged .given .1) ∙ c .before .before .before .before .judge-references .ensures .0) in
     let p = c .before .before .before .before .before .before .before .before .pre in
-    (p .1 .0 .long, ((omega (arith, x .1, p .0 .edges), omega (arith, x .1, p .1 .1 .edges)), c .before .before .before .before .judge-references .ensures .1 (graphOf symbolBytes im) (x .0)))
+    (p .1 .0 .long, ((omega (arith, x .1, p .0 .edges), omega (arith, x .1, p .1 .1 .edges)), c .before .before .before .before .judge-references .ensures .1 (graphRead im) (x .0)))
 
 same-length-2 : tie.Need-same-length-2
 same-length-2 c = search needs
@@ -39,8 +39,8 @@ returns-2 c =
     let a = sym (c .before .before .before .before .before .judged .given .1) ∙ c .before .before .before .before .before .before .before .judge-references .ensures .0 in
     let x = accepted-graph im (c .before .before .before .before .before .judged .given .0 .0) (c .before .before .before .before .before .judged .given .0 .1 .0) (c .before .before .before .before .before .judged .given .0 .1 .1 .0) a in
     let p = c .before .before .before .before .before .before .before .before .before .before .before .pre in
-    let l = c .before .before .link .ensures (graphOf symbolBytes im) (count-edges im ∙ sym (x .1)) (ready (c .before .before .before .before .before .before .before .before .before .before .before .args .index .now) (p .0) (x .1) (p .1 .0)) in
-    (a, one-loaded (λ g. Loaded g (c .before .before .link .last .0)) (graphOf symbolBytes im) (x .0) l)
+    let l = c .before .before .link .ensures (graphRead im) (count-edges im ∙ sym (x .1)) (ready (c .before .before .before .before .before .before .before .before .before .before .before .args .index .now) (p .0) (x .1) (p .1 .0)) in
+    (a, one-loaded (λ g. Loaded g (c .before .before .link .last .0)) (graphRead im) (x .0) l)
 
 pub refer-spec : {M : Type 1} → statement M
 refer-spec =

@@ -5,7 +5,8 @@ use mathlib.Core.Path.{refl, ap, _∙_}
 use lib.ListN.{getD}
 use Rattle.semantics.specs.declared.graph.Node.the-variants as N
 use Rattle.semantics.specs.Graph.{nodeId, fileId}
-use Rattle.storage.specs.Index.{BLOCK, KIND, FLAG, FILE, SYMBOL, SCOPE, nodeOf}
+use Rattle.semantics.specs.Halves.{joined}
+use Rattle.storage.specs.Index.{BLOCK, KIND, FLAG, FILE, SYMBOL, SYMBOL-HIGH, SCOPE, nodeOf}
 use Rattle.storage.specs.Index.Laws.{node-in, node-out, no-kind}
 use Rattle.storage.proofs.store.node.Statement.{statement}
 use Rattle.storage.proofs.store.node.Tie as tie
@@ -49,38 +50,38 @@ mul-t18 c = search needs
 shared-slice-read-t20 : tie.Need-shared-slice-read-t20
 shared-slice-read-t20 c = search needs
 
-add-t22 : tie.Need-add-t22
-add-t22 c = search needs
-
-mul-t23 : tie.Need-mul-t23
-mul-t23 c = search needs
-
-shared-slice-read-t25 : tie.Need-shared-slice-read-t25
-shared-slice-read-t25 c = search needs
+symbol-requires : tie.Need-symbol-requires
+symbol-requires c κs = search needs
 
 flag-requires-2 : tie.Need-flag-requires-2
 flag-requires-2 c κs = search needs
 
-add-t27 : tie.Need-add-t27
-add-t27 c = search needs
+add-t24 : tie.Need-add-t24
+add-t24 c = search needs
 
-mul-t28 : tie.Need-mul-t28
-mul-t28 c = search needs
+mul-t25 : tie.Need-mul-t25
+mul-t25 c = search needs
 
-shared-slice-read-t30 : tie.Need-shared-slice-read-t30
-shared-slice-read-t30 c = search needs
+shared-slice-read-t27 : tie.Need-shared-slice-read-t27
+shared-slice-read-t27 c = search needs
 
-add-t32 : tie.Need-add-t32
-add-t32 c = search needs
-
-mul-t33 : tie.Need-mul-t33
-mul-t33 c = search needs
-
-shared-slice-read-t35 : tie.Need-shared-slice-read-t35
-shared-slice-read-t35 c = search needs
+symbol-requires-2 : tie.Need-symbol-requires-2
+symbol-requires-2 c κs = search needs
 
 flag-requires-3 : tie.Need-flag-requires-3
 flag-requires-3 c κs = search needs
+
+add-t31 : tie.Need-add-t31
+add-t31 c = search needs
+
+mul-t32 : tie.Need-mul-t32
+mul-t32 c = search needs
+
+shared-slice-read-t34 : tie.Need-shared-slice-read-t34
+shared-slice-read-t34 c = search needs
+
+symbol-requires-3 : tie.Need-symbol-requires-3
+symbol-requires-3 c κs = search needs
 
 add-t37 : tie.Need-add-t37
 add-t37 c = search needs
@@ -91,56 +92,32 @@ mul-t38 c = search needs
 shared-slice-read-t40 : tie.Need-shared-slice-read-t40
 shared-slice-read-t40 c = search needs
 
-add-t42 : tie.Need-add-t42
-add-t42 c = search needs
-
-mul-t43 : tie.Need-mul-t43
-mul-t43 c = search needs
-
-shared-slice-read-t45 : tie.Need-shared-slice-read-t45
-shared-slice-read-t45 c = search needs
-
-add-t46 : tie.Need-add-t46
-add-t46 c = search needs
-
-mul-t47 : tie.Need-mul-t47
-mul-t47 c = search needs
-
-shared-slice-read-t49 : tie.Need-shared-slice-read-t49
-shared-slice-read-t49 c = search needs
-
 flag-requires-4 : tie.Need-flag-requires-4
 flag-requires-4 c κs = search needs
 
-add-t52 : tie.Need-add-t52
-add-t52 c = search needs
+add-t43 : tie.Need-add-t43
+add-t43 c = search needs
 
-mul-t53 : tie.Need-mul-t53
-mul-t53 c = search needs
+mul-t44 : tie.Need-mul-t44
+mul-t44 c = search needs
 
-shared-slice-read-t55 : tie.Need-shared-slice-read-t55
-shared-slice-read-t55 c = search needs
+shared-slice-read-t46 : tie.Need-shared-slice-read-t46
+shared-slice-read-t46 c = search needs
 
-add-t57 : tie.Need-add-t57
-add-t57 c = search needs
-
-mul-t58 : tie.Need-mul-t58
-mul-t58 c = search needs
-
-shared-slice-read-t60 : tie.Need-shared-slice-read-t60
-shared-slice-read-t60 c = search needs
+symbol-requires-4 : tie.Need-symbol-requires-4
+symbol-requires-4 c κs = search needs
 
 flag-requires-5 : tie.Need-flag-requires-5
 flag-requires-5 c κs = search needs
 
-add-t62 : tie.Need-add-t62
-add-t62 c = search needs
+add-t50 : tie.Need-add-t50
+add-t50 c = search needs
 
-mul-t63 : tie.Need-mul-t63
-mul-t63 c = search needs
+mul-t51 : tie.Need-mul-t51
+mul-t51 c = search needs
 
-shared-slice-read-t65 : tie.Need-shared-slice-read-t65
-shared-slice-read-t65 c = search needs
+shared-slice-read-t53 : tie.Need-shared-slice-read-t53
+shared-slice-read-t53 c = search needs
 
 returns-2 : tie.Need-returns-2
 unfolding nodeOf
@@ -160,25 +137,25 @@ returns-5 : tie.Need-returns-5
 unfolding nodeOf
 returns-5 c =
     let l = c .before .before .before .before .before .before .before .before .args .index .now in let k = c .before .before .before .before .before .before .before .before .args .n .0 in
-    ap (N.Push (fileId (getD l (BLOCK * k + FILE) 0)) (getD l (BLOCK * k + SYMBOL) 0)) (c .flag2 .ensures) ∙ node-in l k 4 (c .before .before .before .match .keys4)
+    (λ i. N.Push (fileId (getD l (BLOCK * k + FILE) 0)) (c .before .symbol .ensures i) (c .flag2 .ensures i)) ∙ node-in l k 4 (c .before .before .before .match .keys4)
 
 returns-6 : tie.Need-returns-6
 unfolding nodeOf
 returns-6 c =
     let l = c .before .before .before .before .before .before .before .before .args .index .now in let k = c .before .before .before .before .before .before .before .before .args .n .0 in
-    ap (N.Pop (fileId (getD l (BLOCK * k + FILE) 0)) (getD l (BLOCK * k + SYMBOL) 0)) (c .flag3 .ensures) ∙ node-in l k 5 (c .before .before .before .match .keys5)
+    (λ i. N.Pop (fileId (getD l (BLOCK * k + FILE) 0)) (c .before .symbol2 .ensures i) (c .flag3 .ensures i)) ∙ node-in l k 5 (c .before .before .before .match .keys5)
 
 returns-7 : tie.Need-returns-7
 unfolding nodeOf
 returns-7 c =
     let l = c .before .before .before .before .before .before .before .before .before .args .index .now in let k = c .before .before .before .before .before .before .before .before .before .args .n .0 in
-    ap (N.PushScoped (fileId (getD l (BLOCK * k + FILE) 0)) (getD l (BLOCK * k + SYMBOL) 0) (nodeId (getD l (BLOCK * k + SCOPE) 0))) (c .flag4 .ensures) ∙ node-in l k 6 (c .before .before .before .before .match .keys6)
+    (λ i. N.PushScoped (fileId (getD l (BLOCK * k + FILE) 0)) (c .before .before .symbol3 .ensures i) (nodeId (getD l (BLOCK * k + SCOPE) 0)) (c .flag4 .ensures i)) ∙ node-in l k 6 (c .before .before .before .before .match .keys6)
 
 returns-8 : tie.Need-returns-8
 unfolding nodeOf
 returns-8 c =
     let l = c .before .before .before .before .before .before .before .before .args .index .now in let k = c .before .before .before .before .before .before .before .before .args .n .0 in
-    ap (N.PopScoped (fileId (getD l (BLOCK * k + FILE) 0)) (getD l (BLOCK * k + SYMBOL) 0)) (c .flag5 .ensures) ∙ node-in l k 7 (c .before .before .before .match .keys7)
+    (λ i. N.PopScoped (fileId (getD l (BLOCK * k + FILE) 0)) (c .before .symbol4 .ensures i) (c .flag5 .ensures i)) ∙ node-in l k 7 (c .before .before .before .match .keys7)
 
 returns-9 : tie.Need-returns-9
 unfolding nodeOf
@@ -187,7 +164,7 @@ returns-9 c = node-in (c .before .before .before .before .before .before .args .
 returns-10 : tie.Need-returns-10
 returns-10 c =
     let l = c .before .before .before .before .before .args .index .now in let k = c .before .before .before .before .before .args .n .0 in let r = c .match .rest in
-    no-kind (getD l (BLOCK * k + KIND) 0) (getD l (BLOCK * k + FLAG) 0) (getD l (BLOCK * k + FILE) 0) (getD l (BLOCK * k + SYMBOL) 0) (getD l (BLOCK * k + SCOPE) 0)
+    no-kind (getD l (BLOCK * k + KIND) 0) (getD l (BLOCK * k + FLAG) 0) (getD l (BLOCK * k + FILE) 0) (joined (getD l (BLOCK * k + SYMBOL) 0) (getD l (BLOCK * k + SYMBOL-HIGH) 0)) (getD l (BLOCK * k + SCOPE) 0)
     (r .0 .0 .0 .0 .0 .0 .0 .1) (r .0 .0 .0 .0 .0 .0 .1) (r .0 .0 .0 .0 .0 .1) (r .0 .0 .0 .0 .1) (r .0 .0 .0 .1) (r .0 .0 .1) (r .0 .1) (r .1)
     ∙ node-in l k (getD l (BLOCK * k + KIND) 0) refl
 
@@ -208,37 +185,29 @@ node-spec =
     add-t17
     mul-t18
     shared-slice-read-t20
-    add-t22
-    mul-t23
-    shared-slice-read-t25
+    symbol-requires
     flag-requires-2
-    add-t27
-    mul-t28
-    shared-slice-read-t30
-    add-t32
-    mul-t33
-    shared-slice-read-t35
+    add-t24
+    mul-t25
+    shared-slice-read-t27
+    symbol-requires-2
     flag-requires-3
+    add-t31
+    mul-t32
+    shared-slice-read-t34
+    symbol-requires-3
     add-t37
     mul-t38
     shared-slice-read-t40
-    add-t42
-    mul-t43
-    shared-slice-read-t45
-    add-t46
-    mul-t47
-    shared-slice-read-t49
     flag-requires-4
-    add-t52
-    mul-t53
-    shared-slice-read-t55
-    add-t57
-    mul-t58
-    shared-slice-read-t60
+    add-t43
+    mul-t44
+    shared-slice-read-t46
+    symbol-requires-4
     flag-requires-5
-    add-t62
-    mul-t63
-    shared-slice-read-t65
+    add-t50
+    mul-t51
+    shared-slice-read-t53
     returns-2
     returns-3
     returns-4

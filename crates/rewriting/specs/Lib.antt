@@ -1,0 +1,4 @@
+pub mod Records
+pub mod Held
+pub mod Whole
+pub mod Rewrites
