@@ -16,19 +16,21 @@ use Rattle.semantics.specs.Limits.{base, maxEdges, slotLength, recordLen
 use Rattle.semantics.specs.Words.{zeros}
 use Rattle.semantics.specs.Recorded.{returned, recorded}
 use Rattle.semantics.specs.Image.{symbolBytes, checkImage}
-use Rattle.semantics.specs.Told.{toldChecked, toldReplayed, toldJudgement, toldResolution, toldLinearResolution, toldCreation, toldReplacement, toldFinding, toldPart}
+use Rattle.semantics.specs.Told.{toldChecked, toldReplayed, toldJudgement, toldResolution, toldLinearResolution, toldCreation, toldReplacement, toldFinding, toldRewriting, toldPart}
 use Rattle.semantics.specs.Database.{knownOwners, lookupPart}
 use Rattle.semantics.specs.Calls.{edge, jump, noPath, checkCall, replayCall, completeCall, shadowsCall, directCall, linearCall, stitchedCall, freshCall, replaceCall}
 use Rattle.semantics.specs.Finding.{findCall}
+use Rattle.semantics.specs.Rewriting.{rewriteCall}
 use Rattle.semantics.specs.Asked.{orderAsked, limitsAsked, lengthAsked, expansionsAsked}
 use Rattle.semantics.specs.Written.{written}
 use Rattle.semantics.specs.Path.{Symbol}
 use Rattle.semantics.specs.PathWords.{symbolWords, pathWords}
 use Rattle.semantics.specs.ReplayedPaths.{scopesFrom, symbolsFrom, passagesTo, readPath}
-use Rattle.semantics.specs.Entries.{checkOf, replayOf, completeOf, shadowsOf, lookupOf, freshDatabase, directAsked, linearAsked, stitchedAsked, nameAsked, replaceAsked}
+use Rattle.semantics.specs.Entries.{checkOf, replayOf, completeOf, shadowsOf, lookupOf, widenImage, narrowImage, freshDatabase, directAsked, linearAsked, stitchedAsked, nameAsked, replaceAsked}
 use Rattle.semantics.specs.Cases.Rows.{Row, _gives_, Agreed}
 use Rattle.semantics.specs.Cases.Graphs.{imageA, imageB}
 use Rattle.semantics.specs.Cases.Asked.{firstFiled}
+use Rattle.semantics.specs.Cases.Versions.{imageHigh}
 
 abbrev orderTold : SearchOrder → ℕ
 orderTold BreadthFirst = 0
@@ -102,7 +104,7 @@ writing-cases = refl
 
 -- EACH ENTRY: its arguments in their places, every number of what is asked another one
 pub entered : List (Row (List ℕ))
-unfolding checkCall replayCall completeCall shadowsCall directCall linearCall stitchedCall findCall freshCall replaceCall lookupPart checkImage firstFiled returned recorded
+unfolding checkCall replayCall completeCall shadowsCall directCall linearCall stitchedCall findCall rewriteCall freshCall replaceCall lookupPart checkImage firstFiled returned recorded
 entered =
     (toldChecked (checkOf imageA) gives 0 ∷ 1 ∷ 6 ∷ 3 ∷ [])
     ∷ (toldReplayed (replayOf imageA 2 (0 ∷ 2 ∷ []) .answer) gives 15 ∷ 5 ∷ [])
@@ -126,6 +128,13 @@ entered =
     ∷ (toldFinding (nameAsked imageA 3 [] (zeros slotLength) (zeros slotLength) .answer) gives 37 ∷ 3 ∷ [])
     ∷ (toldFinding (nameAsked imageB 4 [] (zeros slotLength) (zeros (8 * slotLength)) .answer) gives 31 ∷ [])
     ∷ (toldFinding (nameAsked imageB 4 [] (zeros (8 * slotLength)) (zeros slotLength) .answer) gives 32 ∷ [])
+    -- a rewrite: the image, then the lent bytes, of which the number alone is read; each call its own direction
+    ∷ (toldRewriting (widenImage imageA (9 ∷ zeros 88) .answer) gives 0 ∷ 89 ∷ [])
+    ∷ (toldRewriting (widenImage imageA (zeros 88) .answer) gives 32 ∷ [])
+    ∷ (widenImage imageA (9 ∷ 9 ∷ []) .bytes gives 0 ∷ 0 ∷ [])
+    ∷ (toldRewriting (narrowImage imageA (zeros 89) .answer) gives 1 ∷ [])
+    ∷ (toldRewriting (narrowImage imageHigh (zeros 77) .answer) gives 38 ∷ 15 ∷ [])
+    ∷ (narrowImage imageHigh (9 ∷ 9 ∷ []) .bytes gives 0 ∷ 0 ∷ [])
     ∷ (freshDatabase imageA (9 ∷ 9 ∷ 9 ∷ 9 ∷ []) .database gives 0 ∷ 6 ∷ 1 ∷ 0 ∷ [])
     ∷ (toldCreation (freshDatabase imageA (9 ∷ 9 ∷ []) .answer) gives 35 ∷ [])
     -- a replacement of file 0: unlimited, with a length limit of 1, with an expansion limit of 2; of a file that is none
