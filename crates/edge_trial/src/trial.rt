@@ -8,13 +8,12 @@ ghost use Rattle.semantics.specs.Lists.{has};
 ghost use Rattle.semantics.specs.Limits.{within, maxEdges};
 ghost use Rattle.storage.specs.Index.{Blocks, nodeRow, edgeRow};
 ghost use Rattle.stepping.specs.Judged.{Ready, judgedOf};
-ghost use Rattle.edge_trial.specs.Trials.{triedBy, trialBy};
+ghost use Rattle.edge_trial.specs.Trials.{judgementBy, triedBy, trialBy};
+use crate::judgement;
 use path_budget::budget::Budget;
 use search_state::path_slot;
 use semantics::bounds::MAX_EDGES;
-use stepping::step;
-use stepping::step::Effect;
-use stepping::steps;
+use semantics::judgement::EdgeJudgement;
 
 pub enum EdgeTrial {
     Cut,
@@ -24,18 +23,16 @@ pub enum EdgeTrial {
     Extended { complete: bool },
 }
 
-// The edge is appended, or rejected by the path rules.
+// As it is judged; what a rejected edge is refused with is not asked here.
 fn tried(index: &[u32], steps: &[u32], k: u32, edge: u32) -> EdgeTrial
     requires { ⌜ Blocks (now index) × Ready (now steps) k ⌝ }
-    ensures { λ r. ⌜ r ≡ triedBy (nodeRow (now (index .entry))) (judgedOf (nodeRow (now (index .entry))) (now (steps .entry)) k edge (edgeRow (now (index .entry)) edge)) ⌝ }
+    ensures { λ r. ⌜ r ≡ triedBy (judgementBy (nodeRow (now (index .entry))) (judgedOf (nodeRow (now (index .entry))) (now (steps .entry)) k edge (edgeRow (now (index .entry)) edge))) ⌝ }
 {
-    let effect = steps::judge(index, steps, k, edge);
-    let Effect::Done(step) = effect else {
+    let judged = judgement::judge(index, steps, k, edge);
+    let EdgeJudgement::Extends { complete } = judged else {
         return EdgeTrial::Rejected;
     };
-    EdgeTrial::Extended {
-        complete: step::is_complete(index, step),
-    }
+    EdgeTrial::Extended { complete }
 }
 
 // `edges` are those of the path; its steps stand in `steps`.

@@ -15,6 +15,7 @@ pub mod Graphs
 pub mod Asked
 pub mod Images
 pub mod Paths
+pub mod Judgements
 pub mod Searches
 pub mod Waiting
 pub mod Linear

@@ -5,6 +5,7 @@ pub mod Told
 pub mod Graph
 pub mod Rules
 pub mod Path
+pub mod Judgement
 pub mod Enumeration
 pub mod Direct
 pub mod Linear

@@ -2,6 +2,7 @@
 pub mod answer;
 pub mod bounds;
 pub mod graph;
+pub mod judgement;
 pub mod kinds;
 pub mod refusal;
 pub mod replayed;
