@@ -3,7 +3,7 @@
 
 A Rattle slice `name: &[u8]` is passed as a pointer and a length: `name: *const u8, name_len: usize`. Names, order and types are compared, in
 every file that declares the functions; so is each type of a function pointer with the functions of its shape. A difference is printed and
-ends with status 1. What is exported only to be compiled as a function of its own (docs/DECISIONS.md) is declared nowhere.
+ends with status 1.
 """
 
 import re
@@ -14,7 +14,6 @@ from signatures import crates, plain, split
 
 TOP = Path(__file__).resolve().parent.parent
 FILES = [TOP / "service" / "src" / "link.rs", TOP / "oracle" / "compare" / "src" / "ours.rs"]
-OURS_ALONE = {"pozhdaghi_replace_file_large"}
 SLICE = re.compile(r"&(mut )?\[(\w+)\]")
 DECLARED = re.compile(r"\bfn (pozhdaghi_\w+)\s*\(([^()]*)\)\s*;")
 POINTERS = re.compile(r"pub type (\w+) = unsafe extern \"C\" fn\(([^()]*)\);")
@@ -35,8 +34,6 @@ def passed(parameters):
 
 def main():
     exported = {f.name: passed(f.parameters) for _, _, functions in crates(TOP) for f in functions if f.exported}
-    for name in OURS_ALONE:
-        del exported[name]
     wrong = [f"{name} has a result" for _, _, fs in crates(TOP) for f in fs if f.exported and f.result for name in [f.name]]
     for path in FILES:
         text = re.sub(r"//[^\n]*", "", path.read_text())

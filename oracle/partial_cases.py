@@ -5,7 +5,7 @@
 
 writes the fourth list of crates/cases/stdin, and into stdout what the program
 must print of it, and tells how many cases of each sort there are. The expected answers
-are those of partials.py, a second reading of document 01. Wherever the Rust
+are those of partials.py, a second reading of documents 01 and 02. Wherever the Rust
 has an answer it is asked through the oracle and must agree: the partial paths
 of the file without the bound of 127 edges and without areas, on each accepted
 image and known or unknown file; the statistics of the replacement and every
@@ -13,8 +13,9 @@ slot after it, where nothing is refused; the slots of a fresh database; the
 edges that a lookup answers, on every database that does not meet 35 and stores
 an N and an F that an image can have. What the Rust lacks, 30, 31, 33, 34, 35
 and every word of the database and the work area, comes from partials.py and
-document 01 alone; the refusals 1 to 5 of an image come from refusals.py. 36 is
-not tried: the 16,777,217th expansion takes too long.
+the documents alone, and so does all that is asked of a database with slots that
+belong to no file (document 02, order 5); the refusals 1 to 5 of an image come
+from refusals.py. 36 is not tried: the 16,777,217th expansion takes too long.
 
 A case is a tag and what the tag says; numbers are big-endian:
 
@@ -67,6 +68,11 @@ The list holds, in this order:
   on smaller ones, in one database;
 - a graph of 2,048 nodes and 4,096 edges in 256 files;
 - random graphs, with random files, limits, areas and databases;
+- databases with slots that belong to no file, whose first word is 65,535: put
+  there before, between and behind the files, kept when these are replaced,
+  looked up; in the way of 33; files 65,533 to 65,536 (21); each demand of 35 on
+  such a slot met and broken by one, other first words, N and F stored about
+  those of the graph;
 - words that meet 35 and 34 at once.
 
 All draws are seeded.
@@ -82,10 +88,10 @@ from images import (DROP_SCOPES, GRAPH_A, GRAPH_B, GRAPH_C, JUMP, POP,
                     POP_SCOPED, PROGRAM, PUSH, PUSH_SCOPED, REMOVED,
                     ROOT_AND_JUMP, SCOPE, Edge, Graph, Node, Oracle,
                     broken_rule, fields, image, may_join, random_graph)
-from partials import (COUNT, EDGES, END, FILES, FIRST_RECORD, MOST_RECORDS,
-                      NODES, OWNER, RECORD, START, USED, Extraction,
-                      PartialPath, check_words, extracted, fresh, looked_up,
-                      place, record, replaced, slots)
+from partials import (ALIASES, COUNT, EDGES, END, FILES, FIRST_RECORD,
+                      MOST_RECORDS, NOBODY, NODES, OWNER, RECORD, START, USED,
+                      Extraction, PartialPath, check_words, extracted, fresh,
+                      has_aliases, looked_up, place, record, replaced, slots)
 from path_cases import LAST, damaged_images, error_told, listed, longs
 from refusals import Refused, checked
 from search_cases import (FILLS, SCOPED, SLOT, TWO_LOOPS, area_told, around,
@@ -181,7 +187,7 @@ class CaseList:
         self.numbers = {kind: collections.Counter() for kind in NAMES}
         self.flags, self.paths = collections.Counter(), collections.Counter()
         self.compared = collections.Counter()
-        self.longest = 0
+        self.longest = self.beside_aliases = 0
 
     def sums(self):
         """How many cases there are by kind."""
@@ -248,7 +254,9 @@ class CaseList:
         self.compared["paths"] += 1
 
     def compare_replaced(self, asked, found, after):
-        """So must a replacement that nothing refuses, and its slots."""
+        """So must a replacement that nothing refuses, and its slots, if all have a file."""
+        if has_aliases(self.words):
+            return
         self.ask_same("words", database_request(self.words), "ok")
         stats = stats_told(self.oracle.ask(f"R {asked}"))
         if stats != (found.counts, found.flags):
@@ -281,13 +289,14 @@ class CaseList:
         self.numbers["R"][told[0]] += 1
         asked = (longs([file]) + order.encode() + limit_bytes(length) + limit_bytes(count)
                  + longs([self.rng.choice(FILLS), work]))
+        self.beside_aliases += told[0] == 0 and has_aliases(self.words)
         self.add("R", asked, told + runs_told(self.words, after) + area_told([0] * work), after)
 
     def lookup(self, number):
         """The edges of a number."""
         edges = looked_up(self.words, number)
-        if (not is_malformed(self.words) and self.words[NODES] <= MOST_NODES
-                and self.words[FILES] <= MOST_FILES):
+        if (not is_malformed(self.words) and not has_aliases(self.words)
+                and self.words[NODES] <= MOST_NODES and self.words[FILES] <= MOST_FILES):
             self.ask_same("words", database_request(self.words), "ok")
             answer = listed(self.oracle.ask("B").split()[1], ";")
             slot = answer[number] if number < len(answer) else "x"
@@ -656,6 +665,105 @@ def add_large_graph(cases, rng):
     cases.lookups(*range(8))
 
 
+# Edges 1 and 6 lead from root to root, 4 from root to jump; all others have an end in the file.
+ALIASED = Graph(1, ROOT_AND_JUMP + [Node(PUSH, symbol=7, flag=True), Node(SCOPE, flag=True)],
+                [Edge(2, 0), Edge(0, 0), Edge(0, 3), Edge(3, 1), Edge(0, 1), Edge(3, 0),
+                 Edge(0, 0), Edge(3, 3)])
+# The fewest edges with which an edge from root to jump, 3, leads to a definition.
+OVER_JUMP = Graph(1, ROOT_AND_JUMP + [
+    Node(PUSH, symbol=7, flag=True), Node(PUSH_SCOPED, symbol=9, scope=5),
+    Node(POP_SCOPED, symbol=9), Node(SCOPE, flag=True), Node(POP, symbol=7, flag=True)],
+    [Edge(2, 3), Edge(3, 4), Edge(4, 0), Edge(0, 1), Edge(5, 6)])
+WITH_ALIASES = (GRAPH_C, TWO_FILES, ALIASED, OVER_JUMP)
+
+
+def check_aliases():
+    """The lists that belong to no file, found by hand, and how many there are of six loops."""
+    breadth = [(1,), (4,), (6,), (1, 4), (1, 6), (6, 1), (6, 4), (1, 6, 4), (6, 1, 4)]
+    depth = [(1,), (4,), (6,), (1, 4), (1, 6), (1, 6, 4), (6, 1), (6, 4), (6, 1, 4)]
+    stated = ((GRAPH_C, "b", [(1,)]), (OVER_JUMP, "b", [(3,)]), (ALIASED, "b", breadth),
+              (ALIASED, "d", depth), (GRAPH_A, "b", []))
+    for graph, order, lists in stated:
+        found = extracted(graph, Extraction(None, order)).paths
+        ends = [graph.edges[edges[-1]].target for edges in lists]
+        if found != [PartialPath(NOBODY, 0, *path) for path in zip(ends, lists)]:
+            raise ValueError(f"{graph}: {found}")
+    six = Graph(0, ROOT_AND_JUMP, [Edge(0, 0)] * 6 + [Edge(0, 1)])
+    if len(extracted(six, Extraction(None)).paths) != 3_913:
+        raise ValueError("six loops and an edge to jump")
+
+
+def filed_with_aliases(graph, before, records):
+    """A fresh database in which every file was replaced, the set of no file behind so many."""
+    words = fresh(graph, [0] * place(records))
+    owners = list(range(graph.files))
+    owners.insert(before, None)
+    for file in owners:
+        words = replaced(graph, Extraction(file), words)[1]
+    return words
+
+
+def add_aliases(cases):
+    """Slots that belong to no file beside those of files."""
+    check_aliases()
+    for graph in WITH_ALIASES:
+        cases.load(graph)
+        for before in range(graph.files + 1):
+            cases.lend(filed_with_aliases(graph, before, 80))
+            cases.lookups(*range(min(cases.words[USED], 6)))
+            for file in [*range(graph.files), NOBODY - 1, NOBODY, ALIASES, ALIASES + 1]:
+                cases.replace(file, cases.rng.choice("bd"), work=30 * SLOT)
+            cases.lookups(*cases.rng.sample(range(cases.words[USED]), 3))
+            cases.replace(0, "b", length=1)
+            cases.replace(0, "d", count=0)
+    add_aliases_in_the_way(cases)
+    add_malformed_aliases(cases)
+
+
+def add_aliases_in_the_way(cases):
+    """Slots of no file take room of which 33 speaks; 31 comes first."""
+    cases.load(GRAPH_C)
+    filed = filed_with_aliases(GRAPH_C, 0, 4)
+    for records in (4, 6, 7, 8):
+        cases.lend(filed + [RUBBISH] * (RECORD * (records - 4)))
+        cases.replace(0, "d")
+        cases.replace(0, "b", work=SLOT)
+        cases.lookup(0)
+
+
+def aliased_words():
+    """A database for C: slots 0 and 3 belong to no file, 1 to file 0, 2 is dead with any words."""
+    dead = [0, RUBBISH, LAST, 200, ALIASES] + [0] * (RECORD - 6) + [ALIASES]
+    behind = record(PartialPath(NOBODY, 0, 0, (1,)))[:-1] + [RUBBISH]
+    return ([4, 4, 1] + behind + record(PartialPath(0, 2, 3, (0, 2))) + dead
+            + record(PartialPath(NOBODY, 2, LAST, (0, 1, LAST)))
+            + [RUBBISH] * 5 + [0] * (3 * RECORD - 5))
+
+
+def malformed_aliases():
+    """Such words with one altered, so that each demand of 35 is met and broken by one."""
+    good = aliased_words()
+    altered_words = [(NODES, nodes) for nodes in (0, 1, 2, 3, 5, LAST)]
+    altered_words += [(FILES, files) for files in (0, 2, NOBODY, ALIASES, ALIASES + 1)]
+    for number, (field, values) in itertools.product((0, 3), (
+            (OWNER, (0, 1, 2, NOBODY, ALIASES, ALIASES + 1, LAST)),
+            (START, (0, 3, 4, ALIASES, LAST)),
+            (COUNT, (0, 1, 127, 128, ALIASES)), (END, (LAST,)), (EDGES, (3, LAST)))):
+        altered_words += [(place(number) + field, value) for value in values]
+    for at, value in altered_words:
+        yield good[:at] + [value] + good[at + 1:]
+
+
+def add_malformed_aliases(cases):
+    """35 and 34 with slots of no file, before the file and the areas."""
+    cases.load(GRAPH_C)
+    for words in malformed_aliases():
+        cases.lend(words)
+        cases.lookups(0, 1, 3)
+        cases.replace(NOBODY, work=0)
+        cases.replace(0, cases.rng.choice("bd"), count=cases.rng.choice((0, 2, None)))
+
+
 def any_limit(rng):
     """Absent, none, small, or very large."""
     return rng.choices((None, 0, rng.randint(1, 4), rng.randint(2, 12), rng.getrandbits(64)),
@@ -736,7 +844,7 @@ def add_all(cases):
         "refilings": lambda cases: add_refilings(cases, random.Random(2), chains=14),
         "large graph": lambda cases: add_large_graph(cases, random.Random(3)),
         "random graphs": lambda cases: add_random_graphs(cases, random.Random(4), graphs=30),
-        "malformed and outgrown": add_both_refused}
+        "aliases": add_aliases, "malformed and outgrown": add_both_refused}
     for name, add in sections.items():
         before, size = cases.sums(), len(cases.written)
         add(cases)
@@ -757,6 +865,7 @@ def main():
     print("lookups by edges, 10 for more:", dict(sorted(cases.numbers["U"].items())))
     print("flags of length, path count:", dict(sorted(cases.flags.items())))
     print("paths filed, 10 for more:", dict(sorted(cases.paths.items())))
+    print("done beside slots that belong to no file:", cases.beside_aliases)
     print("compared with the Rust:", dict(cases.compared))
     print("longest answer:", cases.longest)
     print("bytes:", len(cases.written))

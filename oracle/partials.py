@@ -1,4 +1,4 @@
-"""Partial paths and the database in words, written a second time from document 01.
+"""Partial paths and the database in words, written a second time from documents 01 and 02.
 
 The Rust keeps its database in vectors that grow, so the bound of 127 edges,
 waiting slots, the words of a database and the refusals 30, 31, 33, 34 and 35
@@ -10,6 +10,12 @@ find what the Rust finds, which partial_cases.py holds it to.
 answers the partial paths of a file, `fresh` and `replaced` the words that a
 database consists of after those calls, `looked_up` the edges of a number. A
 refused call raises Refused with the number and its values.
+
+Document 02, order 5: "A database may hold one further set, whose slots have
+65,535 as their first word: the same computation from root over just those
+edges", those of which neither end has a file. Here it is asked for by the file
+None, and its partial paths have NOBODY in the place of the file. "It is
+accepted by 35", which tests its edge counts and starts as those of any other.
 """
 
 from typing import NamedTuple, Optional
@@ -23,11 +29,15 @@ USED, NODES, FILES, FIRST_RECORD = range(4)
 OWNER, START, END, COUNT, EDGES = range(5)
 RECORD = EDGES + MOST_EDGES
 MOST_RECORDS = 4_096
+# The first word of a record of the further set, and what stands in the place of its file.
+ALIASES = 65_535
+NOBODY = ALIASES - 1
 
 
 class Extraction(NamedTuple):
-    """What is asked of a file; None is a limit, an area or a bound that is absent."""
-    file: int
+    """What is asked of a file, or of the edges of none for None; None is also a limit, an
+    area or a bound that is absent."""
+    file: Optional[int]
     order: str = "b"
     length: Optional[int] = None
     count: Optional[int] = None
@@ -40,7 +50,7 @@ class Extraction(NamedTuple):
 
 
 class PartialPath(NamedTuple):
-    """A partial path, or a route that may become one."""
+    """A partial path, or a route that may become one; of a file or of NOBODY."""
     file: int
     start: int
     end: int
@@ -65,36 +75,50 @@ def is_start(node):
     return node.flag and node.kind in (PUSH, PUSH_SCOPED, SCOPE)
 
 
+def starts(graph, file):
+    """Root, then the file's starts by number; root alone for the edges of no file."""
+    return [0] + [number for number, node in enumerate(graph.nodes)
+                  if file is not None and in_file(node, file) and is_start(node)]
+
+
 def is_endpoint(node):
     """Root, exported scope, definition, jump."""
     return node.kind in (ROOT, JUMP) or node.flag and node.kind in (SCOPE, POP, POP_SCOPED)
 
 
-def file_edges(graph, node, file):
-    """The outgoing edges of a node of which either end is of the file."""
-    ends = {number: (graph.edges[number].source, graph.edges[number].target)
-            for number in graph.outgoing(node)}
-    return [number for number in ends
-            if any(in_file(graph.nodes[end], file) for end in ends[number])]
+def is_own(graph, edge, file):
+    """Whether either end is of the file; for None, whether neither end has a file."""
+    ends = [graph.nodes[edge.source], graph.nodes[edge.target]]
+    if file is None:
+        return all(node.kind in (ROOT, JUMP) for node in ends)
+    return any(in_file(node, file) for node in ends)
+
+
+def own_edges(graph, node, file):
+    """The outgoing edges of a node that the file has, or that belong to none."""
+    return [number for number in graph.outgoing(node) if is_own(graph, graph.edges[number], file)]
+
+
+def owner(file):
+    """What stands in the place of the file in a partial path."""
+    return NOBODY if file is None else file
 
 
 def extracted(graph, request):
-    """The partial paths of a file in the order found, or 21, 30, 31 or 36."""
+    """The partial paths of a file or of none in the order found, or 21, 30, 31 or 36."""
     file = request.file
-    if file >= graph.files:
+    if file is not None and file >= graph.files:
         raise Refused(21, file)
     search, waiting, paths = Search(graph, request), [], []
-    starts = [0] + [number for number, node in enumerate(graph.nodes)
-                    if in_file(node, file) and is_start(node)]
-    for start in starts:
+    for start in starts(graph, file):
         search.wait(len(waiting))
-        waiting.append(PartialPath(file, start, start, ()))
+        waiting.append(PartialPath(owner(file), start, start, ()))
     while waiting:
         route = waiting.pop(0)
         if not search.expands():
             break
         successors = []
-        for edge in file_edges(graph, route.end, file):
+        for edge in own_edges(graph, route.end, file):
             if search.admits(route.edges, [edge]):
                 longer = route._replace(end=graph.edges[edge].target, edges=route.edges + (edge,))
                 paths += [longer] * is_endpoint(graph.nodes[longer.end])
@@ -125,11 +149,11 @@ def record(path):
 
 def path_at(words, number):
     """The partial path that a record holds, None where it is dead."""
-    owner, start, end, count = words[place(number):place(number) + EDGES]
-    if owner == 0:
+    first, start, end, count = words[place(number):place(number) + EDGES]
+    if first == 0:
         return None
-    first = place(number) + EDGES
-    return PartialPath(owner - 1, start, end, tuple(words[first:first + count]))
+    edges = place(number) + EDGES
+    return PartialPath(first - 1, start, end, tuple(words[edges:edges + count]))
 
 
 def slots(words):
@@ -138,10 +162,16 @@ def slots(words):
 
 
 def is_sound(words, number):
-    """Whether a record is dead or has a known file and start and 1 to 127 edges."""
-    owner, start, _, count = words[place(number):place(number) + EDGES]
-    return owner == 0 or (owner - 1 < words[FILES] and start < words[NODES]
-                          and 1 <= count <= MOST_EDGES)
+    """Whether a record is dead, or of a known file or none and with a known start and 1 to 127
+    edges."""
+    first, start, _, count = words[place(number):place(number) + EDGES]
+    is_known = first - 1 < words[FILES] or first == ALIASES
+    return first == 0 or (is_known and start < words[NODES] and 1 <= count <= MOST_EDGES)
+
+
+def has_aliases(words):
+    """Whether a used record is of the further set, which the Rust does not have."""
+    return any(words[place(number)] == ALIASES for number in range(words[USED]))
 
 
 def check_words(words):
@@ -167,7 +197,8 @@ def fresh(graph, words):
 
 
 def replaced(graph, request, words):
-    """What was extracted, and the words with it in the place of the file's old records."""
+    """What was extracted, and the words with it in the place of the old records of the file,
+    or of those that have none."""
     check_database(graph, words)
     found = extracted(graph, request)
     used = words[USED]
@@ -175,7 +206,7 @@ def replaced(graph, request, words):
         raise Refused(33)
     after = list(words)
     for number in range(used):
-        if words[place(number)] == request.file + 1:
+        if words[place(number)] == owner(request.file) + 1:
             after[place(number):place(number + 1)] = record(None)
     for number, path in enumerate(found.paths, used):
         after[place(number):place(number + 1)] = record(path)

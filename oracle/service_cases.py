@@ -73,7 +73,7 @@ def example_calls():
     replaced = [request for file in range(3) for order in "bd" for limits in FILE_LIMITS
                 for request in ("N", f"R {file} {order} {limits}", "B")]
     none = [*searches("DdLlSs", [2, 18, 19, LAST], [NO_LIMITS], "b"),
-            "R 3 b - -", f"R {LAST} b - -"]
+            "R 3 b - -", "R 65534 b - -", f"R {LAST} b - -"]
     sides = [(left, right) for left in EXAMPLE_PATHS[:5] for right in EXAMPLE_PATHS[:5]]
     sides += [("7 9,10", "15 23,26"), ("15 23,26", "7 9,10"), ("15 23,26", "15 23,27"),
               ("15 23,27", "15 23,26")]

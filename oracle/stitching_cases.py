@@ -5,15 +5,15 @@
 
 writes the last list of crates/cases/stdin, and into stdout what the program
 must print of it, and tells how many cases of each sort there are. The expected
-answers are those of stitched.py and partials.py, a second reading of document
-01. Wherever image and database are accepted the request is also put to the
-oracle, that is to the given Rust with the same slots, which must answer as
-stitched.py does without the bound of 127 edges and without areas; where the
-bound and the areas refuse nothing, that is the expected answer itself. What
-the Rust lacks, 30, 31, 32, 34, 35 and every word of the areas, comes from
-stitched.py, partials.py and document 01 alone; the refusals 1 to 5 of an image
-come from refusals.py. 36 is not tried: the 16,777,217th expansion takes too
-long.
+answers are those of stitched.py and partials.py, a second reading of documents
+01 and 02. Wherever image and database are accepted and every slot has a file the
+request is also put to the oracle, that is to the given Rust with the same slots,
+which must answer as stitched.py does without the bound of 127 edges and without
+areas; where the bound and the areas refuse nothing, that is the expected answer
+itself. What the Rust lacks, 30, 31, 32, 34, 35, slots that belong to no file and
+every word of the areas, comes from stitched.py, partials.py and the documents
+alone; the refusals 1 to 5 of an image come from refusals.py. 36 is not tried: the
+16,777,217th expansion takes too long.
 
 A case is a tag and what the tag says; numbers are big-endian:
 
@@ -53,6 +53,9 @@ The list holds, in this order:
 - a graph of 2,048 nodes and 4,096 edges in 256 files;
 - databases of one graph read with another: cleared, grown, or smaller (34);
 - random graphs with all their partial paths, and with any slots;
+- databases with slots that belong to no file (document 02, order 5): beside
+  every file's, where direct search records the same; of any start and edges; with
+  each demand of 35 on them met and broken by one;
 - words that meet 35 and 34 at once;
 - A, B, C and others in version 2 (document 02, order 3), with symbols that
   differ in their high halves alone, and in their low ones.
@@ -68,12 +71,14 @@ import random
 from image_cases import mixed_graph
 from images import (FAR_APART, GRAPH_A, GRAPH_B, GRAPH_C, HIGH_ALIKE, NARROW,
                     PROGRAM, WIDE, Oracle, image, random_graph)
-from partial_cases import (KINDS, RUBBISH, TWO_FILES, database_request,
-                           few_paths, filed_on_a, is_malformed,
+from partial_cases import (KINDS, OVER_JUMP, RUBBISH, TWO_FILES, WITH_ALIASES,
+                           database_request, few_paths, filed_on_a,
+                           filed_with_aliases, is_malformed, malformed_aliases,
                            malformed_and_outgrown, next_graph, words_told)
-from partials import (COUNT, EDGES, END, FILES, MOST_RECORDS, NODES, OWNER,
-                      RECORD, START, USED, Extraction, PartialPath,
-                      check_database, fresh, place, record, replaced, slots)
+from partials import (COUNT, EDGES, END, FILES, MOST_RECORDS, NOBODY, NODES,
+                      OWNER, RECORD, START, USED, Extraction, PartialPath,
+                      check_database, fresh, has_aliases, place, record,
+                      replaced, slots)
 from path_cases import (BESIDE_JUMPS, CHAINS, LAST, LOOPS, PRECEDENCES, RULES,
                         damaged_images, longs)
 from refusals import Refused, checked
@@ -169,6 +174,10 @@ class CaseList:
         return (not is_malformed(self.words) and self.words[NODES] <= len(self.graph.nodes)
                 and self.words[FILES] <= self.graph.files)
 
+    def is_comparable(self):
+        """Whether the Rust has such a database: every slot belongs to a file."""
+        return self.is_read() and not has_aliases(self.words)
+
     def compare(self, kind, request):
         """The Rust and stitched.py must agree where there are no bounds and areas."""
         limits = map(limit_word, (request.length, request.count, request.complete))
@@ -183,7 +192,7 @@ class CaseList:
         """The numbers of the answer and of the areas."""
         told, paths = self.checked, []
         if told[0] == 0:
-            if self.is_read():
+            if self.is_comparable():
                 self.compare(kind, request)
             told = model_told(self.graph, self.words, request, kind.islower())
         if isinstance(told, tuple):
@@ -541,6 +550,56 @@ def add_scopes(cases):
                 cases.some(reference, (None, count, None), work=100 * SLOT, result=20 * SLOT)
 
 
+def check_agreement(graph, words):
+    """With all partial paths, those of no file too, both searches record the same."""
+    for reference in graph.references():
+        request = Request(reference, False)
+        recorded = [sorted(edge_lists(found, True)) for found in (
+            stitched(graph, slots(words), request), direct(graph, request))]
+        if recorded[0] != recorded[1]:
+            raise ValueError(f"{graph} from {reference}: {recorded}")
+    if graph == GRAPH_C and recorded[0] != [[0, 1, 2], [0, 2]]:
+        raise ValueError(f"C: {recorded}")
+    if graph == OVER_JUMP and recorded[0] != [[0, 1, 2, 3, 4]]:
+        raise ValueError(f"{graph}: {recorded}")
+
+
+def add_aliases(cases):
+    """Slots that belong to no file: all of them, any, and those that meet 35."""
+    large = {"work": 60 * SLOT, "result": 60 * SLOT}
+    for graph in WITH_ALIASES:
+        cases.load(graph)
+        for before in range(graph.files + 1):
+            words = filed_with_aliases(graph, before, 80)
+            check_agreement(graph, words)
+            cases.lend(words)
+            for reference in graph.references():
+                cases.every(reference, **large)
+                cases.either(reference, (3, None, None), **large)
+                cases.either(reference, (None, 5, 2), **large)
+                cases.either(reference)
+    cases.load(GRAPH_C)
+    for words in malformed_aliases():
+        cases.lend(words)
+        cases.some(2)
+        cases.either(cases.rng.choice((0, LAST)), work=0)
+    add_any_aliases(cases, random.Random(6), graphs=12)
+
+
+def add_any_aliases(cases, rng, graphs):
+    """Any slots, of which some belong to no file; the searches take them as the others."""
+    while graphs > 0:
+        graph = random_graph(rng)
+        if not has_way(graph):
+            continue
+        graphs -= 1
+        cases.load(graph)
+        paths = [path if path is None or rng.random() < 0.5 else path._replace(file=NOBODY)
+                 for path in any_slots(rng, graph, rng.randint(3, 12))]
+        cases.lend(holding(graph, paths))
+        ask_any(cases, rng, 5)
+
+
 def add_both_refused(cases):
     """35 comes before 34, and both before the reference."""
     cases.load(GRAPH_A)
@@ -578,7 +637,8 @@ def add_all(cases):
         "large graph": lambda cases: add_large_graph(cases, random.Random(2)),
         "stale": lambda cases: add_stale(cases, random.Random(3), chains=14),
         "random graphs": lambda cases: add_random_graphs(cases, random.Random(4), graphs=34),
-        "malformed and outgrown": add_both_refused, "wide symbols": add_wide_symbols}
+        "aliases": add_aliases, "malformed and outgrown": add_both_refused,
+        "wide symbols": add_wide_symbols}
     for name, add in sections.items():
         before, size = cases.sums(), len(cases.written)
         add(cases)

@@ -44,8 +44,8 @@ pub struct Resolution {
     pub statistics: Statistics,
 }
 
-/// What the computation of a file's partial paths counted, and which limits it
-/// met.
+/// What the computation of a file's partial paths, or of the alias set, counted, and
+/// which limits it met.
 #[derive(Clone, Copy, Debug, Default, PartialEq, Eq)]
 pub struct PartialStatistics {
     pub expanded: u64,

@@ -362,6 +362,50 @@ pub fn replace_file(
     answer::replacement(&told)
 }
 
+/// Replaces the alias set in the database: the partial paths of the edges that
+/// belong to no file, those from root to root and from root to jump. They are
+/// computed as a file's are, but from root alone and over just these edges, and
+/// their slots have `ALIASES` as their first word. The slots of files stay as they
+/// are; a refused call alters no word.
+///
+/// With the set beside every file's partial paths and no others, all of them
+/// replaced on this graph without limits, stitched search records what direct
+/// search records. Without it stitching misses every path with such an edge.
+///
+/// Refused by 1 to 5 for the image, then 35, 34, by 31, 30 or 36 during the
+/// computation, and last by 33. There is no file to be unknown, hence no 21.
+///
+/// The number of lists is factorial: k edges from root to root and j to jump have
+/// (1 + j) * (k!/0! + k!/1! + .. + k!/k!) - 1. Six and one have 3,913, six and two
+/// 5,870, seven and none 13,699; a database has at most 4,096 slots. So with seven
+/// edges from root to root the set is never held, and the call without limits is 33
+/// at best. Limits leave lists out, and then nothing is promised of stitching.
+pub fn replace_aliases(
+    image: &[u8],
+    request: &Request,
+    work: &mut [u32],
+    words: &mut [u32],
+) -> Result<PartialStatistics, Refusal> {
+    let asked = request.numbers();
+    let mut told = EMPTY;
+    // SAFETY: each pointer and length is that of a slice held here.
+    unsafe {
+        link::pozhdaghi_replace_aliases(
+            image.as_ptr(),
+            image.len(),
+            asked.as_ptr(),
+            asked.len(),
+            work.as_mut_ptr(),
+            work.len(),
+            words.as_mut_ptr(),
+            words.len(),
+            told.as_mut_ptr(),
+            told.len(),
+        );
+    }
+    answer::replacement(&told)
+}
+
 /// The edges of a partial path, as a part of the words; empty if it is dead,
 /// beyond use, or the words are no database.
 pub fn lookup(words: &[u32], number: u32) -> &[u32] {

@@ -34,7 +34,7 @@ mod request;
 pub use answer::{Counts, PartialStatistics, Refusal, Resolution, Statistics};
 pub use calls::{
     check, direct, direct_recorded, find_name, fresh, is_complete, linear, linear_recorded, lookup,
-    narrow, replace_file, replay, shadows, stitched, stitched_recorded, widen,
+    narrow, replace_aliases, replace_file, replay, shadows, stitched, stitched_recorded, widen,
 };
 pub use replayed::{Replayed, Step, Symbol};
 pub use request::{Limits, Order, Request};
@@ -45,6 +45,10 @@ pub const SLOT_WORDS: usize = 128;
 /// Words in front of a database's records, and words of a record.
 pub const DATABASE_HEAD: usize = 3;
 pub const RECORD_WORDS: usize = 131;
+
+/// The first word of a record of the alias set. A file's is its number + 1, and an
+/// image has at most 256 files.
+pub const ALIASES: u32 = 65_535;
 
 /// Bytes of the longest image, which is of version 2: any rewritten image fits
 /// into as many.

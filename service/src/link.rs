@@ -58,6 +58,18 @@ unsafe extern "C" {
         answer: *mut u64,
         answer_len: usize,
     );
+    pub fn pozhdaghi_replace_aliases(
+        image: *const u8,
+        image_len: usize,
+        asked: *const u64,
+        asked_len: usize,
+        work: *mut u32,
+        work_len: usize,
+        words: *mut u32,
+        words_len: usize,
+        answer: *mut u64,
+        answer_len: usize,
+    );
     pub fn pozhdaghi_lookup(
         words: *const u32,
         words_len: usize,

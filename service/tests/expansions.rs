@@ -1,10 +1,11 @@
 //! The bound on expansions, document 01's 36: the 16,777,216th is made and the
 //! next one is not. A row of double edges doubles the paths at each scope, so
-//! that 23 of them give 2^24 - 1 expansions; each further edge gives one more.
+//! that 23 of them give 2^24 - 1 expansions; each further edge gives one more. The
+//! alias set of ten edges from root to root and one to jump takes 19,728,202.
 
 mod common;
 
-use common::{image, is_zero, reference, scope, slots};
+use common::{database, image, image_of, is_zero, reference, refusal, scope, slots, Edge};
 use pozhdaghi::{Limits, Order, Refusal, Request, Resolution};
 
 const MOST: u64 = 1 << 24;
@@ -40,9 +41,26 @@ fn as_many_as_allowed() {
 
 #[test]
 fn one_too_many() {
-    let refusal = Refusal {
-        number: 36,
-        values: [0, 0],
-    };
-    assert_eq!(searched(2), Err(refusal));
+    assert_eq!(searched(2), Err(refusal(36, &[])));
+}
+
+/// Where the path count ends the computation before, it has found more than fits.
+#[test]
+fn aliases() {
+    let edges: Vec<Edge> = [vec![(0, 0, 0); 10], vec![(0, 1, 0)]].concat();
+    let image = image_of(0, &[], &edges);
+    for (paths, number) in [(MOST, 33), (MOST + 1, 36)] {
+        let request = Request {
+            order: Order::DepthFirst,
+            limits: Limits {
+                paths: Some(paths),
+                ..Limits::default()
+            },
+        };
+        let (mut work, mut words) = (slots(64), database(2, 0, &[], 1));
+        let told = pozhdaghi::replace_aliases(&image, &request, &mut work, &mut words);
+        assert_eq!(told, Err(refusal(number, &[])));
+        assert!(is_zero(&work));
+        assert_eq!(words, database(2, 0, &[], 1));
+    }
 }

@@ -74,6 +74,15 @@ fn not_replaced(image: &[u8], file: u32, waiting: usize, words: &[u32]) -> Refus
     answer.expect_err("refused")
 }
 
+/// What the replacement of the alias set is refused with, likewise.
+fn aliases_not_replaced(image: &[u8], waiting: usize, words: &[u32]) -> Refusal {
+    let (mut work, mut after) = (slots(waiting), words.to_vec());
+    let answer = pozhdaghi::replace_aliases(image, &Request::default(), &mut work, &mut after);
+    assert!(is_zero(&work));
+    assert_eq!(after, words);
+    answer.expect_err("refused")
+}
+
 /// A with one byte changed. Its records begin at 11, 13, 15, 24, 29 and 38, its
 /// edges at 47, 57 and 67.
 fn changed(place: usize, byte: u8) -> Vec<u8> {
@@ -129,6 +138,7 @@ fn images() {
             assert_eq!(refused(search, &image, &words, 2, [4, 4]), refusal);
         }
         assert_eq!(not_replaced(&image, 0, 8, &words), refusal);
+        assert_eq!(aliases_not_replaced(&image, 8, &words), refusal);
         let mut after = words.clone();
         assert_eq!(pozhdaghi::fresh(&image, &mut after), Err(refusal));
         assert_eq!(after, words);
@@ -301,6 +311,7 @@ fn databases() {
             }
         }
         assert_eq!(not_replaced(&image, 9, 8, &words), refusal(35, &[]));
+        assert_eq!(aliases_not_replaced(&image, 0, &words), refusal(35, &[]));
         assert!(pozhdaghi::lookup(&words, 1).is_empty());
     }
 }
@@ -315,6 +326,7 @@ fn outgrown() {
             assert_eq!(refused(search, &image, &words, 9, [4, 4]), refusal(34, &[]));
         }
         assert_eq!(not_replaced(&image, 9, 8, &words), refusal(34, &[]));
+        assert_eq!(aliases_not_replaced(&image, 0, &words), refusal(34, &[]));
     }
 }
 

@@ -412,6 +412,8 @@ fn all_calls(image: &[u8]) -> Vec<String> {
         words = after;
         told.push(format!("{replaced:?} {words:?}"));
     }
+    let replaced = pozhdaghi::replace_aliases(image, &request, &mut slots(ROOM), &mut words);
+    told.push(format!("{replaced:?} {words:?}"));
     for node in 0..12 {
         let (mut work, mut result) = (slots(ROOM), slots(ROOM));
         for call in [pozhdaghi::direct, pozhdaghi::direct_recorded] {

@@ -1,7 +1,7 @@
 // What direct and stitched search record from every reference of an image. The image is read from standard input; its files are filed into a
 // fresh database and then, as on a later day, filed again; then each reference, ascending, is searched by both recorded calls, without limits,
-// with 128 waiting and 128 result slots. Demand 3 says how the two sets agree. It is the contract of `demand::sets::record_both`, and its
-// premise on databases that of `demand::filing::file_all` and `refile_all`.
+// with 128 waiting and 128 result slots; then all of it with the alias set in the database. Demand 3 says how the two sets agree. It is the contract of
+// `demand::sets::record_both`, and its premise on databases that of `demand::filing::file_all`, `refile_all` and `refile_with_aliases`.
 ghost use mathlib.Core.Path.{_≡_};
 ghost use lib.ListN.{length};
 ghost use Rattle.storage.specs.Index.{INDEX};
@@ -11,6 +11,7 @@ mod report;
 
 use demand::filing::file_all;
 use demand::filing::refile_all;
+use demand::filing::refile_with_aliases;
 use demand::sets::Asked;
 use demand::sets::record_both;
 use libc::STDIN_FILENO;
@@ -101,6 +102,47 @@ fn file_twice(image: &[u8], files: u32, work: &mut [u32], words: &mut [u32]) -> 
     false
 }
 
+// First without the alias set, then with it.
+fn compare_filed(
+    image: &[u8],
+    index: &[u32],
+    words: &mut [u32],
+    files: u32,
+    nodes: u32,
+    waiting: &mut [u32],
+    found: &mut [u32],
+    stitching: &mut [u32],
+    joined: &mut [u32],
+)
+    requires { ⌜ (length (now index) ≡ INDEX) × (length (now found) ≡ areaWords) × (length (now joined) ≡ areaWords) ⌝ }
+{
+    compare_all(
+        image,
+        index,
+        words,
+        nodes,
+        waiting,
+        found,
+        stitching,
+        joined,
+    );
+    if refile_with_aliases(image, files, SearchOrder::BreadthFirst, waiting, words) {
+        report::tell_aliases();
+        compare_all(
+            image,
+            index,
+            words,
+            nodes,
+            waiting,
+            found,
+            stitching,
+            joined,
+        );
+        return;
+    }
+    report::tell_not_filed();
+}
+
 // The image is checked once here, for its files and nodes.
 fn compare_image(
     image: &[u8],
@@ -121,10 +163,11 @@ fn compare_image(
             edges: _,
         } => {
             if file_twice(image, files, waiting, &mut words) {
-                compare_all(
+                compare_filed(
                     image,
                     &index,
-                    &words,
+                    &mut words,
+                    files,
                     nodes,
                     waiting,
                     found,

@@ -18,6 +18,11 @@ pub(crate) fn tell_not_filed() {
     line::end_line();
 }
 
+pub(crate) fn tell_aliases() {
+    line::print(b"with aliases");
+    line::end_line();
+}
+
 pub(crate) fn tell(reference: u32, name: &[u8], answer: Resolution, result: &[u32])
     requires { ⌜ length (now result) ≡ areaWords ⌝ }
 {

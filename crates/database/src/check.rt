@@ -20,11 +20,14 @@ pub enum Inspected {
     Refused(DatabaseRefusal),
 }
 
-// Which owners a database may name: the files.
+// Which owners a database may name: the files, and nobody, whose set belongs to no file.
 fn known(files: u32, owner: u32) -> bool
     ensures { λ r. ⌜ r ≡ knownOwners files owner ⌝ }
 {
-    owner < files
+    if owner < files {
+        return true;
+    }
+    owner == bounds::NOBODY
 }
 
 // 1 to so many edges.

@@ -1,5 +1,5 @@
 -- Demand 3 of two answers and two result areas that the public calls left.
--- The third demand; document 01, "Partial paths", last paragraph.
+-- The third demand; document 01, "Partial paths", last paragraph; document 02, order 5.
 use Prim.Native.Nat.{ℕ}
 use mathlib.Core.Path.{_≡_, sym, subst, _∙_}
 use mathlib.Core.Bool.{false}
@@ -17,11 +17,11 @@ use Rattle.semantics.specs.Image.{symbolBytes}
 use Rattle.semantics.specs.Words.{listsIn}
 use Rattle.semantics.specs.Told.{toldResolution}
 use Rattle.semantics.specs.Told.Laws.{resolution-alike}
-use Rattle.semantics.specs.Demand.{fileOwners, Demand, Holds}
+use Rattle.semantics.specs.Demand.{fileOwners, allOwners, Demand, DemandAll, Holds}
 use Rattle.semantics.specs.Database.{slotsIn}
 use Rattle.semantics.specs.Calls.{Request, Outcome}
 use Rattle.demand.specs.declared.sets.Asked.{Asked}
-use Rattle.semantics.specs.Calls.Whole.{Finished, Premises, directRecorded, stitchedRecorded, demand-3}
+use Rattle.semantics.specs.Calls.Whole.{Finished, Premises, AliasPremises, directRecorded, stitchedRecorded, demand-3, demand-aliases}
 
 -- neither refused, nor with the flag of the path count or of complete paths
 pub record Ended (r : Resolution) : Type 0 where
@@ -51,15 +51,20 @@ abbrev pub Agrees : (im words : List ℕ) (reference : ℕ) (most : Limit) → R
 Agrees im words reference most a ra b rb =
     (g : Graph) → graphIn im ≡ ok g → Holds (fileOwners g) base (viewOf g) (slotsIn base words) → Ended a → Ended b → Demand base (viewOf g) reference most (setIn ra) (setIn rb)
 
+-- the same on any database that holds every file's partial paths, the alias set and no others: with no condition on edges
+abbrev pub AgreesAll : (im words : List ℕ) (reference : ℕ) (most : Limit) → Resolution → List ℕ → Resolution → List ℕ → Type 0
+AgreesAll im words reference most a ra b rb =
+    (g : Graph) → graphIn im ≡ ok g → Holds (allOwners g) base (viewOf g) (slotsIn base words) → Ended a → Ended b → DemandAll base (viewOf g) reference most (setIn ra) (setIn rb)
+
 -- an answer told like a call's is the call's
 finished : {a : Resolution} (o : Outcome Resolution) → toldResolution a ≡ toldResolution (o .answer) → Ended a → Finished o
 finished {a} o t e = record { paths = e .paths; stats = e .stats; answered = sym (resolution-alike a (o .answer) t) ∙ e .answered; uncounted = e .uncounted; uncut = e .uncut }
 
-module _ (im words : List ℕ) (q q′ : Request) (a b : Resolution) {ra rb : List ℕ} where
-  pub calls-agree : toldResolution a ≡ toldResolution (directRecorded symbolBytes base im q .answer) → ra ≡ directRecorded symbolBytes base im q .result
-      → toldResolution b ≡ toldResolution (stitchedRecorded symbolBytes base im words q′ .answer) → rb ≡ stitchedRecorded symbolBytes base im words q′ .result
-      → q .node ≡ q′ .node → q .limits .length ≡ q′ .limits .length → Agrees im words (q .node) (q .limits .length) a ra b rb
-  calls-agree ta wa tb wb node most g e holds ea eb =
+module _ (im words : List ℕ) (q q′ : Request) (a b : Resolution) {ra rb : List ℕ} (ta : toldResolution a ≡ toldResolution (directRecorded symbolBytes base im q .answer)) (wa : ra ≡ directRecorded symbolBytes base im q .result)
+    (tb : toldResolution b ≡ toldResolution (stitchedRecorded symbolBytes base im words q′ .answer)) (wb : rb ≡ stitchedRecorded symbolBytes base im words q′ .result) (node : q .node ≡ q′ .node)
+    (most : q .limits .length ≡ q′ .limits .length) where
+  pub calls-agree : Agrees im words (q .node) (q .limits .length) a ra b rb
+  calls-agree g e holds ea eb =
       let p : Premises symbolBytes base im words q q′ = record {
         graph = g;
         accepted = e;
@@ -71,3 +76,17 @@ module _ (im words : List ℕ) (q q′ : Request) (a b : Resolution) {ra rb : Li
       } in
       subst (λ (l : List ℕ). Demand base (viewOf g) (q .node) (q .limits .length) (setIn l) (setIn rb)) (sym wa)
       (subst (λ (l : List ℕ). Demand base (viewOf g) (q .node) (q .limits .length) (setIn (directRecorded symbolBytes base im q .result)) (setIn l)) (sym wb) (demand-3 symbolBytes base im words q q′ p))
+
+  pub calls-agree-all : AgreesAll im words (q .node) (q .limits .length) a ra b rb
+  calls-agree-all g e holds ea eb =
+      let p : AliasPremises symbolBytes base im words q q′ = record {
+        graph = g;
+        accepted = e;
+        same-reference = node;
+        same-length-limit = most;
+        database-holds = holds;
+        direct-finished = finished (directRecorded symbolBytes base im q) ta ea;
+        stitched-finished = finished (stitchedRecorded symbolBytes base im words q′) tb eb;
+      } in
+      subst (λ (l : List ℕ). DemandAll base (viewOf g) (q .node) (q .limits .length) (setIn l) (setIn rb)) (sym wa)
+      (subst (λ (l : List ℕ). DemandAll base (viewOf g) (q .node) (q .limits .length) (setIn (directRecorded symbolBytes base im q .result)) (setIn l)) (sym wb) (demand-aliases symbolBytes base im words q q′ p))

@@ -1,11 +1,11 @@
--- Every file of an image filed by the public calls, whatever the words were before, and that such a database meets the premise of demand 3.
--- Document 01, "Partial paths", last paragraph.
+-- Every file of an image filed by the public calls, with the alias set or without it, whatever the words were before, and that such a database meets
+-- the premise of demand 3. Document 01, "Partial paths", last paragraph; document 02, order 5.
 use Prim.Native.Nat.{ℕ, zero, suc, _+_, _-_, _≤_, _<_}
 use native.Mathlib.Omega.{arith}
 use mathlib.Core.Path.{_≡_, refl, sym, ap, subst, _∙_}
 use mathlib.Core.Logic.{_⊎_, ⊎-elim}
 use mathlib.Core.Bool.{Bool, true, false, true≢false}
-use mathlib.Core.List.{List, [], _∷_, List·Memᴰ, List·Memᴰ·head, List·Memᴰ·tail}
+use mathlib.Core.List.{List, [], _∷_, List·Memᴰ, List·Memᴰ·head, List·Memᴰ·tail, List·Memᴰ·not-nil, List·Memᴰ·cases-cons}
 use borrow.Author.Tests.{ltb-true, ltb-false}
 use lib.Dec.{ltb}
 use lib.ListN.{length}
@@ -16,15 +16,21 @@ use Rattle.semantics.specs.declared.answer.Creation.{Creation}
 use Rattle.semantics.specs.declared.answer.Creation.the-variants as Creation
 use Rattle.semantics.specs.declared.answer.Replacement.{Replacement}
 use Rattle.semantics.specs.declared.answer.Replacement.the-variants as Replacement
-use Rattle.semantics.specs.Limits.{base}
+use Rattle.semantics.specs.declared.search.Limit.the-variants.{Absent}
+use Rattle.semantics.specs.Lists.{pick}
+use Rattle.semantics.specs.Limits.{base, nobody}
 use Rattle.semantics.specs.Answer.{Answer, ok}
 use Rattle.semantics.specs.Graph.{Graph, viewOf}
 use Rattle.semantics.specs.declared.refusal.ImageRefusal.{ImageRefusal}
-use Rattle.semantics.specs.Demand.{fileOwners, Holds}
+use Rattle.semantics.specs.Image.{symbolBytes}
+use Rattle.semantics.specs.Image.Laws.{image-accepted}
+use Rattle.semantics.specs.Acceptance.{accepts}
+use Rattle.semantics.specs.Acceptance.Laws.{few-files}
+use Rattle.semantics.specs.Demand.{fileOwners, allOwners, NoAliases, Holds}
 use Rattle.semantics.specs.Database.{slotsIn, knownOwners}
 use Rattle.semantics.specs.Database.Checked.{Checked}
-use Rattle.semantics.specs.Calls.{Change, replaceCall}
-use Rattle.semantics.specs.Calls.Filing.{Refiled, Filed, begun, refiled, unlimited, refiled-holds, refiled-some, filed-holds}
+use Rattle.semantics.specs.Calls.{Change, aliasRequest, replaceCall, aliasCall}
+use Rattle.semantics.specs.Calls.Filing.{Refiled, Filed, begun, refiled, aliased, unlimited, still-none, refiled-holds, refiled-some, aliases-refiled, filed-holds}
 
 -- was the call answered with Done
 abbrev pub isCreated : Creation → Bool
@@ -43,6 +49,10 @@ isReplaced Replacement.Full = false
 abbrev pub refiling : List ℕ → SearchOrder → ℕ → List ℕ → List ℕ → Change Replacement
 refiling im order f work words = replaceCall base knownOwners (graphIn im) (unlimited order (length work) f) words
 
+-- the alias set replaced without limits
+abbrev pub aliasing : List ℕ → SearchOrder → List ℕ → List ℕ → Change Replacement
+aliasing im order work words = aliasCall base knownOwners (graphIn im) (aliasRequest order Absent Absent (length work)) words
+
 -- whether every call was answered with Done, and every word of the work area and of the database
 pub record Filings : Type 0 where
   pub all : Bool
@@ -52,6 +62,9 @@ pub record Filings : Type 0 where
 abbrev pub onward : Bool → Change Replacement → (List ℕ → List ℕ → Filings) → Filings
 onward true c next = next (c .work) (c .database)
 onward false c next = record { all = false; work = c .work; words = c .database }
+
+abbrev pub filedBy : Change Replacement → Filings
+filedBy c = record { all = isReplaced (c .answer); work = c .work; words = c .database }
 
 -- k files from file f on, replaced one after another; the first call that is refused ends it
 unfoldable pub refilings : List ℕ → SearchOrder → ℕ → ℕ → List ℕ → List ℕ → Filings
@@ -68,13 +81,25 @@ unfolding refilings
 filings im order files work words =
     begunWith (isCreated (freshDatabase im words .answer)) work (freshDatabase im words .database) (refilings im order 0 files work)
 
+-- every file, then the alias set
+unfoldable pub allRefilings : List ℕ → SearchOrder → ℕ → List ℕ → List ℕ → Filings
+unfolding refilings
+allRefilings im order files work words =
+    let f = refilings im order 0 files work words in
+    pick (f .all) (filedBy (aliasing im order (f .work) (f .words))) f
+
 -- THE PREMISE OF DEMAND 3, of the words that are left, for every graph of so many files that the image holds
 abbrev pub Fills : List ℕ → ℕ → List ℕ → Type 0
 Fills im files words = (g : Graph) → graphIn im ≡ ok g → files ≡ g .files → Holds (fileOwners g) base (viewOf g) (slotsIn base words)
 
--- where the words began as any at all: of a graph without files nothing was replaced, so that its check must have passed
-abbrev pub Refills : List ℕ → ℕ → List ℕ → Type 0
-Refills im files words = (g : Graph) → graphIn im ≡ ok g → files ≡ g .files → (0 < g .files) ⊎ Checked base knownOwners g words → Holds (fileOwners g) base (viewOf g) (slotsIn base words)
+-- where the words began as any without a slot of the alias set: of a graph without files nothing was replaced, so that its check must have passed
+abbrev pub Refills : List ℕ → ℕ → List ℕ → List ℕ → Type 0
+Refills im files before words = (g : Graph) → graphIn im ≡ ok g → files ≡ g .files → NoAliases (slotsIn base before) → (0 < g .files) ⊎ Checked base knownOwners g words
+    → Holds (fileOwners g) base (viewOf g) (slotsIn base words)
+
+-- WITH THE ALIAS SET, where they began as any at all
+abbrev pub RefillsAll : List ℕ → ℕ → List ℕ → Type 0
+RefillsAll im files words = (g : Graph) → graphIn im ≡ ok g → files ≡ g .files → Holds (allOwners g) base (viewOf g) (slotsIn base words)
 
 -- THE LOOP
 module _ (im : List ℕ) (order : SearchOrder) (files f : ℕ) (work words : List ℕ) where
@@ -120,9 +145,16 @@ up-to f done u x h = on (ltb x f) refl
     on true e = List·Memᴰ·tail (u x (ltb-true x f e))
     on false e = let k = ltb-false x f e in let z : x ≡ f = omega (arith, h, k) in List·Memᴰ·head z
 
+-- and no others
+abbrev Below : ℕ → List ℕ → Type 0
+Below f done = (x : ℕ) → List·Memᴰ x done → x < f
+
+below : (f : ℕ) (done : List ℕ) → Below f done → Below (suc f) (f ∷ done)
+below f done b x m = ⊎-elim (λ (e : x ≡ f). omega (arith, e)) (λ i. let z = b x i in omega (arith, z)) (List·Memᴰ·cases-cons m)
+
 module _ (im : List ℕ) (order : SearchOrder) (before : List ℕ) where
   abbrev Replacing : ℕ → List ℕ → Type 0
-  Replacing f words = (done : List ℕ) × Refiled base (graphIn im) before words done × UpTo f done
+  Replacing f words = (done : List ℕ) × Refiled base (graphIn im) before words done × UpTo f done × Below f done
 
   all-replaced : (k f : ℕ) (work words : List ℕ) → Replacing f words → refilings im order f k work words .all ≡ true → Replacing (f + k) (refilings im order f k work words .words)
   unfolding refilings
@@ -138,16 +170,61 @@ module _ (im : List ℕ) (order : SearchOrder) (before : List ℕ) where
           let t = replaced-stats (refiling im order f work words .answer) h in
           let z : suc f + k ≡ f + suc k = omega arith in
           subst (λ n. Replacing n (refilings im order (suc f) k (refiling im order f work words .work) (refiling im order f work words .database) .words)) z
-          (ih (f ∷ r .0, refiled order (length work) f (t .0) (r .1) (t .1), up-to f (r .0) (r .2)) a)
+          (ih (f ∷ r .0, refiled order (length work) f (t .0) (r .1) (t .1), up-to f (r .0) (r .2), below f (r .0) (r .3)) a)
       on false h a ih = absurd (true≢false (sym a))
 
+nothing-yet : {A : Type 0} {x : ℕ} → x < 0 → A
+nothing-yet h = absurd (omega (arith, h))
+
+-- all files, from none on
+every-replaced : (im : List ℕ) (order : SearchOrder) (files : ℕ) (work words : List ℕ) → refilings im order 0 files work words .all ≡ true → Replacing im order words files (refilings im order 0 files work words .words)
+every-replaced im order files work words e =
+    let z : 0 + files ≡ files = omega arith in
+    subst (λ n. Replacing im order words n (refilings im order 0 files work words .words)) z (all-replaced im order words files 0 work words ([], begun, λ x k. nothing-yet k, λ x m. absurd (List·Memᴰ·not-nil m)) e)
+
+accepted : (im : List ℕ) (g : Graph) → graphIn im ≡ ok g → accepts g ≡ true
+accepted im g h = image-accepted symbolBytes im g h
+
+-- every file of the graph was replaced, and nobody was not
+module _ (im : List ℕ) (g : Graph) (h : graphIn im ≡ ok g) (files : ℕ) (n : files ≡ g .files) (order : SearchOrder) (before : List ℕ) {words : List ℕ} (r : Replacing im order before files words) where
+  on-graph : Refiled base (ok g) before words (r .0)
+  on-graph = subst (λ (a : Answer ImageRefusal Graph). Refiled base a before words (r .0)) h (r .1)
+
+  every-file : (f : ℕ) → f < g .files → List·Memᴰ f (r .0)
+  every-file f k = r .2 f (omega (arith, k, n))
+
+  not-nobody : List·Memᴰ nobody (r .0) → ⊥
+  not-nobody m = let z = r .3 nobody m in omega (arith, z, n, few-files g (accepted im g h))
+
 -- from any words
-pub refilings-fill : (im : List ℕ) (order : SearchOrder) (files : ℕ) (work words : List ℕ) → refilings im order 0 files work words .all ≡ true → Refills im files (refilings im order 0 files work words .words)
-refilings-fill im order files work words e g h n ok-check =
-    let r = all-replaced im order words files 0 work words ([], begun, λ x k. absurd (omega (arith, k))) e in
-    let b = subst (λ (a : Answer ImageRefusal Graph). Refiled base a words (refilings im order 0 files work words .words) (r .0)) h (r .1) in
-    let all : (f : ℕ) → f < g .files → List·Memᴰ f (r .0) = λ f k. r .2 f (omega (arith, k, n)) in
-    ⊎-elim (λ k. refiled-some base g words _ (r .0) b all k) (λ k. refiled-holds base g words _ (r .0) b all k) ok-check
+pub refilings-fill : (im : List ℕ) (order : SearchOrder) (files : ℕ) (work words : List ℕ) → refilings im order 0 files work words .all ≡ true → Refills im files words (refilings im order 0 files work words .words)
+refilings-fill im order files work words e g h n none ok-check =
+    let good = accepted im g h in
+    let r = every-replaced im order files work words e in
+    let b = on-graph im g h files n order words r in
+    let all = every-file im g h files n order words r in
+    let left = still-none base g good b none (not-nobody im g h files n order words r) in
+    ⊎-elim (λ k. refiled-some base g good words _ (r .0) b all left k) (λ k. refiled-holds base g good words _ (r .0) b all left k) ok-check
+
+-- from any words, with the alias set
+pub all-refilings-fill : (im : List ℕ) (order : SearchOrder) (files : ℕ) (work words : List ℕ) → allRefilings im order files work words .all ≡ true → RefillsAll im files (allRefilings im order files work words .words)
+unfolding allRefilings
+all-refilings-fill im order files work words e g h n = on (refilings im order 0 files work words .all) refl e
+  where
+    f : Filings
+    f = refilings im order 0 files work words
+
+    set : Change Replacement
+    set = aliasing im order (f .work) (f .words)
+
+    on : (b : Bool) → f .all ≡ b → pick b (filedBy set) f .all ≡ true → Holds (allOwners g) base (viewOf g) (slotsIn base (pick b (filedBy set) f .words))
+    on true k a =
+        let r = every-replaced im order files work words k in
+        let t = replaced-stats (set .answer) a in
+        let b = aliased order (length (f .work)) (t .0) (r .1) (t .1) in
+        aliases-refiled base g (accepted im g h) words _ (nobody ∷ r .0) (subst (λ (x : Answer ImageRefusal Graph). Refiled base x words (set .database) (nobody ∷ r .0)) h b)
+        (λ y k. List·Memᴰ·tail (every-file im g h files n order words r y k)) (List·Memᴰ·head refl)
+    on false k a = absurd (true≢false (sym a ∙ k))
 
 -- from a fresh database
 pub filings-fill : (im : List ℕ) (order : SearchOrder) (files : ℕ) (work words : List ℕ) → filings im order files work words .all ≡ true → Fills im files (filings im order files work words .words)
@@ -160,10 +237,10 @@ filings-fill im order files work words e g h n = on (isCreated (freshDatabase im
     on : (b : Bool) → isCreated (freshDatabase im words .answer) ≡ b → begunWith b work new (refilings im order 0 files work) .all ≡ true
         → Holds (fileOwners g) base (viewOf g) (slotsIn base (begunWith b work new (refilings im order 0 files work) .words))
     on true c a =
-        let r = all-replaced im order new files 0 work new ([], begun, λ x k. absurd (omega (arith, k))) a in
-        let all : (f : ℕ) → f < g .files → List·Memᴰ f (r .0) = λ f k. r .2 f (omega (arith, k, n)) in
+        let r = every-replaced im order files work new a in
         let filed : Filed base (graphIn im) (refilings im order 0 files work new .words) (r .0) = record { lent = words; created = created-done (freshDatabase im words .answer) c; replaced = r .1 } in
-        filed-holds base g _ (r .0) (subst (λ (x : Answer ImageRefusal Graph). Filed base x (refilings im order 0 files work new .words) (r .0)) h filed) all
+        filed-holds base g (accepted im g h) _ (r .0) (subst (λ (x : Answer ImageRefusal Graph). Filed base x (refilings im order 0 files work new .words) (r .0)) h filed)
+        (every-file im g h files n order new r) (not-nobody im g h files n order new r)
     on false c a = absurd (true≢false (sym a))
 
 -- THE TWO WAYS OF A FRESH START
@@ -175,3 +252,12 @@ module _ (im : List ℕ) (order : SearchOrder) (files : ℕ) (work words : List 
   pub filings-refused : isCreated (freshDatabase im words .answer) ≡ false → record { all = false; work = work; words = freshDatabase im words .database } ≡ filings im order files work words
   unfolding filings
   filings-refused h = sym (ap (λ b. begunWith b work (freshDatabase im words .database) (refilings im order 0 files work)) h)
+
+  -- AND THE TWO WAYS BEHIND THE FILES
+  pub all-refilings-on : refilings im order 0 files work words .all ≡ true → filedBy (aliasing im order (refilings im order 0 files work words .work) (refilings im order 0 files work words .words)) ≡ allRefilings im order files work words
+  unfolding allRefilings
+  all-refilings-on h = sym (ap (λ b. pick b (filedBy (aliasing im order (refilings im order 0 files work words .work) (refilings im order 0 files work words .words))) (refilings im order 0 files work words)) h)
+
+  pub all-refilings-off : refilings im order 0 files work words .all ≡ false → refilings im order 0 files work words ≡ allRefilings im order files work words
+  unfolding allRefilings
+  all-refilings-off h = sym (ap (λ b. pick b (filedBy (aliasing im order (refilings im order 0 files work words .work) (refilings im order 0 files work words .words))) (refilings im order 0 files work words)) h)

@@ -2,7 +2,7 @@
 // the same, whatever orders, count limits and areas each search was given.
 ghost use mathlib.Core.Path.{_≡_};
 ghost use Rattle.semantics.specs.Told.{toldResolution};
-ghost use Rattle.demand.specs.Agreement.{directBy, stitchedBy, Agrees};
+ghost use Rattle.demand.specs.Agreement.{directBy, stitchedBy, Agrees, AgreesAll};
 use direct_search::direct;
 use semantics::answer::Resolution;
 use semantics::graph::NodeId;
@@ -41,6 +41,8 @@ pub fn record_both(
     ensures { λ _. ⌜ now (stitching .exit) ≡ stitchedBy (now (image .entry)) (now (words .entry)) (reference .0) second (now (stitching .entry)) (now (joined .entry)) .work ⌝ }
     ensures { λ _. ⌜ now (joined .exit) ≡ stitchedBy (now (image .entry)) (now (words .entry)) (reference .0) second (now (stitching .entry)) (now (joined .entry)) .result ⌝ }
     ensures { λ r. ⌜ (first .limits .length ≡ second .limits .length → Agrees (now (image .entry)) (now (words .entry)) (reference .0) (first .limits .length)
+        (r .direct) (now (found .exit)) (r .stitched) (now (joined .exit))) ⌝ }
+    ensures { λ r. ⌜ (first .limits .length ≡ second .limits .length → AgreesAll (now (image .entry)) (now (words .entry)) (reference .0) (first .limits .length)
         (r .direct) (now (found .exit)) (r .stitched) (now (joined .exit))) ⌝ }
 {
     let order = first.order;

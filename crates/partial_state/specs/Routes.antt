@@ -10,7 +10,7 @@ use Rattle.semantics.specs.declared.graph.Edge.the-variants as E
 use Rattle.semantics.specs.Lists.{pick}
 use Rattle.semantics.specs.Graph.{View}
 use Rattle.semantics.specs.Words.{zeros, encode}
-use Rattle.semantics.specs.PartialPaths.{Route, belongs, targetOf}
+use Rattle.semantics.specs.PartialPaths.{Route, ownedBy, targetOf}
 use Rattle.semantics.specs.Demand.{Walk}
 use Rattle.partial_state.specs.declared.route.Ends.{Ends}
 pub mod Laws
@@ -41,7 +41,7 @@ endsOf r = record { start = r .start; end = r .current }
 
 -- a route on the way: edges of the file, each going on from the last one's target, and no more than the longest slot has words for
 pub record Traced (g : View) (file : ℕ) (r : Route) : Type 0 where
-  pub walk : Walk g (belongs g file) (r .start) (r .edges) (r .current)
+  pub walk : Walk g (ownedBy g file) (r .start) (r .edges) (r .current)
   pub short : length (r .edges) ≤ maxEdges
 
 -- one that waits in a slot of L words

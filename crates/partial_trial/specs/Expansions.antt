@@ -1,18 +1,20 @@
--- The expansion of a route by the edges of a file, in code against the enumeration.
--- Document 01, "Partial paths": `StackPartialPathSet::compute`.
+-- The expansion of a route by the edges of its owner, a file or nobody, in code against the enumeration.
+-- Document 01, "Partial paths": `StackPartialPathSet::compute`; document 02, order 5.
 use Prim.Native.Nat.{ℕ, _+_, _<_, _≤_}
 use mathlib.Core.Path.{_≡_}
 use mathlib.Core.Logic.{_⊎_}
-use mathlib.Core.Bool.{Bool, true}
+use mathlib.Core.Bool.{Bool, true, false}
 use mathlib.Core.List.{List, List·Memᴰ}
+use lib.Dec.{eqb}
 use lib.ListN.{length}
+use Rattle.semantics.specs.declared.graph.Node.{Node}
 use Rattle.semantics.specs.declared.refusal.PartialPathRefusal.{PartialPathRefusal}
-use Rattle.semantics.specs.Lists.{pick}
-use Rattle.semantics.specs.Limits.{base, slotLength}
+use Rattle.semantics.specs.Lists.{or, pick}
+use Rattle.semantics.specs.Limits.{base, slotLength, nobody}
 use Rattle.semantics.specs.Answer.{Answer, ok}
-use Rattle.semantics.specs.Graph.{Graph, viewOf, fileOf, isFile}
+use Rattle.semantics.specs.Graph.{Graph, viewOf, fileOf, isFile, lacksFile}
 use Rattle.semantics.specs.Enumeration.{State, Try, one, each}
-use Rattle.semantics.specs.PartialPaths.{Route, belongs, reached, judgeRoute, routeTries}
+use Rattle.semantics.specs.PartialPaths.{Route, ownedBy, reached, judgeRoute, routeTries}
 use Rattle.storage.specs.Index.{Loaded}
 use Rattle.search_state.specs.Items.{Carries}
 use Rattle.partial_state.specs.declared.route.Ends as R
@@ -22,8 +24,23 @@ use Rattle.partial_state.specs.Routes.{Waiting}
 use Rattle.partial_state.specs.Filings.{Fits}
 use Rattle.partial_state.specs.Reps.{frameOf, settingOf, Rep, Tells}
 use Rattle.partial_state.specs.Extractions.{Computation, Course}
+use Rattle.partial_trial.specs.declared.expand.Sought.{Sought}
 pub mod Laws
 pub mod Edges
+
+-- which edges of a node an owner has, as far as the node tells
+unfoldable pub soughtFrom : ℕ → Node → Sought
+unfolding lacksFile isFile
+soughtFrom f n =
+    pick (eqb f nobody) (record { all = false; ofFile = false; fileless = lacksFile (fileOf n) }) (record { all = isFile f (fileOf n); ofFile = true; fileless = false })
+
+-- and of these one to a node
+unfoldable pub leadsTo : ℕ → Sought → Node → Bool
+unfolding lacksFile isFile
+leadsTo f s t = pick (s .ofFile) (isFile f (fileOf t)) (pick (s .fileless) (lacksFile (fileOf t)) false)
+
+abbrev pub isSought : ℕ → Sought → Node → Bool
+isSought f s t = or (s .all) (leadsTo f s t)
 
 -- behind k edges a slot of L words has room for one more, or is as long as any
 abbrev pub Roomy : ℕ → ℕ → Type 0
@@ -50,17 +67,17 @@ pub record Looking (most : ℕ) (index : List ℕ) (f : Filing) (start k e : ℕ
   pub given : Given most index f start k item x ws db
   pub leaves : List·Memᴰ e (viewOf (given .graph) .out (given .route .current))
 
--- and it is known whether that node is of the file
-pub record Owning (most : ℕ) (index : List ℕ) (f : Filing) (start k e : ℕ) (item : List ℕ) (x : Computation) (ws db : List ℕ) (own : Bool) : Type 0 where
+-- and it is known which of that node's edges are the owner's
+pub record Owning (most : ℕ) (index : List ℕ) (f : Filing) (start k e : ℕ) (item : List ℕ) (x : Computation) (ws db : List ℕ) (own : Sought) : Type 0 where
   pub looking : Looking most index f start k e item x ws db
-  pub known : own ≡ isFile (f .file) (fileOf (viewOf (looking .given .graph) .node (looking .given .route .current)))
+  pub known : own ≡ soughtFrom (f .file) (viewOf (looking .given .graph) .node (looking .given .route .current))
 
--- an edge that belongs to the file
+-- an edge that belongs to the owner
 pub record Trying (most : ℕ) (index : List ℕ) (f : Filing) (start k e : ℕ) (item : List ℕ) (x : Computation) (ws db : List ℕ) : Type 0 where
   pub looking : Looking most index f start k e item x ws db
-  pub owned : belongs (viewOf (looking .given .graph)) (f .file) e ≡ true
+  pub owned : ownedBy (viewOf (looking .given .graph)) (f .file) e ≡ true
 
--- what becomes of an edge of the file
+-- what becomes of an edge of the owner
 abbrev pub judgeOf : ExtractionFrame → Graph → Route → ℕ → Try PartialPathRefusal Route
 judgeOf fr g r e = judgeRoute base (fr .length) (viewOf g) r e
 
@@ -77,7 +94,7 @@ module _ (most : ℕ) (index : List ℕ) (f : Filing) (start k e : ℕ) (item : 
       let v = t .looking .given in
       Answered v a item′ ws′ db′ (one (settingOf (frameOf x)) (v .model) (reached (viewOf (v .graph)) (v .route) e))
 
-  -- to an edge of the file
+  -- to an edge of the owner
   abbrev pub Tried : Trying most index f start k e item x ws db → Course → List ℕ → List ℕ → List ℕ → Type 0
   Tried t a item′ ws′ db′ =
       let v = t .looking .given in
@@ -87,7 +104,7 @@ module _ (most : ℕ) (index : List ℕ) (f : Filing) (start k e : ℕ) (item : 
   abbrev pub Looked : Looking most index f start k e item x ws db → Course → List ℕ → List ℕ → List ℕ → Type 0
   Looked l a item′ ws′ db′ =
       let v = l .given in
-      Answered v a item′ ws′ db′ (pick (belongs (viewOf (v .graph)) (f .file) e) (one (settingOf (frameOf x)) (v .model) (judgeOf (frameOf x) (v .graph) (v .route) e)) (ok (v .model)))
+      Answered v a item′ ws′ db′ (pick (ownedBy (viewOf (v .graph)) (f .file) e) (one (settingOf (frameOf x)) (v .model) (judgeOf (frameOf x) (v .graph) (v .route) e)) (ok (v .model)))
 
 -- ALL ITS EDGES
 pub record Expanding (most : ℕ) (index : List ℕ) (f : Filing) (ends : R.Ends) (k : ℕ) (item : List ℕ) (x : Computation) (ws db : List ℕ) : Type 0 where
@@ -95,7 +112,7 @@ pub record Expanding (most : ℕ) (index : List ℕ) (f : Filing) (ends : R.Ends
   pub stands : ends .end ≡ given .route .current
 
 abbrev pub triesOf : ExtractionFrame → Graph → ℕ → Route → List (Try PartialPathRefusal Route)
-triesOf fr g file r = routeTries base (fr .length) (viewOf g) (belongs (viewOf g) file) r
+triesOf fr g file r = routeTries base (fr .length) (viewOf g) (ownedBy (viewOf g) file) r
 
 abbrev pub Expanded : (most : ℕ) (index : List ℕ) (f : Filing) (ends : R.Ends) (k : ℕ) (item : List ℕ) (x : Computation) (ws db : List ℕ) → Expanding most index f ends k item x ws db → Course → List ℕ → List ℕ → Type 0
 Expanded most index f ends k item x ws db u a ws′ db′ =

@@ -1,14 +1,12 @@
-// The expansion of a route by the edges of a file. Document 01, "Partial paths": "Each edge passes cycle, length and the 127 bound, is
+// The expansion of a route by the edges of its owner, a file or nobody. Document 01, "Partial paths": "Each edge passes cycle, length and the 127 bound, is
 // recorded if it reaches an endpoint, and is then pushed". Stacks are not examined.
 ghost use mathlib.Core.Path.{_≡_};
 ghost use Prim.Native.Nat.{_*_, _<_};
 ghost use lib.ListN.{length};
 ghost use Rattle.semantics.specs.Limits.{maxEdges, lookedEver, lookedBefore};
-ghost use Rattle.semantics.specs.Lists.{or};
-ghost use Rattle.semantics.specs.Graph.{fileOf, isFile};
 ghost use Rattle.storage.specs.Index.{BLOCK, Blocks, nodeRow, targetRow};
 ghost use Rattle.partial_state.specs.Extractions.{at, goingAt};
-ghost use Rattle.partial_trial.specs.Expansions.{Owning, Trying, Tried, Looked, Lengthened, Expanding, Expanded};
+ghost use Rattle.partial_trial.specs.Expansions.{soughtFrom, leadsTo, isSought, Owning, Trying, Tried, Looked, Lengthened, Expanding, Expanded};
 use partial_state::extraction::Extracting;
 use partial_state::extraction::Extraction;
 use partial_state::extraction::ExtractionFrame;
@@ -16,20 +14,62 @@ use partial_state::filing::Filing;
 use partial_state::route::Ends;
 use search_state::path_slot;
 use semantics::bounds::MAX_EDGES;
+use semantics::bounds::NOBODY;
 use semantics::graph::EdgeId;
 use semantics::graph::NodeId;
 use semantics::refusal::PartialPathRefusal;
 use storage::store;
 
-// An edge belongs to a file if either end does; `own` says it of its source, which all edges of an expansion share.
-fn belongs(index: &[u32], file: u32, own: bool, edge: u32) -> bool
-    requires { ⌜ Blocks (now index) × (BLOCK * edge < length (now index)) ⌝ }
-    ensures { λ r. ⌜ r ≡ or own (isFile file (fileOf (nodeRow (now (index .entry)) (targetRow (now (index .entry)) edge)))) ⌝ }
+// Which of the edges that leave a node an owner has, as far as that node tells, which they share: all of them; or those to a node of the file; or those to
+// a node that lacks a file; or none. Three answers and not one of four, which would be asked of every edge by a jump through a table.
+pub struct Sought {
+    pub all: bool,
+    pub ofFile: bool,
+    pub fileless: bool,
+}
+
+// A file has the edges with an end of its own, nobody those whose ends both lack a file.
+fn sought_from(index: &[u32], owner: u32, node: u32) -> Sought
+    requires { ⌜ Blocks (now index) ⌝ }
+    ensures { λ r. ⌜ r ≡ soughtFrom owner (nodeRow (now (index .entry)) node) ⌝ }
 {
-    if own {
+    if owner == NOBODY {
+        return Sought {
+            all: false,
+            ofFile: false,
+            fileless: store::lacks_file(index, NodeId(node)),
+        };
+    }
+    Sought {
+        all: store::is_of_file(index, NodeId(node), owner),
+        ofFile: true,
+        fileless: false,
+    }
+}
+
+// Is an edge to this node one of them, where they are not all?
+fn leads_to(index: &[u32], owner: u32, own: Sought, target: NodeId) -> bool
+    requires { ⌜ Blocks (now index) ⌝ }
+    ensures { λ r. ⌜ r ≡ leadsTo owner own (nodeRow (now (index .entry)) (target .0)) ⌝ }
+{
+    if own.ofFile {
+        return store::is_of_file(index, target, owner);
+    }
+    if own.fileless {
+        return store::lacks_file(index, target);
+    }
+    false
+}
+
+// Is this edge one of them? It is asked of every edge, what its source tells once for all.
+fn belongs(index: &[u32], owner: u32, own: Sought, edge: u32) -> bool
+    requires { ⌜ Blocks (now index) × (BLOCK * edge < length (now index)) ⌝ }
+    ensures { λ r. ⌜ r ≡ isSought owner own (nodeRow (now (index .entry)) (targetRow (now (index .entry)) edge)) ⌝ }
+{
+    if own.all {
         return true;
     }
-    store::is_of_file(index, store::target(index, EdgeId(edge)), file)
+    leads_to(index, owner, own, store::target(index, EdgeId(edge)))
 }
 
 // The route of k edges in the item gets one more: found at an endpoint, then pushed.
@@ -64,7 +104,7 @@ fn lengthen(
     )
 }
 
-// One edge of the file is tried: counted where it is cut or too long, else it lengthens the route.
+// One edge of the owner is tried: counted where it is cut or too long, else it lengthens the route.
 fn try_edge(
     index: &[u32],
     filing: Filing,
@@ -106,11 +146,11 @@ fn try_edge(
     Extracting::On(extraction.with_budget(asked.budget))
 }
 
-// An edge that leaves the route's end is tried if it belongs to the file; an edge of another file is not looked at.
+// An edge that leaves the route's end is tried if it belongs to the owner; an edge of another one is not looked at.
 fn look_at(
     index: &[u32],
     filing: Filing,
-    own: bool,
+    own: Sought,
     start: u32,
     k: usize,
     edge: u32,
@@ -159,7 +199,7 @@ pub fn expand(
         → Expanded lookedBefore (now (index .entry)) filing ends k (now (item .entry)) (at frame extraction) (now (work .entry)) (now (words .entry)) v (goingAt frame r)
         (now (work .exit)) (now (words .exit))) ⌝ }
 {
-    let own = store::is_of_file(index, NodeId(ends.end), filing.file);
+    let own = sought_from(index, filing.file, ends.end);
     let mut on = extraction;
     let mut link = store::first(index, NodeId(ends.end));
     while 0 < link {

@@ -1,5 +1,5 @@
-// The starts of a file's partial paths, pushed before the first expansion. Document 01, "Partial paths": "Starts: root, then the file's
-// references and exported scopes by number".
+// The starts of an owner's partial paths, pushed before the first expansion. Document 01, "Partial paths": "Starts: root, then the file's
+// references and exported scopes by number"; nobody's start at root alone (document 02, order 5).
 ghost use mathlib.Core.Path.{_≡_};
 ghost use lib.ListN.{length};
 ghost use Rattle.semantics.specs.Graph.{Graph};
@@ -10,6 +10,7 @@ use partial_state::extraction::Extracting;
 use partial_state::extraction::Extraction;
 use partial_state::extraction::ExtractionFrame;
 use partial_state::route;
+use semantics::bounds::NOBODY;
 use semantics::graph::NodeId;
 use semantics::graph::ROOT;
 use storage::store;
@@ -83,7 +84,7 @@ fn seed_file(
 // All starts.
 pub fn seed(
     index: &[u32],
-    file: u32,
+    owner: u32,
     nodes: u32,
     item: &mut [u32],
     extraction: Extraction,
@@ -93,11 +94,14 @@ pub fn seed(
     requires { ⌜ HoldsNodes (now index) nodes × Seeding (now item) (at frame extraction) (now work) ⌝ }
     ensures { λ r. ⌜ ((g : Graph) → Loaded g (now (index .entry)) → nodes ≡ length (g .nodes)
         → (v : Seeding (now (item .entry)) (at frame extraction) (now (work .entry)))
-        → Seeded (now (item .entry)) (at frame extraction) (now (work .entry)) v g file (goingAt frame r) (now (work .exit))) ⌝ }
+        → Seeded (now (item .entry)) (at frame extraction) (now (work .entry)) v g owner (goingAt frame r) (now (work .exit))) ⌝ }
 {
     let going = push_start(ROOT, item, extraction, work, frame);
     let Extracting::On(next) = going else {
         return going;
     };
-    seed_file(index, file, nodes, item, next, work, frame)
+    if owner == NOBODY {
+        return going;
+    }
+    seed_file(index, owner, nodes, item, next, work, frame)
 }

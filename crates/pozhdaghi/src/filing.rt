@@ -1,11 +1,14 @@
 // Exported: the database of partial paths in the caller's words.
 ghost use mathlib.Core.Path.{_≡_};
-ghost use Prim.Native.Nat.{_+_, _*_};
+ghost use Prim.Native.Nat.{_+_, _*_, _≤_};
 ghost use lib.ListN.{length};
 ghost use Rattle.semantics.specs.Limits.{recordLength};
-ghost use Rattle.semantics.specs.Entries.{freshDatabase, lookupOf, replaceAsked};
+ghost use Rattle.semantics.specs.Entries.{freshDatabase, lookupOf, replaceAsked, aliasesAsked};
 ghost use Rattle.semantics.specs.Written.{written};
 ghost use Rattle.semantics.specs.Told.{toldCreation, toldReplacement, toldPart};
+ghost use Rattle.semantics.specs.Image.{nodesOf, edgesOf};
+ghost use Rattle.storage.specs.Index.{FEW};
+ghost use Rattle.pozhdaghi.specs.Replaced.{askedFor};
 ghost use Rattle.pozhdaghi.specs.Written.{numbersIn};
 use crate::asked;
 use crate::numbers;
@@ -14,8 +17,10 @@ use database::fresh;
 use database::layout;
 use database::lookup;
 use partial::replace;
+use partial::replace::Owner;
 use semantics::answer::Replacement;
 use semantics::bounds;
+use semantics::graph::FileId;
 use semantics::graph::PartialPathId;
 use storage::check;
 
@@ -36,28 +41,46 @@ fn tell_replacement(replaced: Replacement, answer: &mut [u64])
     numbers::write(numbers::of_replacement(replaced), answer);
 }
 
-// A replacement with a large index, which takes any image. What is exported is compiled as a function of its own: a stack frame with a large index
-// has forty pages, and to touch them takes a third of the time of a call on a small image.
-#[no_mangle]
-pub extern "C" fn pozhdaghi_replace_file_large(
+// A replacement with a small index, and one with a large index, which takes any image. Two calls make each of them, so that they are compiled as functions
+// of their own: a stack frame with a large index has forty pages, and to touch them takes a third of the time of a call on a small image.
+fn replace_small_for(
     image: &[u8],
-    file: u32,
+    owner: Owner,
+    asked: &[u64],
+    work: &mut [u32],
+    words: &mut [u32],
+    answer: &mut [u64],
+)
+    requires { ⌜ (nodesOf (now image) ≤ FEW) × (edgesOf (now image) ≤ FEW) ⌝ }
+    ensures { λ _. ⌜ now (answer .exit) ≡ written (length (now (answer .entry)))
+        (toldReplacement (askedFor owner (now (image .entry)) (now (asked .entry)) (now (work .entry)) (now (words .entry)) .answer)) ⌝ }
+    ensures { λ _. ⌜ now (work .exit) ≡ askedFor owner (now (image .entry)) (now (asked .entry)) (now (work .entry)) (now (words .entry)) .work ⌝ }
+    ensures { λ _. ⌜ now (words .exit) ≡ askedFor owner (now (image .entry)) (now (asked .entry)) (now (work .entry)) (now (words .entry)) .database ⌝ }
+{
+    let config = asked::config(asked);
+    let replaced = replace::replace_small(image, owner, config, work, words);
+    tell_replacement(replaced, answer);
+}
+
+fn replace_large_for(
+    image: &[u8],
+    owner: Owner,
     asked: &[u64],
     work: &mut [u32],
     words: &mut [u32],
     answer: &mut [u64],
 )
     ensures { λ _. ⌜ now (answer .exit) ≡ written (length (now (answer .entry)))
-        (toldReplacement (replaceAsked (now (image .entry)) file (now (asked .entry)) (now (work .entry)) (now (words .entry)) .answer)) ⌝ }
-    ensures { λ _. ⌜ now (work .exit) ≡ replaceAsked (now (image .entry)) file (now (asked .entry)) (now (work .entry)) (now (words .entry)) .work ⌝ }
-    ensures { λ _. ⌜ now (words .exit) ≡ replaceAsked (now (image .entry)) file (now (asked .entry)) (now (work .entry)) (now (words .entry)) .database ⌝ }
+        (toldReplacement (askedFor owner (now (image .entry)) (now (asked .entry)) (now (work .entry)) (now (words .entry)) .answer)) ⌝ }
+    ensures { λ _. ⌜ now (work .exit) ≡ askedFor owner (now (image .entry)) (now (asked .entry)) (now (work .entry)) (now (words .entry)) .work ⌝ }
+    ensures { λ _. ⌜ now (words .exit) ≡ askedFor owner (now (image .entry)) (now (asked .entry)) (now (work .entry)) (now (words .entry)) .database ⌝ }
 {
     let config = asked::config(asked);
-    let replaced = replace::replace_large(image, file, config, work, words);
+    let replaced = replace::replace_large(image, owner, config, work, words);
     tell_replacement(replaced, answer);
 }
 
-// A replacement, with the index that the image asks for.
+// A file replaced, with the index that the image asks for.
 #[no_mangle]
 pub extern "C" fn pozhdaghi_replace_file(
     image: &[u8],
@@ -72,13 +95,34 @@ pub extern "C" fn pozhdaghi_replace_file(
     ensures { λ _. ⌜ now (work .exit) ≡ replaceAsked (now (image .entry)) file (now (asked .entry)) (now (work .entry)) (now (words .entry)) .work ⌝ }
     ensures { λ _. ⌜ now (words .exit) ≡ replaceAsked (now (image .entry)) file (now (asked .entry)) (now (work .entry)) (now (words .entry)) .database ⌝ }
 {
+    let owner = Owner::File(FileId(file));
     if check::is_small(image) {
-        let config = asked::config(asked);
-        let replaced = replace::replace_small(image, file, config, work, words);
-        tell_replacement(replaced, answer);
+        replace_small_for(image, owner, asked, work, words, answer);
         return;
     }
-    pozhdaghi_replace_file_large(image, file, asked, work, words, answer);
+    replace_large_for(image, owner, asked, work, words, answer);
+}
+
+// The alias set replaced, likewise.
+#[no_mangle]
+pub extern "C" fn pozhdaghi_replace_aliases(
+    image: &[u8],
+    asked: &[u64],
+    work: &mut [u32],
+    words: &mut [u32],
+    answer: &mut [u64],
+)
+    ensures { λ _. ⌜ now (answer .exit) ≡ written (length (now (answer .entry)))
+        (toldReplacement (aliasesAsked (now (image .entry)) (now (asked .entry)) (now (work .entry)) (now (words .entry)) .answer)) ⌝ }
+    ensures { λ _. ⌜ now (work .exit) ≡ aliasesAsked (now (image .entry)) (now (asked .entry)) (now (work .entry)) (now (words .entry)) .work ⌝ }
+    ensures { λ _. ⌜ now (words .exit) ≡ aliasesAsked (now (image .entry)) (now (asked .entry)) (now (work .entry)) (now (words .entry)) .database ⌝ }
+{
+    let owner = Owner::Nobody;
+    if check::is_small(image) {
+        replace_small_for(image, owner, asked, work, words, answer);
+        return;
+    }
+    replace_large_for(image, owner, asked, work, words, answer);
 }
 
 // Where the edges of a record stand in the words.

@@ -18,6 +18,7 @@ pub use direct_search::direct::search_recorded as direct_recorded;
 pub use finding::name::find_name;
 pub use linear_search::linear::search as linear;
 pub use linear_search::linear::search_recorded as linear_recorded;
+pub use partial::replace::replace_aliases;
 pub use partial::replace::replace_file;
 pub use path::judgement::is_complete;
 pub use path::judgement::shadows;

@@ -28,7 +28,7 @@ use Rattle.semantics.specs.declared.answer.Creation.{Creation}
 use Rattle.semantics.specs.declared.answer.Creation.the-variants as Creation
 use Rattle.semantics.specs.declared.answer.Replacement.{Replacement}
 use Rattle.semantics.specs.declared.answer.Replacement.the-variants as Replacement
-use Rattle.semantics.specs.Limits.{Bounds, slotWords}
+use Rattle.semantics.specs.Limits.{Bounds, slotWords, nobody}
 use Rattle.semantics.specs.Answer.{Answer, ok, refuse}
 use Rattle.semantics.specs.Graph.{Graph, View, viewOf}
 use Rattle.semantics.specs.Path.{Symbol, Step, along, jumped, Path, replay, isComplete, shadows}
@@ -36,7 +36,7 @@ use Rattle.semantics.specs.Enumeration.{Setting, State, figured, reportO
 use Rattle.semantics.specs.Recorded.{edgeLists}
 use Rattle.semantics.specs.Direct.{direct, searchSetting}
 use Rattle.semantics.specs.Linear.{linear, linearSetting}
-use Rattle.semantics.specs.PartialPaths.{Route, Slot, filePartials, partialSetting, partialStats}
+use Rattle.semantics.specs.PartialPaths.{Route, Slot, filePartials, aliasRoutes, partialSetting, partialStats}
 use Rattle.semantics.specs.Stitching.{stitched}
 use Rattle.semantics.specs.Words.{zeros, wholeSlots, area}
 use Rattle.semantics.specs.Database.{checkDatabase, freshWords, hasRoom, replaceWords}
@@ -244,3 +244,18 @@ unfoldable pub replaceCall : (bd : Bounds) (known : ℕ → ℕ → Bool) → An
 unfolding replacementOutcome checkDatabase
 replaceCall bd known (ok g) q words = replacementOutcome bd g q words (checkDatabase bd known g words)
 replaceCall bd known (refuse x) q words = unaltered q words (Replacement.Image x)
+
+-- what replacing the alias set is asked
+abbrev pub aliasRequest : SearchOrder → Limit → Limit → ℕ → FileRequest
+aliasRequest order most expansions work = record { order = order; length = most; expansions = expansions; work = work; file = nobody }
+
+unfoldable pub aliasOutcome : (bd : Bounds) → Graph → FileRequest → List ℕ → Answer DatabaseRefusal (List Slot) → Change Replacement
+unfolding computationOutcome aliasRoutes
+aliasOutcome bd g q words (ok db) = computationOutcome bd g q words (aliasRoutes bd (q .length) (fileSettingOf bd q) g)
+aliasOutcome bd g q words (refuse r) = unaltered q words (Replacement.Database r)
+
+-- the image, 35, 34, the computation, then 33; never 21
+unfoldable pub aliasCall : (bd : Bounds) (known : ℕ → ℕ → Bool) → Answer ImageRefusal Graph → FileRequest → List ℕ → Change Replacement
+unfolding aliasOutcome checkDatabase
+aliasCall bd known (ok g) q words = aliasOutcome bd g q words (checkDatabase bd known g words)
+aliasCall bd known (refuse x) q words = unaltered q words (Replacement.Image x)

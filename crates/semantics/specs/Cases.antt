@@ -23,6 +23,7 @@ pub mod Names
 pub mod Partials
 pub mod Databases
 pub mod Stitching
+pub mod Aliases
 pub mod Instance
 pub mod Entries
 pub mod Versions

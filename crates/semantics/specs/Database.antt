@@ -8,8 +8,8 @@ use lib.ListN.{length, getD, take, drop}
 use lib.Seq.{slice}
 use Rattle.semantics.specs.declared.refusal.DatabaseRefusal.{DatabaseRefusal}
 use Rattle.semantics.specs.declared.refusal.DatabaseRefusal.the-variants.{Malformed, Outgrown}
-use Rattle.semantics.specs.Lists.{and, pick}
-use Rattle.semantics.specs.Limits.{Bounds, recordWords}
+use Rattle.semantics.specs.Lists.{or, and, pick}
+use Rattle.semantics.specs.Limits.{Bounds, recordWords, nobody}
 use Rattle.semantics.specs.Answer.{Answer, andThen, okIf}
 use Rattle.semantics.specs.Graph.{Graph}
 use Rattle.semantics.specs.Enumeration.{State}
@@ -50,9 +50,9 @@ unfoldable pub slotsIn : Bounds → List ℕ → List Slot
 unfolding records decode
 slotsIn bd ws = map decode (records bd ws)
 
--- which owners a database may name, given the stored F: the files
+-- which owners a database may name, given the stored F: the files, and nobody, whatever F is
 abbrev pub knownOwners : ℕ → ℕ → Bool
-knownOwners files f = ltb f files
+knownOwners files f = or (ltb f files) (eqb f nobody)
 
 -- a live record has a known owner, a start below N and 1 to 127 edges
 unfoldable pub sound : Bounds → (ℕ → ℕ → Bool) → ℕ → ℕ → List ℕ → Bool

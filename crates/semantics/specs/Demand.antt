@@ -1,5 +1,5 @@
--- What demand 3 speaks of: the lists that the path rules take, partial paths, what a database holds, and the demand itself.
--- The third demand; document 01, "Partial paths", last paragraph.
+-- What demand 3 speaks of: the lists that the path rules take, partial paths, what a database holds, and the demand itself; and the same with the alias set.
+-- The third demand; document 01, "Partial paths", last paragraph; document 02, order 5.
 use Prim.Native.Nat.{ℕ, _≤_, _<_}
 use mathlib.Core.Path.{_≡_}
 use mathlib.Core.Logic.{_⊎_}
@@ -10,20 +10,21 @@ use lib.ListN.{length}
 use lib.IntN.{ℤ}
 use Rattle.semantics.specs.declared.graph.NodeId.{NodeId}
 use Rattle.semantics.specs.declared.graph.Node.the-variants as N
-use Rattle.semantics.specs.declared.graph.Edge.{Edge}
 use Rattle.semantics.specs.declared.graph.Edge.the-variants as E
 use Rattle.semantics.specs.declared.search.Limit.{Limit}
 use Rattle.semantics.specs.declared.search.Limit.the-variants.{Absent}
 use Rattle.semantics.specs.declared.refusal.PartialPathRefusal.{PartialPathRefusal}
-use Rattle.semantics.specs.Lists.{and, Distinct}
-use Rattle.semantics.specs.Limits.{Bounds, within}
+use Rattle.semantics.specs.Lists.{Distinct}
+use Rattle.semantics.specs.Limits.{Bounds, within, nobody}
 use Rattle.semantics.specs.Answer.{ok}
-use Rattle.semantics.specs.Graph.{nodeId, Graph, View, viewOf, fileOf, lacksFile, isStart, isEndpoint}
+use Rattle.semantics.specs.Graph.{nodeId, Graph, View, viewOf, fileOf, isStart, isEndpoint}
 use Rattle.semantics.specs.Path.{Path, replay, isComplete}
 use Rattle.semantics.specs.Enumeration.{Setting, State}
-use Rattle.semantics.specs.PartialPaths.{Route, Slot, slot, belongs, fileRoutes, replaced}
+use Rattle.semantics.specs.PartialPaths.{Route, Slot, slot, belongs, isFileless, ownedBy, fileRoutes, aliasRoutes, replaced}
 pub mod Laws
 pub mod Rules
+pub mod Aliases
+pub mod Filled
 
 -- LISTS THAT THE PATH RULES TAKE
 
@@ -38,12 +39,6 @@ pub record Valid (bd : Bounds) (lim : Limit) (g : View) (r : ℕ) (l : List ℕ)
   pub path : Path
   pub taken : Taken bd lim g r l path
   pub complete : isComplete g path ≡ true
-
--- a live edge whose ends both lack a file
-unfoldable pub isFileless : View → Edge → Bool
-unfolding lacksFile
-isFileless g E.Removed = false
-isFileless g (E.Live s t p) = and (lacksFile (fileOf (g .node (s .0)))) (lacksFile (fileOf (g .node (t .0))))
 
 -- no edge of the list has two ends that both lack a file
 abbrev pub NoFileless : View → List ℕ → Type 0
@@ -67,6 +62,15 @@ fileOwners g =
       Starts = λ f n. (n ≡ 0) ⊎ ((fileOf ((viewOf g) .node n) ≡ some f) × (isStart ((viewOf g) .node n) ≡ true));
     }
 
+-- with the alias set: the files, and nobody, which no node is of, so that its partial paths start at root alone
+abbrev pub allOwners : Graph → Owners
+allOwners g =
+    record {
+      Known = λ f. (f < g .files) ⊎ (f ≡ nobody);
+      owns = ownedBy (viewOf g);
+      Starts = (fileOwners g) .Starts;
+    }
+
 -- edges of an owner, each going on from the last one's target
 pub data Walk (g : View) (mine : ℕ → Bool) : ℕ → List ℕ → ℕ → Type 0 where
   stay : {n : ℕ} → Walk g mine n [] n
@@ -87,18 +91,26 @@ pub record Holds (O : Owners) (bd : Bounds) (g : View) (db : List Slot) : Type 0
   pub every : (f : ℕ) (r : Route) → O .Known f → Partial bd Absent g O f r → List·Memᴰ (slot f (r .start) (r .current) (r .edges)) db
   pub only : (f s t : ℕ) (es : List ℕ) → List·Memᴰ (slot f s t es) db → O .Known f × Partial bd Absent g O f (record { start = s; current = t; edges = es })
 
--- every slot names a file of the graph
+-- every slot names a file of the graph or nobody
 abbrev pub OwnersIn : Graph → List Slot → Type 0
-OwnersIn g db = (f s t : ℕ) (es : List ℕ) → List·Memᴰ (slot f s t es) db → f < g .files
+OwnersIn g db = (f s t : ℕ) (es : List ℕ) → List·Memᴰ (slot f s t es) db → (allOwners g) .Known f
 
--- a database in which files were then replaced on this graph, without limits and unrefused; the files replaced so far. It began with any slots
--- that name files of this graph: a fresh one has none, and those of an earlier graph are such as long as the words meet neither 35 nor 34
+-- no slot is of the alias set
+abbrev pub NoAliases : List Slot → Type 0
+NoAliases db = (s t : ℕ) (es : List ℕ) → List·Memᴰ (slot nobody s t es) db → ⊥
+
+-- an unrefused computation without limits on this graph, for a file or for the alias set
+pub data Computed (bd : Bounds) (g : Graph) : ℕ → State Route → Type 0 where
+  of-file : {u : State Route} (f : ℕ) (c : Setting PartialPathRefusal) → f < g .files → fileRoutes bd Absent c g f ≡ ok u → c .maxCount ≡ Absent → c .maxComplete ≡ Absent → Computed bd g f u
+  of-aliases : {u : State Route} (c : Setting PartialPathRefusal) → aliasRoutes bd Absent c g ≡ ok u → c .maxCount ≡ Absent → c .maxComplete ≡ Absent → Computed bd g nobody u
+
+-- a database in which files and the alias set were then replaced on this graph, without limits and unrefused, in any order; the owners replaced so far.
+-- It began with any slots that name these: a fresh one has none, and those of an earlier graph are such as long as the words meet neither 35 nor 34
 pub data Built (bd : Bounds) (g : Graph) : List Slot → List ℕ → Type 0 where
   given : {db : List Slot} → OwnersIn g db → Built bd g db []
-  after : {db : List Slot} {done : List ℕ} (f : ℕ) (c : Setting PartialPathRefusal) (u : State Route) → Built bd g db done → f < g .files → fileRoutes bd Absent c g f ≡ ok u → c .maxCount ≡ Absent → c .maxComplete ≡ Absent
-      → Built bd g (replaced f db u) (f ∷ done)
+  after : {db : List Slot} {done : List ℕ} (f : ℕ) (u : State Route) → Built bd g db done → Computed bd g f u → Built bd g (replaced f db u) (f ∷ done)
 
--- what stitching relies on; Acceptance/Laws shows it of every accepted graph and its files
+-- what stitching relies on; Acceptance/Laws shows it of every accepted graph and its files, Demand/Aliases of these and nobody
 pub record Suited (g : View) (O : Owners) : Type 0 where
   pub root-first : (n : ℕ) → g .node n ≡ N.Root → n ≡ 0
   pub home : (n f : ℕ) → fileOf (g .node n) ≡ some f → O .Known f
@@ -130,3 +142,11 @@ pub record Demand (bd : Bounds) (g : View) (r : ℕ) (lim : Limit) (D S : List (
   pub stitched : (l : List ℕ) → (List·Memᴰ l S → Valid bd lim g r l × NoFileless g l) × (Valid bd lim g r l × NoFileless g l → List·Memᴰ l S)
   pub stitched-once : Once S
   pub agree : (Agree D S → (l : List ℕ) → Valid bd lim g r l → NoFileless g l) × (((l : List ℕ) → Valid bd lim g r l → NoFileless g l) → Agree D S)
+
+-- ORDER 5, of the same sets where the database holds the alias set too: each is just the valid lists
+pub record DemandAll (bd : Bounds) (g : View) (r : ℕ) (lim : Limit) (D S : List (List ℕ)) : Type 0 where
+  pub direct : (l : List ℕ) → (List·Memᴰ l D → Valid bd lim g r l) × (Valid bd lim g r l → List·Memᴰ l D)
+  pub direct-once : Once D
+  pub stitched : (l : List ℕ) → (List·Memᴰ l S → Valid bd lim g r l) × (Valid bd lim g r l → List·Memᴰ l S)
+  pub stitched-once : Once S
+  pub agree : Agree D S

@@ -20,7 +20,7 @@ use Rattle.semantics.specs.Answer.{Answer}
 use Rattle.semantics.specs.Graph.{Graph}
 use Rattle.semantics.specs.Image.{symbolBytes, checkImage}
 use Rattle.semantics.specs.Database.{Part, knownOwners, lookupPart}
-use Rattle.semantics.specs.Calls.{ReplayOutcome, Request, LinearRequest, FileRequest, Outcome, Change, Reply, checkCall, replayCall, completeCall, shadowsCall, directCall, linearCall, stitchedCall, freshCall, replaceCall}
+use Rattle.semantics.specs.Calls.{ReplayOutcome, Request, LinearRequest, FileRequest, Outcome, Change, Reply, checkCall, replayCall, completeCall, shadowsCall, directCall, linearCall, stitchedCall, aliasRequest, freshCall, replaceCall, aliasCall}
 use Rattle.semantics.specs.Finding.{FindRequest, findCall}
 use Rattle.semantics.specs.Rewriting.{Rewritten, widen, narrow}
 use Rattle.semantics.specs.Asked.{orderAsked, lengthAsked, expansionsAsked, limitsAsked}
@@ -39,6 +39,9 @@ linearRequestOf limits rs node = record { limits = limits; result = length rs; n
 
 abbrev pub fileRequestOf : SearchOrder → Limit → Limit → List ℕ → ℕ → FileRequest
 fileRequestOf order most expansions ws file = record { order = order; length = most; expansions = expansions; work = length ws; file = file }
+
+abbrev pub aliasRequestOf : SearchOrder → Limit → Limit → List ℕ → FileRequest
+aliasRequestOf order most expansions ws = aliasRequest order most expansions (length ws)
 
 abbrev pub nameRequestOf : Limit → List ℕ → List ℕ → ℕ → FindRequest
 nameRequestOf most ws rs node = record { length = most; work = length ws; result = length rs; node = node }
@@ -86,6 +89,10 @@ freshDatabase im words = freshCall (graphIn im) words
 abbrev pub replaceFile : List ℕ → ℕ → SearchOrder → Limit → Limit → List ℕ → List ℕ → Change Replacement
 replaceFile im f order most expansions ws words = replaceCall base knownOwners (graphIn im) (fileRequestOf order most expansions ws f) words
 
+-- the alias set replaced, lent the same
+abbrev pub replaceAliases : List ℕ → SearchOrder → Limit → Limit → List ℕ → List ℕ → Change Replacement
+replaceAliases im order most expansions ws words = aliasCall base knownOwners (graphIn im) (aliasRequestOf order most expansions ws) words
+
 abbrev pub lookupOf : ℕ → List ℕ → Part
 lookupOf i words = lookupPart base knownOwners i words
 
@@ -106,6 +113,9 @@ nameAsked im n asked ws rs = findName im n (lengthAsked asked) ws rs
 
 abbrev pub replaceAsked : List ℕ → ℕ → List ℕ → List ℕ → List ℕ → Change Replacement
 replaceAsked im f asked ws words = replaceFile im f (orderAsked asked) (lengthAsked asked) (expansionsAsked asked) ws words
+
+abbrev pub aliasesAsked : List ℕ → List ℕ → List ℕ → List ℕ → Change Replacement
+aliasesAsked im asked ws words = replaceAliases im (orderAsked asked) (lengthAsked asked) (expansionsAsked asked) ws words
 
 -- WHAT IS LEFT, in one line for the functions below an entry
 

@@ -47,6 +47,10 @@ recordWords bd = bd .edges + 4
 abbrev pub recordLength : ℕ
 recordLength = recordWords base
 
+-- the owner of the alias set, which no file of a graph is: its slots have 65,535 as their first word, which is the owner plus 1
+abbrev pub nobody : ℕ
+nobody = 65534
+
 -- a step of a path in words, of which its symbol has two, and all steps of a path: one for the reference and one for each edge
 abbrev pub stepLength : ℕ
 stepLength = 9

@@ -1,5 +1,5 @@
--- The partial paths of a file, and the slots of a database that hold them.
--- Document 01, "Partial paths": `StackPartialPathSet::compute`, `replace_file`.
+-- The partial paths of a file and those of the alias set, and the slots of a database that hold them.
+-- Document 01, "Partial paths": `StackPartialPathSet::compute`, `replace_file`; document 02, order 5.
 use Prim.Native.Nat.{ℕ, suc}
 use mathlib.Core.Bool.{Bool, true, false}
 use mathlib.Core.List.{List, [], _∷_, _++_, map}
@@ -14,10 +14,10 @@ use Rattle.semantics.specs.declared.search.SearchOrder.{SearchOrder}
 use Rattle.semantics.specs.declared.search.PartialPathStats.{PartialPathStats}
 use Rattle.semantics.specs.declared.refusal.PartialPathRefusal.{PartialPathRefusal}
 use Rattle.semantics.specs.declared.refusal.PartialPathRefusal.the-variants.{UnknownFile, TooLong, NoWaitingSlot, TooManyExpansions}
-use Rattle.semantics.specs.Lists.{or, and, consIf, has, select}
-use Rattle.semantics.specs.Limits.{Bounds, within}
+use Rattle.semantics.specs.Lists.{or, and, pick, consIf, has, select}
+use Rattle.semantics.specs.Limits.{Bounds, within, nobody}
 use Rattle.semantics.specs.Answer.{Answer, refuse}
-use Rattle.semantics.specs.Graph.{fileId, Graph, View, viewOf, fileOf, isFile, isStart, isEndpoint}
+use Rattle.semantics.specs.Graph.{fileId, Graph, View, viewOf, fileOf, isFile, lacksFile, isStart, isEndpoint}
 use Rattle.semantics.specs.Enumeration.{Try, go, tested, Setting, slots, unlimited, State, enumerate}
 pub mod Laws
 
@@ -27,7 +27,7 @@ pub record Route : Type 0 where
   pub current : ℕ
   pub edges : List ℕ
 
--- a database slot: dead, or a partial path of an owner (in the base, of a file)
+-- a database slot: dead, or a partial path of an owner, which is a file or nobody
 pub data Slot : Type 0 where
   dead : Slot
   slot : (owner start end : ℕ) (edges : List ℕ) → Slot
@@ -41,6 +41,17 @@ isOfFile g f (E.Live s t p) = or (isFile f (fileOf (g .node (s .0)))) (isFile f 
 unfoldable pub belongs : View → ℕ → ℕ → Bool
 unfolding isOfFile
 belongs g f e = isOfFile g f (g .edge e)
+
+-- a live edge whose ends both lack a file: from root to root or to jump
+unfoldable pub isFileless : View → Edge → Bool
+unfolding lacksFile
+isFileless g E.Removed = false
+isFileless g (E.Live s t p) = and (lacksFile (fileOf (g .node (s .0)))) (lacksFile (fileOf (g .node (t .0))))
+
+-- which edges an owner has: nobody those of the alias set, a file its own
+unfoldable pub ownedBy : View → ℕ → ℕ → Bool
+unfolding isFileless belongs
+ownedBy g f e = pick (eqb f nobody) (isFileless g (g .edge e)) (belongs g f e)
 
 unfoldable pub targetOf : Edge → ℕ
 targetOf E.Removed = 0
@@ -101,6 +112,11 @@ ifKnown false bd lim c g f = refuse (UnknownFile (fileId f))
 unfoldable pub filePartials : Bounds → Limit → Setting PartialPathRefusal → Graph → ℕ → Answer PartialPathRefusal (State Route)
 unfolding ifKnown
 filePartials bd lim c g f = ifKnown (ltb f (g .files)) bd lim c g f
+
+-- the alias set: from root alone over just the edges whose ends both lack a file; there is no file that could be unknown
+unfoldable pub aliasRoutes : Bounds → Limit → Setting PartialPathRefusal → Graph → Answer PartialPathRefusal (State Route)
+unfolding partials ownedBy viewOf
+aliasRoutes bd lim c g = partials bd lim c (viewOf g) (ownedBy (viewOf g) nobody) (routeAt 0 ∷ [])
 
 abbrev pub partialStats : State Route → PartialPathStats
 partialStats s =

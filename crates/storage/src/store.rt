@@ -4,7 +4,7 @@ ghost use mathlib.Core.Path.{_≡_};
 ghost use Prim.Native.Nat.{_+_, _*_, _<_};
 ghost use lib.Dec.{eqb};
 ghost use lib.ListN.{length, getD};
-ghost use Rattle.semantics.specs.Graph.{fileOf, isFile, isReference, isDefinition, isExported, isStart, isEndpoint};
+ghost use Rattle.semantics.specs.Graph.{fileOf, isFile, lacksFile, isReference, isDefinition, isExported, isStart, isEndpoint};
 ghost use Rattle.semantics.specs.Halves.{joined};
 ghost use Rattle.storage.specs.Index.{FLAG, SYMBOL, SYMBOL-HIGH, BLOCK, Blocks, cell, nodeRow, edgeRow, firstRow, nextRow, targetRow, isPlain};
 use crate::blocks;
@@ -197,6 +197,18 @@ pub fn is_of_file(index: &[u32], n: NodeId, file: u32) -> bool
         return false;
     }
     blocks::word(index, blocks::FILE, n.0) == file
+}
+
+// Root and jump; so does a record that is no live node.
+pub fn lacks_file(index: &[u32], n: NodeId) -> bool
+    requires { ⌜ Blocks (now index) ⌝ }
+    ensures { λ r. ⌜ r ≡ lacksFile (fileOf (nodeRow (now (index .entry)) (n .0))) ⌝ }
+{
+    let kind = blocks::word(index, blocks::KIND, n.0);
+    if kind < kinds::SCOPE {
+        return true;
+    }
+    kinds::DROP_SCOPES < kind
 }
 
 // The link to the first edge that leaves a node: the edge's number plus 1, or 0.

@@ -16,6 +16,7 @@ pub enum Call {
     FindName,
     Fresh,
     ReplaceFile,
+    ReplaceAliases,
     Lookup,
     Stitched,
     StitchedRecorded,
@@ -26,6 +27,10 @@ pub enum Call {
 impl Call {
     pub fn is_rewriting(self) -> bool {
         matches!(self, Self::Widen | Self::Narrow)
+    }
+
+    pub fn is_replacement(self) -> bool {
+        matches!(self, Self::ReplaceFile | Self::ReplaceAliases)
     }
 
     pub fn is_recorded(self) -> bool {
@@ -130,7 +135,7 @@ impl Outcome {
     /// replaced file, which the given library does not count.
     pub fn without_waited(&self, call: Call) -> Self {
         let mut outcome = self.clone();
-        let place = if call == Call::ReplaceFile { 6 } else { 9 };
+        let place = if call.is_replacement() { 6 } else { 9 };
         if let (0, Some(number)) = (self.number(), outcome.answer.get_mut(place)) {
             *number = 0;
         }

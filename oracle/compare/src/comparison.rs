@@ -1,7 +1,8 @@
 //! A case put to all three, and where they differ.
 
+use crate::agreement::Agreement;
 use crate::case::{Call, Case, Outcome};
-use crate::{given, ours, second, turned};
+use crate::{agreement, given, ours, second, turned};
 use std::panic::{AssertUnwindSafe, catch_unwind, set_hook, take_hook};
 
 /// What the three left behind; the given library only where it has the answer.
@@ -18,6 +19,9 @@ pub struct Compared {
     pub turned: Option<Outcome>,
     /// The image that a rewriting hands back is rewritten to the given one.
     pub is_undone: bool,
+    /// Whether a stitched search records what direct search does, where it must; and
+    /// which edges its database takes in.
+    pub agreement: Option<Agreement>,
 }
 
 impl Compared {
@@ -30,7 +34,8 @@ impl Compared {
             .turned
             .as_ref()
             .is_some_and(|turned| *turned != self.ours);
-        self.ours != self.second || from_given || from_turned || !self.is_undone
+        let disagrees = self.agreement.is_some_and(|found| !found.holds);
+        self.ours != self.second || from_given || from_turned || !self.is_undone || disagrees
     }
 }
 
@@ -52,6 +57,7 @@ pub fn compare(case: &Case) -> Option<Compared> {
         counted: ours.without_waited(case.call),
         turned: turned::run(case),
         is_undone: !case.call.is_rewriting() || turned::is_undone(case, &whole, &ours),
+        agreement: agreement::found(case, &whole, &ours),
         ours,
         second: whole.cut(case),
         given,

@@ -1,10 +1,11 @@
-//! The database in words, written a second time from document 01, "Partial paths".
-//! The Rust keeps its own in vectors that grow.
+//! The database in words, written a second time from document 01, "Partial paths",
+//! and document 02, order 5. The Rust keeps its own in vectors that grow, without the
+//! set of that order.
 
 use crate::budget::Asked;
 use crate::check::Refusal;
 use crate::graph::Graph;
-use crate::partials::{Computed, compute};
+use crate::partials::{Computed, Owner, compute};
 use crate::path::MOST_EDGES;
 
 /// "Slots used, N, F; then slots of 131: file + 1 (0 means dead), start, end, edge
@@ -21,9 +22,13 @@ pub const COUNT: usize = 3;
 pub const EDGES: usize = 4;
 pub const MOST_SLOTS: usize = 4_096;
 
-#[derive(Clone, PartialEq, Eq, Debug)]
+/// "One further set, whose slots have 65,535 as their first word."
+pub const ALIASES: u32 = 65_535;
+
+#[derive(Clone, PartialEq, Eq, PartialOrd, Ord, Debug)]
 pub struct PartialPath {
-    pub file: u32,
+    /// The first word: file + 1, or that of the further set.
+    pub owner: u32,
     pub start: u32,
     pub end: u32,
     pub edges: Vec<u32>,
@@ -32,7 +37,7 @@ pub struct PartialPath {
 impl PartialPath {
     /// The words of a slot.
     pub fn words(&self) -> Vec<u32> {
-        let mut words = vec![self.file + 1, self.start, self.end, self.edges.len() as u32];
+        let mut words = vec![self.owner, self.start, self.end, self.edges.len() as u32];
         words.extend(&self.edges);
         words.resize(DATABASE_SLOT, 0);
         words
@@ -61,8 +66,10 @@ fn check_words(words: &[u32]) -> Result<(), Refusal> {
     for number in 0..words[USED] as usize {
         let slot = slot(words, number);
         let counted = (1..=MOST_EDGES as u32).contains(&slot[COUNT]);
-        // The owner is file + 1, so the file is inside F when the owner is at most F.
-        let inside = slot[OWNER] <= words[FILES] && slot[START] < words[NODES];
+        // The owner is file + 1, so the file is inside F when the owner is at most F;
+        // the further set "is accepted by 35", which tests its counts and starts alike.
+        let is_known = slot[OWNER] <= words[FILES] || slot[OWNER] == ALIASES;
+        let inside = is_known && slot[START] < words[NODES];
         if slot[OWNER] != 0 && !(counted && inside) {
             return Err(vec![35]);
         }
@@ -89,7 +96,7 @@ pub fn partial_paths(words: &[u32]) -> Vec<Option<PartialPath>> {
     let read = |number: usize| {
         let slot = slot(words, number);
         (slot[OWNER] != 0).then(|| PartialPath {
-            file: slot[OWNER] - 1,
+            owner: slot[OWNER],
             start: slot[START],
             end: slot[END],
             edges: slot[EDGES..EDGES + slot[COUNT] as usize].to_vec(),
@@ -109,23 +116,31 @@ pub fn fresh(graph: &Graph, words: &mut [u32]) -> Result<(), Refusal> {
     Ok(())
 }
 
+/// Whether a slot in use is one of the further set.
+pub fn has_aliases(words: &[u32]) -> bool {
+    let owner = |number: usize| words.get(place(number) + OWNER).copied();
+    let used = words.first().map_or(0, |&used| used as usize);
+    (0..used.min(capacity(words))).any(|number| owner(number) == Some(ALIASES))
+}
+
 /// "Replacing a file zeroes its slots, appends the new ones in order found and
-/// stores the graph's N and F"; "33 follows a finished computation".
-pub fn replace_file(
+/// stores the graph's N and F"; "33 follows a finished computation". The further set
+/// "has its own replace call", which does the same with its slots.
+pub fn replace(
     graph: &Graph,
-    file: u32,
+    owner: Owner,
     asked: Asked,
     waiting: usize,
     words: &mut [u32],
 ) -> Result<Computed, Refusal> {
     check_database(graph, words)?;
-    let computed = compute(graph, file, asked, waiting)?;
+    let computed = compute(graph, owner, asked, waiting)?;
     let used = words[USED] as usize;
     if used + computed.paths.len() > capacity(words) {
         return Err(vec![33]);
     }
     for number in 0..used {
-        if words[place(number) + OWNER] == file + 1 {
+        if words[place(number) + OWNER] == owner.word() {
             words[place(number)..place(number + 1)].fill(0);
         }
     }

@@ -15,6 +15,19 @@ pub fn graph(random: &mut Random) -> Graph {
     graph
 }
 
+/// One with edges that belong to no file, likewise; seldom with no file at all.
+pub fn aliased(random: &mut Random) -> Graph {
+    let mut graph = if random.percent(8) {
+        shapes::fileless(random)
+    } else {
+        shapes::aliased(random)
+    };
+    if random.percent(50) {
+        widen(random, &mut graph);
+    }
+    graph
+}
+
 /// Symbols of 64 bits: those of a row differ in the high half alone, in the low half
 /// alone, about the bounds of both widths, and all of them fit 32 bits.
 const WIDE_SYMBOLS: [[u64; 4]; 4] = [
@@ -43,13 +56,14 @@ fn narrow(random: &mut Random) -> Graph {
     if random.below(1_500) == 0 {
         return shapes::largest(random);
     }
-    match random.weighted(&[64, 13, 4, 6, 6, 1, 6]) {
+    match random.weighted(&[64, 13, 4, 6, 6, 1, 6, 6]) {
         0 => mixed(random),
         1 => shapes::chain(random),
         2 => shapes::tower(random),
         3 => shapes::ladder(random),
         4 => shapes::fan(random),
         5 => shapes::fileless(random),
+        6 => shapes::aliased(random),
         _ => shapes::namesakes(random),
     }
 }

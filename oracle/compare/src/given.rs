@@ -18,7 +18,7 @@ use cfglib::graph::stack::{
 /// Whether the given library has what led to an answer of this number.
 pub fn has(case: &Case, number: u64) -> bool {
     match case.call {
-        Call::FindName | Call::Widen | Call::Narrow => false,
+        Call::FindName | Call::Widen | Call::Narrow | Call::ReplaceAliases => false,
         Call::Lookup => is_buildable(&case.words),
         Call::ReplaceFile | Call::Stitched | Call::StitchedRecorded => {
             is_answer(number) && is_buildable(&case.words)
@@ -32,8 +32,10 @@ fn is_answer(number: u64) -> bool {
 }
 
 /// A lookup takes any stored N and F, for which the library's tables would be too large.
+/// "The Rust is consulted only for databases lacking" the set of order 5.
 fn is_buildable(words: &[u32]) -> bool {
     database::is_sound(words)
+        && !database::has_aliases(words)
         && words[NODES] as usize <= MOST_NODES
         && words[FILES] as usize <= MOST_FILES
 }
@@ -213,7 +215,7 @@ fn built(words: &[u32]) -> StackPartialPathDatabase {
             continue;
         };
         database.door_push(
-            StackFileId::from_raw(path.file),
+            StackFileId::from_raw(path.owner - 1),
             StackNodeId::from_raw(path.start),
             StackNodeId::from_raw(path.end),
             path.edges.into_iter().map(StackEdgeId::from_raw).collect(),
@@ -279,7 +281,7 @@ fn put_slots(words: &mut [u32], library: &StackPartialPathDatabase) {
 
 fn slot_words(path: &cfglib::graph::stack::StackPartialPath) -> Vec<u32> {
     let slot = database::PartialPath {
-        file: path.file().raw(),
+        owner: path.file().raw() + 1,
         start: path.start().raw(),
         end: path.end().raw(),
         edges: path.edges().iter().map(|edge| edge.raw()).collect(),

@@ -2,6 +2,7 @@
 //! implementation of documents 01 and 02 on the same drawn input. With SCENE only the
 //! calls of that scene. Ends with 1 if there is a difference.
 
+mod agreement;
 mod budget;
 mod case;
 mod check;

@@ -34,6 +34,9 @@ unsafe extern "C" {
     fn pozhdaghi_replace_file(image: *const u8, image_len: usize, file: u32,
         asked: *const u64, asked_len: usize, work: *mut u32, work_len: usize,
         words: *mut u32, words_len: usize, answer: *mut u64, answer_len: usize);
+    fn pozhdaghi_replace_aliases(image: *const u8, image_len: usize,
+        asked: *const u64, asked_len: usize, work: *mut u32, work_len: usize,
+        words: *mut u32, words_len: usize, answer: *mut u64, answer_len: usize);
     fn pozhdaghi_lookup(words: *const u32, words_len: usize, number: u32,
         answer: *mut u64, answer_len: usize);
     fn pozhdaghi_stitched(image: *const u8, image_len: usize, words: *const u32, words_len: usize,
@@ -69,13 +72,10 @@ pub fn run(case: &Case) -> Outcome {
 /// until the call has ended, and those that are written are lent nowhere else.
 #[rustfmt::skip]
 fn call(c: &Case, o: &mut Outcome) {
-    let (image, n) = (c.image.as_ptr(), c.image.len());
-    let (asked, asked_n) = (c.asked.as_ptr(), c.asked.len());
-    let (words, words_n) = (o.words.as_mut_ptr(), o.words.len());
-    let (work, work_n) = (o.work.as_mut_ptr(), o.work.len());
-    let (result, result_n) = (o.result.as_mut_ptr(), o.result.len());
-    let (area, area_n) = (o.area.as_mut_ptr(), o.area.len());
-    let (answer, answer_n) = (o.answer.as_mut_ptr(), o.answer.len());
+    let (image, asked, answer) = (c.image.as_ptr(), c.asked.as_ptr(), o.answer.as_mut_ptr());
+    let (n, asked_n, answer_n) = (c.image.len(), c.asked.len(), o.answer.len());
+    let (words, work, result) = (o.words.as_mut_ptr(), o.work.as_mut_ptr(), o.result.as_mut_ptr());
+    let (words_n, work_n, result_n) = (o.words.len(), o.work.len(), o.result.len());
     unsafe {
         match c.call {
             Call::Check => pozhdaghi_check(image, n, answer, answer_n),
@@ -98,13 +98,15 @@ fn call(c: &Case, o: &mut Outcome) {
             Call::Fresh => pozhdaghi_fresh(image, n, words, words_n, answer, answer_n),
             Call::ReplaceFile => pozhdaghi_replace_file(image, n, c.number, asked, asked_n,
                 work, work_n, words, words_n, answer, answer_n),
+            Call::ReplaceAliases => pozhdaghi_replace_aliases(image, n, asked, asked_n,
+                work, work_n, words, words_n, answer, answer_n),
             Call::Lookup => pozhdaghi_lookup(words, words_n, c.number, answer, answer_n),
             Call::Stitched => pozhdaghi_stitched(image, n, words, words_n, c.number,
                 asked, asked_n, work, work_n, result, result_n, answer, answer_n),
             Call::StitchedRecorded => pozhdaghi_stitched_recorded(image, n, words, words_n,
                 c.number, asked, asked_n, work, work_n, result, result_n, answer, answer_n),
-            Call::Widen => pozhdaghi_widen(image, n, area, area_n, answer, answer_n),
-            Call::Narrow => pozhdaghi_narrow(image, n, area, area_n, answer, answer_n),
+            Call::Widen => pozhdaghi_widen(image, n, o.area.as_mut_ptr(), o.area.len(), answer, answer_n),
+            Call::Narrow => pozhdaghi_narrow(image, n, o.area.as_mut_ptr(), o.area.len(), answer, answer_n),
         }
     }
 }

@@ -4,7 +4,7 @@ use crate::budget::{Asked, Slots};
 use crate::case::{Call, Case, Outcome};
 use crate::check::check;
 use crate::comparison::{Compared, compare};
-use crate::database::lookup;
+use crate::database::{has_aliases, lookup};
 use crate::graph::Version;
 use crate::names::{Named, find_name};
 use crate::path::replay;
@@ -30,6 +30,12 @@ pub struct Counts {
     flags: [u64; 3],
     /// Names: all, and those of a reference behind others, those of a shadowed path.
     names: [u64; 3],
+    /// Cases with slots that belong to no file.
+    aliases: u64,
+    /// Stitched searches whose recorded sets were compared with those of direct search:
+    /// over databases without the set that belongs to no file, and with it; those with
+    /// recorded paths over its edges, likewise.
+    agreements: [[u64; 2]; 2],
     /// Replayed paths: all, and those with jumps, symbols, attached scopes, scopes.
     replayed: [u64; 5],
 }
@@ -41,6 +47,12 @@ impl Counts {
         self.given += u64::from(compared.given.is_some());
         self.wide += u64::from(is_wide(case));
         self.turned += u64::from(compared.turned.is_some());
+        self.aliases += u64::from(has_aliases(&case.words));
+        if let Some(found) = compared.agreement {
+            let [all, over] = &mut self.agreements[usize::from(found.with_aliases)];
+            *all += 1;
+            *over += u64::from(found.over_aliases);
+        }
         *self
             .numbers
             .entry(case.call)
@@ -139,12 +151,23 @@ impl Counts {
             "accepted images of version 2 {}, calls put to both versions {}",
             self.wide, self.turned
         );
+        self.print_agreements();
         println!("flags: length {length}, path count {count}, complete paths {complete}");
         println!(
             "cases {}, of these also put to the given Rust {}",
             self.cases, self.given
         );
         println!("differences {}", self.differences);
+    }
+
+    fn print_agreements(&self) {
+        let [[without, missed], [with, over]] = self.agreements;
+        println!(
+            "databases with slots that belong to no file {}; recorded sets compared with those \
+             of direct search {without} without such slots, {missed} of them missing paths over \
+             edges of no file, {with} with all of them, {over} of them with such paths",
+            self.aliases
+        );
     }
 }
 
@@ -196,6 +219,9 @@ fn show_answers(case: &Case) {
     }
     if let Some(turned) = compared.turned {
         show_outcome("ours on the other version", case, &turned);
+    }
+    if compared.agreement.is_some_and(|found| !found.holds) {
+        println!("direct and stitched search record other sets");
     }
     if !compared.is_undone {
         println!("rewritten back it is not the image given");

@@ -6,7 +6,7 @@ use crate::case::{Call, Case, LONGEST_ANSWER};
 use crate::check::check;
 use crate::graph::{Graph, Node};
 use crate::names::find_name;
-use crate::partials::compute;
+use crate::partials::{Owner, compute};
 use crate::path::replay;
 use crate::random::Random;
 use crate::rewriting::bytes_of_other;
@@ -97,6 +97,23 @@ pub fn complete(random: &mut Random, case: &mut Case) -> bool {
     !needs.is_endless
 }
 
+/// A search or a replacement without limits, in either order, with as many slots as it
+/// needs. False if it has no end within reason.
+pub fn ask_all(random: &mut Random, case: &mut Case) -> bool {
+    case.asked = numbers(Asked {
+        depth_first: random.percent(50),
+        length: None,
+        count: None,
+        complete: None,
+    });
+    let needs = needs(case);
+    case.work = area(random, needs.waiting);
+    if !case.call.is_replacement() {
+        case.result = area(random, needs.kept);
+    }
+    !needs.is_endless
+}
+
 /// Mostly whole; the library writes as many numbers as are asked for.
 pub fn answer_length(random: &mut Random) -> usize {
     if random.percent(92) {
@@ -167,9 +184,13 @@ fn needs(case: &Case) -> Needs {
     if case.call == Call::FindName {
         return needs_of_name(case);
     }
-    let outcome = if case.call == Call::ReplaceFile {
+    let outcome = if case.call.is_replacement() {
         let graph = check(&case.image);
-        let computed = |graph: Graph| compute(&graph, case.number, case.meaning(), usize::MAX);
+        let owner = match case.call {
+            Call::ReplaceAliases => Owner::Nobody,
+            _ => Owner::File(case.number),
+        };
+        let computed = |graph: Graph| compute(&graph, owner, case.meaning(), usize::MAX);
         graph.and_then(computed).map(|computed| computed.budget)
     } else {
         found(case, Slots::ENDLESS).map(|found| found.budget)
@@ -245,10 +266,10 @@ fn limit(random: &mut Random, limit: &mut Option<u64>, need: usize, chance: usiz
 fn lend_areas(random: &mut Random, case: &mut Case, needs: &Needs) {
     let is_tight = random.percent(12);
     let takes_work = !matches!(case.call, Call::Linear | Call::LinearRecorded);
-    let takes_result = case.call != Call::ReplaceFile;
+    let takes_result = !case.call.is_replacement();
     if takes_work {
         // A refusal for want of slots is of no use too often where a sequence builds on it.
-        let is_roomy = case.call == Call::ReplaceFile && random.percent(50);
+        let is_roomy = case.call.is_replacement() && random.percent(50);
         let more = if is_roomy { 4 } else { 0 };
         let slots = more + slots_about(random, needs.waiting, is_tight);
         case.work = area(random, slots);

@@ -3,10 +3,11 @@
 use crate::case::{Call, Case};
 use crate::check::check;
 use crate::damage;
-use crate::database::{DATABASE_SLOT, FIRST_SLOT, USED};
+use crate::database::{ALIASES, DATABASE_SLOT, FIRST_SLOT, USED};
 use crate::draw;
 use crate::graph::{Graph, Node, Version};
 use crate::lists;
+use crate::partials::Owner;
 use crate::random::Random;
 use crate::requests::{self, number_about};
 use crate::second;
@@ -24,13 +25,19 @@ const SEARCHES: [Call; 5] = [
 const STITCHED: [Call; 2] = [Call::Stitched, Call::StitchedRecorded];
 
 pub fn scene(random: &mut Random) -> Vec<Case> {
-    let graph = draw::graph(random);
-    let mut cases = match random.weighted(&[30, 30, 25, 15, 12]) {
+    let kind = random.weighted(&[30, 30, 25, 15, 12, 15]);
+    let graph = if kind == 5 && random.percent(80) {
+        draw::aliased(random)
+    } else {
+        draw::graph(random)
+    };
+    let mut cases = match kind {
         0 => searches(random, &graph),
         1 => filing(random, &graph),
         2 => any_slots(random, &graph),
         3 => damages(random, &graph),
-        _ => rewritings(random, &graph),
+        4 => rewritings(random, &graph),
+        _ => aliases(random, &graph),
     };
     cases.push(Case::new(Call::Check, &graph.image()));
     cases
@@ -119,12 +126,12 @@ fn filing(random: &mut Random, graph: &Graph) -> Vec<Case> {
             state = draw::variant(random, graph);
         }
         let image = state.image();
-        let file = if turn < graph.files {
-            turn as u32
+        let owner = if turn < graph.files {
+            Owner::File(turn as u32)
         } else {
-            number_about(random, graph.files)
+            any_owner(random, graph)
         };
-        if let Some(case) = replacement(random, &image, file, &words) {
+        if let Some(case) = replacement(random, &image, owner, &words) {
             words = second::run(&case).words;
             cases.push(case);
         }
@@ -151,12 +158,107 @@ fn fresh(random: &mut Random, image: &[u8], length: usize) -> Case {
     case
 }
 
-/// None for a computation without end within reason.
-fn replacement(random: &mut Random, image: &[u8], file: u32, words: &[u32]) -> Option<Case> {
-    let mut case = Case::new(Call::ReplaceFile, image);
-    case.number = file;
+/// A file, the set that belongs to none, or what might be taken for it.
+fn any_owner(random: &mut Random, graph: &Graph) -> Owner {
+    match random.below(20) {
+        0..4 => Owner::Nobody,
+        4 => Owner::File(*random.one_of(&[ALIASES - 1, ALIASES, ALIASES - 2])),
+        _ => Owner::File(number_about(random, graph.files)),
+    }
+}
+
+fn unasked(image: &[u8], owner: Owner, words: &[u32]) -> Case {
+    let (call, number) = match owner {
+        Owner::File(file) => (Call::ReplaceFile, file),
+        Owner::Nobody => (Call::ReplaceAliases, 0),
+    };
+    let mut case = Case::new(call, image);
+    case.number = number;
     case.words = words.to_vec();
+    case
+}
+
+/// None for a computation without end within reason.
+fn replacement(random: &mut Random, image: &[u8], owner: Owner, words: &[u32]) -> Option<Case> {
+    let mut case = unasked(image, owner, words);
     requests::complete(random, &mut case).then_some(case)
+}
+
+/// The same without limits and with enough waiting slots, as the premise on databases
+/// asks for; none for a computation without end within reason.
+fn whole_replacement(
+    random: &mut Random,
+    image: &[u8],
+    owner: Owner,
+    words: &[u32],
+) -> Option<Case> {
+    let mut case = unasked(image, owner, words);
+    requests::ask_all(random, &mut case).then_some(case)
+}
+
+/// A stitched search of which all recorded paths are asked for; likewise.
+fn whole_search(random: &mut Random, graph: &Graph, image: &[u8], words: &[u32]) -> Option<Case> {
+    let mut case = Case::new(Call::StitchedRecorded, image);
+    case.number = requests::reference(random, graph);
+    case.words = words.to_vec();
+    requests::ask_all(random, &mut case).then_some(case)
+}
+
+/// Every file and the set that belongs to none, replaced in any order, and one of them
+/// again; stitched searches between and behind, lookups, wrong words at last.
+fn aliases(random: &mut Random, graph: &Graph) -> Vec<Case> {
+    let image = graph.image();
+    let room = *random.one_of(&[12, 40, 100, 100, 400, 400, 1_000]);
+    let length = FIRST_SLOT + DATABASE_SLOT * room + random.below(DATABASE_SLOT);
+    let mut cases = vec![fresh(random, &image, length)];
+    let mut words = second::run(&cases[0]).words;
+    let mut owners: Vec<Owner> = (0..graph.files.min(6) as u32).map(Owner::File).collect();
+    for owner in [
+        Owner::Nobody,
+        *random.one_of(&[Owner::Nobody, Owner::File(0)]),
+    ] {
+        owners.insert(random.below(owners.len() + 1), owner);
+    }
+    for owner in owners {
+        let case = if random.percent(88) {
+            whole_replacement(random, &image, owner, &words)
+        } else {
+            replacement(random, &image, owner, &words)
+        };
+        if let Some(case) = case {
+            words = second::run(&case).words;
+            cases.push(case);
+        }
+        if random.percent(25) {
+            let call = *random.one_of(&STITCHED);
+            cases.extend(search(random, graph, &image, call, &words));
+        }
+    }
+    cases.extend(behind_aliases(random, graph, &mut words));
+    cases
+}
+
+/// Stitched searches over such words, and over words that are altered then.
+fn behind_aliases(random: &mut Random, graph: &Graph, words: &mut Vec<u32>) -> Vec<Case> {
+    let image = graph.image();
+    let mut cases = vec![lookup(random, words)];
+    for _ in 0..2 {
+        let call = *random.one_of(&STITCHED);
+        cases.extend(search(random, graph, &image, call, words));
+        cases.extend(whole_search(random, graph, &image, words));
+    }
+    let other = draw::variant(random, graph).image();
+    cases.extend(replacement(random, &other, Owner::Nobody, words));
+    if words.len() >= FIRST_SLOT {
+        slots::spoil(random, words);
+    }
+    cases.push(lookup(random, words));
+    let call = *random.one_of(&STITCHED);
+    cases.extend(search(random, graph, &image, call, words));
+    for owner in [Owner::Nobody, any_owner(random, graph)] {
+        cases.extend(replacement(random, &image, owner, words));
+    }
+    cases
 }
 
 fn lookup(random: &mut Random, words: &[u32]) -> Case {
@@ -189,8 +291,8 @@ fn any_slots(random: &mut Random, graph: &Graph) -> Vec<Case> {
         let call = *random.one_of(&STITCHED);
         cases.extend(search(random, graph, &image, call, &words));
         if turn % 2 == 0 {
-            let file = number_about(random, graph.files);
-            cases.extend(replacement(random, &image, file, &words));
+            let owner = any_owner(random, graph);
+            cases.extend(replacement(random, &image, owner, &words));
         }
         if turn % 3 == 0 {
             cases.push(lookup(random, &words));
@@ -291,8 +393,8 @@ fn other_call(random: &mut Random, graph: &Graph, image: &[u8]) -> Option<Case> 
         7 => name(random, graph, image),
         1 => Some(fresh(random, image, words.len())),
         2 => {
-            let file = number_about(random, graph.files);
-            replacement(random, image, file, &words)
+            let owner = any_owner(random, graph);
+            replacement(random, image, owner, &words)
         }
         3 => search(random, graph, image, Call::Stitched, &words),
         4 => search(random, graph, image, Call::StitchedRecorded, &words),

@@ -3,9 +3,10 @@
 use crate::budget::{SLOT, Slots};
 use crate::case::{Call, Case, Outcome};
 use crate::check::{Refusal, check};
-use crate::database::{check_database, fresh, lookup, partial_paths, replace_file};
+use crate::database::{check_database, fresh, lookup, partial_paths, replace};
 use crate::graph::Version;
 use crate::names::find_name;
+use crate::partials::Owner;
 use crate::path::replay;
 use crate::rewriting;
 use crate::search::{Found, direct, linear, stitched};
@@ -29,7 +30,8 @@ fn answered(case: &Case) -> Result<Outcome, Refusal> {
         | Call::StitchedRecorded => searched(case),
         Call::FindName => named(case),
         Call::Fresh => created(case),
-        Call::ReplaceFile => replaced(case),
+        Call::ReplaceFile => replaced(case, Owner::File(case.number)),
+        Call::ReplaceAliases => replaced(case, Owner::Nobody),
         Call::Lookup => Ok(looked_up(case)),
         Call::Widen => rewritten(case, Version::Wide),
         Call::Narrow => rewritten(case, Version::Narrow),
@@ -125,17 +127,11 @@ fn created(case: &Case) -> Result<Outcome, Refusal> {
     Ok(outcome)
 }
 
-fn replaced(case: &Case) -> Result<Outcome, Refusal> {
+fn replaced(case: &Case, owner: Owner) -> Result<Outcome, Refusal> {
     let graph = check(&case.image)?;
     let mut outcome = Outcome::new(case, vec![0]);
     let waiting = case.work.len() / SLOT;
-    let computed = replace_file(
-        &graph,
-        case.number,
-        case.meaning(),
-        waiting,
-        &mut outcome.words,
-    )?;
+    let computed = replace(&graph, owner, case.meaning(), waiting, &mut outcome.words)?;
     outcome.answer.extend(computed.told());
     Ok(outcome)
 }

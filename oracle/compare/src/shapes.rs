@@ -284,6 +284,76 @@ pub fn brim(random: &mut Random, version: Version) -> Graph {
     graph
 }
 
+/// Names that meet at root, and edges of no file there (document 02, order 5): a plain
+/// name over root; one whose scope is taken where an edge leads from root to jump.
+/// Other edges at root and jump have one end in a file.
+pub fn aliased(random: &mut Random) -> Graph {
+    let files = random.within(1, 3);
+    let mut graph = start(files);
+    let file = |random: &mut Random| random.below(files) as u32;
+    let (here, there) = (file(random), file(random));
+    let name = add(&mut graph, push(here, true));
+    let target = add(&mut graph, pop(there, true));
+    join(&mut graph, name, ROOT, precedence(random));
+    join(&mut graph, ROOT, target, precedence(random));
+    if random.percent(70) {
+        add_scoped_name(random, &mut graph);
+    }
+    if random.percent(60) {
+        beside_root(random, &mut graph, files);
+    }
+    let loops = *random.one_of(&[0, 1, 1, 1, 1, 2, 2, 2, 3, 3, 4, 5]);
+    let jumps = *random.one_of(&[0, 1, 1, 2]);
+    for target in [vec![ROOT; loops], vec![JUMP; jumps]].concat() {
+        join(&mut graph, ROOT, target, precedence(random));
+    }
+    shuffle(random, &mut graph.edges);
+    if random.percent(20) {
+        let place = random.below(graph.edges.len());
+        graph.edges[place] = None;
+    }
+    graph
+}
+
+/// A reference of file 0, a push with a scope, the pop behind or before root that
+/// takes its scope off, and the definition behind that scope.
+fn add_scoped_name(random: &mut Random, graph: &mut Graph) {
+    let scope = add(graph, scope(0, true));
+    let name = add(graph, push(0, true));
+    let target = add(graph, pop(0, true));
+    let with_scope = add(graph, push_scoped(scope));
+    let taken = add(graph, pop_scoped());
+    let first = if random.percent(30) { ROOT } else { taken };
+    for (source, target) in [
+        (name, with_scope),
+        (with_scope, first),
+        (taken, ROOT),
+        (scope, target),
+    ] {
+        join(graph, source, target, precedence(random));
+    }
+    if first == ROOT {
+        join(graph, ROOT, taken, precedence(random));
+    }
+}
+
+/// An exported scope, and one or two edges between it and root or jump.
+fn beside_root(random: &mut Random, graph: &mut Graph, files: usize) {
+    let node = add(graph, scope(random.below(files) as u32, true));
+    for _ in 0..random.within(1, 2) {
+        let ends = [(ROOT, node), (node, ROOT), (node, JUMP), (node, node)];
+        let (source, target) = *random.one_of(&ends);
+        join(graph, source, target, precedence(random));
+    }
+}
+
+/// In any order: the set's edges have any numbers.
+fn shuffle<T>(random: &mut Random, items: &mut [T]) {
+    for last in (1..items.len()).rev() {
+        items.swap(last, random.below(last + 1));
+    }
+}
+
 /// No file: only root and jump live, and edges join these.
 pub fn fileless(random: &mut Random) -> Graph {
     let mut graph = start(0);

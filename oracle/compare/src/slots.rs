@@ -1,8 +1,8 @@
 //! Database words that no replacement makes: any slots, and malformed words.
 
 use crate::database::{
-    COUNT, DATABASE_SLOT, EDGES, END, FILES, MOST_SLOTS, NODES, OWNER, PartialPath, START, USED,
-    capacity, place,
+    ALIASES, COUNT, DATABASE_SLOT, EDGES, END, FILES, MOST_SLOTS, NODES, OWNER, PartialPath, START,
+    USED, capacity, place,
 };
 use crate::graph::Graph;
 use crate::path::MOST_EDGES;
@@ -18,20 +18,22 @@ pub fn any_words(random: &mut Random, graph: &Graph) -> Vec<u32> {
     words[USED] = used as u32;
     words[NODES] = graph.nodes.len() as u32;
     words[FILES] = graph.files as u32;
+    let aliases = chance_of_aliases(random);
     let mut from = graph.references();
     for number in 0..used {
-        let at = place(number);
-        words[at + OWNER] = 0;
-        if graph.files > 0 && random.percent(85) {
-            let end = put(random, graph, &from, &mut words[at..at + DATABASE_SLOT]);
+        let slot = &mut words[place(number)..place(number + 1)];
+        slot[OWNER] = 0;
+        if random.percent(85) {
+            let end = put(random, graph, &from, slot);
             from.extend(end);
+            slot[OWNER] = owner(random, graph, aliases);
         }
     }
     words
 }
 
-/// One live slot, mostly from one of these nodes, so that paths get on; answers
-/// where it ends. The words behind its last edge stay as they are.
+/// One live slot but for its first word, mostly from one of these nodes, so that paths
+/// get on; answers where it ends. The words behind its last edge stay as they are.
 fn put(random: &mut Random, graph: &Graph, from: &[u32], slot: &mut [u32]) -> Option<u32> {
     let edges = edges(random, graph, from);
     let source = edges
@@ -42,7 +44,6 @@ fn put(random: &mut Random, graph: &Graph, from: &[u32], slot: &mut [u32]) -> Op
         Some(source) if random.percent(85) => source,
         _ => random.below(graph.nodes.len()) as u32,
     };
-    slot[OWNER] = 1 + random.below(graph.files) as u32;
     slot[START] = start;
     slot[END] = number_about(random, graph.nodes.len());
     slot[COUNT] = edges.len() as u32;
@@ -51,6 +52,20 @@ fn put(random: &mut Random, graph: &Graph, from: &[u32], slot: &mut [u32]) -> Op
         .last()
         .and_then(|&edge| graph.live_edge(edge))
         .map(|edge| edge.target)
+}
+
+/// Most databases lack the set of order 5, so that the given Rust has them too.
+fn chance_of_aliases(random: &mut Random) -> usize {
+    *random.one_of(&[0, 0, 40])
+}
+
+/// A file's first word, or with this chance that of the set that belongs to none; in a
+/// graph without files always.
+fn owner(random: &mut Random, graph: &Graph, aliases: usize) -> u32 {
+    if graph.files == 0 || random.percent(aliases) {
+        return ALIASES;
+    }
+    1 + random.below(graph.files) as u32
 }
 
 /// The first edge of a slot: mostly one that leaves one of these nodes.
@@ -130,7 +145,14 @@ fn spoil_slot(random: &mut Random, words: &mut [u32], field: usize) {
         words[NODES].wrapping_sub(1),
     ];
     let drawn = match field {
-        OWNER => *random.one_of(&[bounds[0], bounds[1], u32::MAX]),
+        OWNER => *random.one_of(&[
+            bounds[0],
+            bounds[1],
+            u32::MAX,
+            ALIASES,
+            ALIASES + 1,
+            ALIASES - 1,
+        ]),
         START => *random.one_of(&[bounds[2], bounds[3], u32::MAX]),
         _ => *random.one_of(&[0, 1, 127, 128, u32::MAX]),
     };
@@ -147,18 +169,17 @@ pub fn many_slots(random: &mut Random, graph: &Graph) -> Vec<u32> {
     words[USED] = (MOST_SLOTS + 1 - random.low(6)) as u32;
     words[NODES] = graph.nodes.len() as u32;
     words[FILES] = graph.files as u32;
+    let aliases = chance_of_aliases(random);
     for number in MOST_SLOTS - 8..MOST_SLOTS {
         let edges = edges(random, graph, &graph.references());
         let start = graph.live_edge(edges[0]).map_or(0, |edge| edge.source);
         let path = PartialPath {
-            file: 0,
+            owner: owner(random, graph, aliases),
             start,
             end: 0,
             edges,
         };
-        if graph.files > 0 {
-            words[place(number)..place(number + 1)].copy_from_slice(&path.words());
-        }
+        words[place(number)..place(number + 1)].copy_from_slice(&path.words());
     }
     words
 }

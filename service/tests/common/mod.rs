@@ -11,7 +11,7 @@ pub type Record = Vec<u8>;
 pub type Edge = (u16, u16, i32);
 
 /// Nodes of file 0: references, which push, definitions, which pop, a scoped push
-/// that is no reference, scopes.
+/// that is no reference and a scoped pop that is no definition, scopes.
 pub fn reference(symbol: u32) -> Record {
     with_symbol(4, &symbol.to_be_bytes(), &[1])
 }
@@ -30,6 +30,10 @@ pub fn scoped_push(symbol: u32, scope: u8) -> Record {
 
 pub fn scoped_definition(symbol: u32) -> Record {
     with_symbol(7, &symbol.to_be_bytes(), &[1])
+}
+
+pub fn scoped_pop(symbol: u32) -> Record {
+    with_symbol(7, &symbol.to_be_bytes(), &[0])
 }
 
 fn with_symbol(kind: u8, symbol: &[u8], rest: &[u8]) -> Record {
@@ -160,6 +164,10 @@ pub fn area<P: AsRef<[u32]>>(paths: &[P], words: usize) -> Vec<u32> {
     area.resize(words, 0);
     area
 }
+
+/// What stands in the place of the file in a slot of the alias set, whose first word
+/// is 65,535.
+pub const NOBODY: u32 = 65_534;
 
 /// A partial path: file, start, end, edges; none is a dead slot.
 pub type Slot<'a> = Option<(u32, u32, u32, &'a [u32])>;

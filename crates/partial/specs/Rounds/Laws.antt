@@ -26,7 +26,7 @@ use Rattle.semantics.specs.Answer.{Answer, ok, refuse}
 use Rattle.semantics.specs.Graph.{View, viewOf}
 use Rattle.semantics.specs.Enumeration.{State, Setting, Try, Tally, over, expand, each, turn, run, final, follow, merge}
 use Rattle.semantics.specs.Enumeration.Statistics.{each-moved}
-use Rattle.semantics.specs.PartialPaths.{Route, belongs, judgeRoute, routeTries, partialStats}
+use Rattle.semantics.specs.PartialPaths.{Route, ownedBy, judgeRoute, routeTries, partialStats}
 use Rattle.storage.specs.Index.{edgeRow}
 use Rattle.storage.specs.Index.Use.{out-bounded}
 use Rattle.path.specs.Replays.Laws.{edges-are}
@@ -352,8 +352,8 @@ module _ {index : List ℕ} {f : Filing} {item₀ : List ℕ} {x : Computation} 
           few-tries =
               let l = g .out (opening-is .route .current) in
               let h = out-bounded (v .loaded) (opening-is .route .current) in
-              let j = select-fewer (belongs g (f .file)) l in
-              let i : length (trying (frameOf on) (opening-is .route)) ≡ length (select (belongs g (f .file)) l) = length-map (select (belongs g (f .file)) l) (judgeRoute base (frameOf on .length) g (opening-is .route)) in
+              let j = select-fewer (ownedBy g (f .file)) l in
+              let i : length (trying (frameOf on) (opening-is .route)) ≡ length (select (ownedBy g (f .file)) l) = length-map (select (ownedBy g (f .file)) l) (judgeRoute base (frameOf on .length) g (opening-is .route)) in
               omega (arith, h, j, i)
 
           pub turn-again : Turning n ws″ db′

@@ -18,7 +18,7 @@ use Rattle.semantics.specs.Lists.Laws.{length-snoc}
 use Rattle.semantics.specs.Graph.{nodeId, View}
 use Rattle.semantics.specs.Words.{zeros, encode}
 use Rattle.semantics.specs.Words.Laws.{length-encode}
-use Rattle.semantics.specs.PartialPaths.{Route, belongs, targetOf, longer}
+use Rattle.semantics.specs.PartialPaths.{Route, ownedBy, targetOf, longer}
 use Rattle.semantics.specs.PartialPaths.Laws.{walk-snoc, walk-nil, walk-cons}
 use Rattle.semantics.specs.Demand.{Walk}
 use Rattle.words.specs.Slots.{padded}
@@ -112,10 +112,10 @@ held-ends zero t b h = absurd (omega (arith, b))
 held-ends (suc zero) t b h = absurd (omega (arith, b))
 held-ends {g} {file} (suc (suc m)) {r} t b h = on (r .edges) (t .walk) (omega (arith, h))
   where
-    on : (es : List ℕ) → Walk g (belongs g file) (r .start) es (r .current) → length es ≤ suc m → endsIn (g .edge) (heldBy (suc (suc m)) (r .start) es) ≡ endsOf r
-    on [] w h = ap (λ (n : ℕ). record { start = r .start; end = n }) (walk-nil g (belongs g file) w)
+    on : (es : List ℕ) → Walk g (ownedBy g file) (r .start) es (r .current) → length es ≤ suc m → endsIn (g .edge) (heldBy (suc (suc m)) (r .start) es) ≡ endsOf r
+    on [] w h = ap (λ (n : ℕ). record { start = r .start; end = n }) (walk-nil g (ownedBy g file) w)
     on (e ∷ es) w h =
-        let k = walk-cons g (belongs g file) w in
+        let k = walk-cons g (ownedBy g file) w in
         let l = walk-last e es w in
         let s : sourceOf (g .edge e) ≡ r .start = ap sourceOf (k .2) in
         let d : targetOf (g .edge (getD (take (suc m) (e ∷ es ++ zeros (suc (suc m)))) (length es) 0)) ≡ r .current = ap (λ (n : ℕ). targetOf (g .edge n)) (getD-taken (e ∷ es) (zeros (suc (suc m))) (suc m) (length es) (omega arith) h) ∙ l in
@@ -123,10 +123,10 @@ held-ends {g} {file} (suc (suc m)) {r} t b h = on (r .edges) (t .walk) (omega (a
 
 -- ---- one more edge
 
-pub traced-snoc : {g : View} {file : ℕ} {r : Route} (e : ℕ) (t : NodeId) (p : ℤ) → Traced g file r → length (r .edges) < maxEdges → g .edge e ≡ E.Live (nodeId (r .current)) t p → belongs g file e ≡ true → Traced g file (longer r e (targetOf (g .edge e)))
+pub traced-snoc : {g : View} {file : ℕ} {r : Route} (e : ℕ) (t : NodeId) (p : ℤ) → Traced g file r → length (r .edges) < maxEdges → g .edge e ≡ E.Live (nodeId (r .current)) t p → ownedBy g file e ≡ true → Traced g file (longer r e (targetOf (g .edge e)))
 unfolding targetOf
 traced-snoc {g} {file} {r} e t p x h l b = record {
-  walk = subst (λ (n : ℕ). Walk g (belongs g file) (r .start) (r .edges ++ (e ∷ [])) n) (sym (ap targetOf l)) (walk-snoc g (belongs g file) e t p (x .walk) l b);
+  walk = subst (λ (n : ℕ). Walk g (ownedBy g file) (r .start) (r .edges ++ (e ∷ [])) n) (sym (ap targetOf l)) (walk-snoc g (ownedBy g file) e t p (x .walk) l b);
   short = omega (arith, length-snoc (r .edges) e, h);
 }
 

@@ -11,10 +11,10 @@ use Rattle.semantics.specs.Lists.{pick, select}
 use Rattle.semantics.specs.Answer.{Answer, ok, refuse}
 use Rattle.semantics.specs.Answer.Laws.{ok-inj, refuse-ok}
 use Rattle.semantics.specs.declared.graph.Node.{Node}
-use Rattle.semantics.specs.Graph.{View, viewOf, fileOf, isFile}
+use Rattle.semantics.specs.Graph.{View, viewOf}
 use Rattle.semantics.specs.Enumeration.{State, Setting, Try, one, each}
 use Rattle.semantics.specs.Enumeration.Statistics.{one-moved}
-use Rattle.semantics.specs.PartialPaths.{Route, belongs, routeTries}
+use Rattle.semantics.specs.PartialPaths.{Route, ownedBy, routeTries}
 use Rattle.storage.specs.Index.{nodeRow, firstRow, nextRow, Runs}
 use Rattle.storage.specs.Index.Use.{runs-end, runs-next, left, left-less, out-bounded}
 use Rattle.search_state.specs.Items.{Carries}
@@ -25,7 +25,8 @@ use Rattle.partial_state.specs.Filings.{Fits}
 use Rattle.partial_state.specs.Routes.{Waiting}
 use Rattle.partial_state.specs.Reps.{frameOf, settingOf, Rep, Tells}
 use Rattle.partial_state.specs.Reps.Laws.{tells-on, tells-refused}
-use Rattle.partial_trial.specs.Expansions.{Roomy, Given, Looking, Owning, judgeOf, Looked, Expanding, triesOf, Expanded}
+use Rattle.partial_trial.specs.declared.expand.Sought.{Sought}
+use Rattle.partial_trial.specs.Expansions.{soughtFrom, Roomy, Given, Looking, Owning, judgeOf, Looked, Expanding, triesOf, Expanded}
 use Rattle.partial_state.specs.Extractions.{Computation, Course, goes, stops}
 
 -- ---- one edge of a list
@@ -65,7 +66,7 @@ module _ {most : ℕ} {index : List ℕ} {f : Filing} {ends : Ends} {k : ℕ} {i
   g = viewOf (v .graph)
 
   abbrev mine : ℕ → Bool
-  mine e = belongs g (f .file) e
+  mine e = ownedBy g (f .file) e
 
   abbrev judging : ℕ → Try PartialPathRefusal Route
   judging e = judgeOf (frameOf x) (v .graph) (v .route) e
@@ -135,12 +136,12 @@ module _ {most : ℕ} {index : List ℕ} {f : Filing} {ends : Ends} {k : ℕ} {i
             leaves = mid .leave (link - 1) (subst (λ (l : List ℕ). List·Memᴰ (link - 1) l) (sym (r .1)) (List·Memᴰ·head refl));
           }
 
-      -- whether the route's end is of the file is asked once
-      pub mid-known : {own : Bool} → own ≡ isFile (f .file) (fileOf (nodeRow index (ends .end))) → own ≡ isFile (f .file) (fileOf (viewOf (mid-given .given .graph) .node (mid-given .given .route .current)))
+      -- what the route's end tells of its edges is asked once
+      pub mid-known : {own : Sought} → own ≡ soughtFrom (f .file) (nodeRow index (ends .end)) → own ≡ soughtFrom (f .file) (viewOf (mid-given .given .graph) .node (mid-given .given .route .current))
       unfolding mid-given
-      mid-known q = q ∙ ap (λ (m : ℕ). isFile (f .file) (fileOf (nodeRow index m))) (w .stands) ∙ ap (λ (y : Node). isFile (f .file) (fileOf y)) (v .loaded .node (v .route .current))
+      mid-known q = q ∙ ap (λ (m : ℕ). soughtFrom (f .file) (nodeRow index m)) (w .stands) ∙ ap (soughtFrom (f .file)) (v .loaded .node (v .route .current))
 
-      abbrev pub mid-owning : {own : Bool} → own ≡ isFile (f .file) (fileOf (nodeRow index (ends .end))) → Owning n index f (ends .start) k (link - 1) item on ws db own
+      abbrev pub mid-owning : {own : Sought} → own ≡ soughtFrom (f .file) (nodeRow index (ends .end)) → Owning n index f (ends .start) k (link - 1) item on ws db own
       mid-owning {own} q = record { looking = mid-given; known = mid-known q }
 
       module _ (a : Course) (item′ ws′ db′ : List ℕ) (t : Looked n index f (ends .start) k (link - 1) item on ws db mid-given a item′ ws′ db′) where

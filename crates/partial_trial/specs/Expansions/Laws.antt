@@ -6,22 +6,24 @@ use mathlib.Core.Path.{_≡_, refl, sym, ap, subst, _∙_}
 use mathlib.Core.Logic.{⊎-elim}
 use mathlib.Core.Bool.{Bool, true, false}
 use mathlib.Core.List.{List}
-use borrow.Author.Tests.{lt-ltb, le-ltb}
+use borrow.Author.Tests.{lt-ltb, le-ltb, eq-eqb, ne-eqb}
+use lib.Dec.{eqb}
 use lib.IntN.{ℤ}
 use lib.ListN.{length, take, drop, getD}
 use Rattle.semantics.specs.declared.graph.NodeId.{NodeId}
 use Rattle.semantics.specs.declared.graph.Node.{Node}
+use Rattle.semantics.specs.declared.graph.Edge.{Edge}
 use Rattle.semantics.specs.declared.graph.Edge.the-variants as E
 use Rattle.semantics.specs.declared.search.Limit.{Limit}
 use Rattle.semantics.specs.declared.search.SearchStats.{SearchStats}
 use Rattle.semantics.specs.declared.refusal.PartialPathRefusal.the-variants.{TooLong}
-use Rattle.semantics.specs.Lists.{or, has}
+use Rattle.semantics.specs.Lists.{or, and, pick, has}
 use Rattle.semantics.specs.Lists.Laws.{length-snoc}
-use Rattle.semantics.specs.Limits.{base, within, maxEdges, slotLength}
-use Rattle.semantics.specs.Graph.{nodeId, View, viewOf, fileOf, isFile, isEndpoint}
+use Rattle.semantics.specs.Limits.{base, within, maxEdges, slotLength, nobody}
+use Rattle.semantics.specs.Graph.{nodeId, View, viewOf, fileOf, isFile, lacksFile, isEndpoint}
 use Rattle.semantics.specs.Graph.Laws.{viewOf-lawful}
 use Rattle.semantics.specs.Enumeration.{cut, overlong, stop, one, judged, tested}
-use Rattle.semantics.specs.PartialPaths.{Route, isOfFile, belongs, targetOf, longer, reached, judgeRoute}
+use Rattle.semantics.specs.PartialPaths.{Route, isOfFile, belongs, isFileless, ownedBy, targetOf, longer, reached, judgeRoute}
 use Rattle.storage.specs.Index.{BLOCK, nodeRow, targetRow}
 use Rattle.storage.specs.Index.Laws.{edge-inside, target-row}
 use Rattle.path_budget.specs.declared.budget.Budget.{Budget}
@@ -37,7 +39,8 @@ use Rattle.partial_state.specs.Routes.Laws.{held-count, held-snoc, traced-snoc}
 use Rattle.partial_state.specs.Extractions.{Computation, Course, goes, stops, withBudget, cutOne}
 use Rattle.partial_state.specs.Reps.{frameOf, settingOf, Tells, Extendable, ExtendsTo}
 use Rattle.partial_state.specs.Reps.Laws.{untouched, lookedAt, rep-looked, rep-cut, rep-overlong}
-use Rattle.partial_trial.specs.Expansions.{Given, Looking, Owning, Trying, judgeOf, Lengthened, Tried, Looked}
+use Rattle.partial_trial.specs.declared.expand.Sought.{Sought}
+use Rattle.partial_trial.specs.Expansions.{soughtFrom, leadsTo, isSought, Given, Looking, Owning, Trying, judgeOf, Lengthened, Tried, Looked}
 
 -- ---- the judgement, test by test
 
@@ -194,7 +197,45 @@ module _ {most : ℕ} {index : List ℕ} {f : Filing} {start k e : ℕ} {item : 
 
 -- ---- an edge that leaves the route's end
 
-module _ {most : ℕ} {index : List ℕ} {f : Filing} {start k e : ℕ} {item : List ℕ} {x : Computation} {ws db : List ℕ} {own : Bool} (o : Owning most index f start k e item x ws db own) where
+-- what a node tells of its edges, test by test
+module _ {f : ℕ} (n : Node) where
+  pub from-nobody : {b : Bool} → f ≡ nobody → b ≡ lacksFile (fileOf n) → record { all = false; ofFile = false; fileless = b } ≡ soughtFrom f n
+  unfolding soughtFrom
+  from-nobody h k = rw (eq-eqb f nobody h, k)
+
+  pub from-file : {b : Bool} → (f ≡ nobody → ⊥) → b ≡ isFile f (fileOf n) → record { all = b; ofFile = true; fileless = false } ≡ soughtFrom f n
+  unfolding soughtFrom
+  from-file h k = rw (ne-eqb f nobody h, k)
+
+-- and its target of an edge
+module _ (f : ℕ) (own : Sought) (t : Node) where
+  pub to-file : own .ofFile ≡ true → isFile f (fileOf t) ≡ leadsTo f own t
+  unfolding leadsTo
+  to-file h = rw h
+
+  pub to-fileless : own .ofFile ≡ false → own .fileless ≡ true → lacksFile (fileOf t) ≡ leadsTo f own t
+  unfolding leadsTo
+  to-fileless h k = rw (h, k)
+
+  pub to-none : own .ofFile ≡ false → own .fileless ≡ false → false ≡ leadsTo f own t
+  unfolding leadsTo
+  to-none h k = rw (h, k)
+
+-- what its two ends tell is whose it is
+sought-owned : (g : View) (f e : ℕ) (s t : NodeId) (p : ℤ) → g .edge e ≡ E.Live s t p → isSought f (soughtFrom f (g .node (s .0))) (g .node (t .0)) ≡ ownedBy g f e
+unfolding ownedBy isFileless belongs isOfFile soughtFrom leadsTo
+sought-owned g f e s t p live = on (eqb f nobody) ∙ sym (ap (λ (x : Edge). pick (eqb f nobody) (isFileless g x) (isOfFile g f x)) live)
+  where
+    nobodys : (b : Bool) → pick b (lacksFile (fileOf (g .node (t .0)))) false ≡ and b (lacksFile (fileOf (g .node (t .0))))
+    nobodys true = refl
+    nobodys false = refl
+
+    on : (b : Bool) → isSought f (pick b (record { all = false; ofFile = false; fileless = lacksFile (fileOf (g .node (s .0))) }) (record { all = isFile f (fileOf (g .node (s .0))); ofFile = true; fileless = false })) (g .node (t .0))
+        ≡ pick b (isFileless g (E.Live s t p)) (isOfFile g f (E.Live s t p))
+    on true = nobodys (lacksFile (fileOf (g .node (s .0))))
+    on false = refl
+
+module _ {most : ℕ} {index : List ℕ} {f : Filing} {start k e : ℕ} {item : List ℕ} {x : Computation} {ws db : List ℕ} {own : Sought} (o : Owning most index f start k e item x ws db own) where
   abbrev l : Looking most index f start k e item x ws db
   l = o .looking
 
@@ -204,17 +245,16 @@ module _ {most : ℕ} {index : List ℕ} {f : Filing} {start k e : ℕ} {item : 
   pub looking-inside : BLOCK * e < length index
   looking-inside = edge-inside index e (nodeId (l .given .route .current)) (live .0) (live .1) (l .given .loaded .edge e ∙ live .2)
 
-  module _ {b : Bool} (is : b ≡ or own (isFile (f .file) (fileOf (nodeRow index (targetRow index e))))) where
-    owned-is : b ≡ belongs (viewOf (l .given .graph)) (f .file) e
-    unfolding belongs isOfFile
+  module _ {b : Bool} (is : b ≡ isSought (f .file) own (nodeRow index (targetRow index e))) where
+    owned-is : b ≡ ownedBy (viewOf (l .given .graph)) (f .file) e
     owned-is =
         let g = viewOf (l .given .graph) in
         let t : targetRow index e ≡ live .0 .0 = target-row index e (nodeId (l .given .route .current)) (live .0) (live .1) (l .given .loaded .edge e ∙ live .2) in
         let n : nodeRow index (targetRow index e) ≡ g .node (live .0 .0) = ap (nodeRow index) t ∙ l .given .loaded .node (live .0 .0) in
         is
-        ∙ ap (λ (c : Bool). or c (isFile (f .file) (fileOf (nodeRow index (targetRow index e))))) (o .known)
-        ∙ ap (λ (y : Node). or (isFile (f .file) (fileOf (g .node (l .given .route .current)))) (isFile (f .file) (fileOf y))) n
-        ∙ sym (ap (isOfFile g (f .file)) (live .2))
+        ∙ ap (λ (s : Sought). isSought (f .file) s (nodeRow index (targetRow index e))) (o .known)
+        ∙ ap (isSought (f .file) (soughtFrom (f .file) (g .node (l .given .route .current)))) n
+        ∙ sought-owned g (f .file) e (nodeId (l .given .route .current)) (live .0) (live .1) (live .2)
 
     pub looking-tries : b ≡ true → Trying most index f start k e item x ws db
     looking-tries h = record { looking = l; owned = sym owned-is ∙ h }

@@ -6,18 +6,20 @@ use native.Mathlib.Numerals.{add-one}
 use mathlib.Core.Path.{_≡_, refl, sym, ap, subst, _∙_}
 use mathlib.Core.Bool.{Bool, true, false}
 use mathlib.Core.List.{List, _∷_, map}
+use lib.Dec.{eqb}
 use lib.ListN.{length, drop, drop-of-length-le}
 use lib.Seq.{drop-cons}
 use Rattle.semantics.specs.declared.graph.Node.{Node}
 use Rattle.semantics.specs.declared.graph.Node.the-variants as N
 use Rattle.semantics.specs.declared.refusal.PartialPathRefusal.{PartialPathRefusal}
 use Rattle.semantics.specs.Lists.{pick, and}
+use Rattle.semantics.specs.Limits.{nobody}
 use Rattle.semantics.specs.Answer.{Answer, ok, refuse}
 use Rattle.semantics.specs.Answer.Laws.{ok-inj, refuse-ok}
 use Rattle.semantics.specs.Graph.{Graph, View, viewOf, fileOf, isFile, isStart}
 use Rattle.semantics.specs.Enumeration.{State, Setting, pushItem}
 use Rattle.semantics.specs.Enumeration as Enumeration
-use Rattle.semantics.specs.PartialPaths.{Route, routeAt, startsFrom, startRoutes}
+use Rattle.semantics.specs.PartialPaths.{Route, routeAt, startsFrom}
 use Rattle.semantics.specs.Demand.{stay}
 use Rattle.storage.specs.Index.{nodeRow, Loaded}
 use Rattle.words.specs.Slots.{IsSlot}
@@ -27,7 +29,7 @@ use Rattle.partial_state.specs.Extractions.{Computation, Course, goes, stops, E
 use Rattle.partial_state.specs.Reps.{frameOf, settingOf, Rep, Tells}
 use Rattle.partial_state.specs.Reps.Laws.{push-tells, tells-on, tells-refused}
 use Rattle.partial_state.specs.declared.extraction.ExtractionFrame.{ExtractionFrame}
-use Rattle.partial_trial.specs.Seeds.{Seeding, Started, NodeSeeded, FileSeeded, Seeded}
+use Rattle.partial_trial.specs.Seeds.{startsOf, Seeding, Started, NodeSeeded, FileSeeded, Seeded}
 
 -- ---- one start
 
@@ -157,10 +159,19 @@ module _ {item : List ℕ} {x : Computation} {ws : List ℕ} (v : Seeding item x
   unfolding Enumeration.seed
   root-refused g file y e =
       let u = tells-refused (v .view) (v .filing) (v .origin) (frameOf x) a ws′ (v .database) pushedRoot y t e in
-      subst (λ (o : Course). Tells (v .view) (v .filing) (v .origin) (frameOf x) o ws′ (v .database) (Enumeration.seed (settingOf (frameOf x)) (v .model) (startRoutes g file))) (sym e) (rw (u .0) (refl, u .1))
+      subst (λ (o : Course). Tells (v .view) (v .filing) (v .origin) (frameOf x) o ws′ (v .database) (Enumeration.seed (settingOf (frameOf x)) (v .model) (startsOf g file))) (sym e) (rw (u .0) (refl, u .1))
 
-  pub root-on : (g : Graph) (file : ℕ) (next : Computation) (e : a ≡ goes next) (item′ : List ℕ) (l : length item′ ≡ length item) (b : Course) (ws″ : List ℕ) → FileSeeded item′ next ws′ (root-given next e item′ l) g file b ws″ → Seeded item x ws v g file b ws″
-  unfolding Enumeration.seed root-given
-  root-on g file next e item′ l b ws″ h =
+  -- nobody's starts are root alone
+  pub root-alone : (g : Graph) (owner : ℕ) → eqb owner nobody ≡ true → (next : Computation) → a ≡ goes next → Seeded item x ws v g owner (goes next) ws′
+  unfolding Enumeration.seed
+  root-alone g owner q next e =
       let u = rooted next e in
-      rw (u .1) (subst (λ (y : ExtractionFrame). Tells (v .view) (v .filing) (v .origin) y b ws″ (v .database) (Enumeration.seed (settingOf y) (u .0) (map routeAt (startsFrom file 0 (g .nodes))))) (u .2) h)
+      let z : Enumeration.seed (settingOf (frameOf x)) (v .model) (startsOf g owner) ≡ pushedRoot = rw (q, u .1) in
+      subst (λ (o : Answer PartialPathRefusal (State Route)). Tells (v .view) (v .filing) (v .origin) (frameOf x) (goes next) ws′ (v .database) o) (sym z)
+      (subst (λ (b : Course). Tells (v .view) (v .filing) (v .origin) (frameOf x) b ws′ (v .database) pushedRoot) e t)
+
+  pub root-on : (g : Graph) (file : ℕ) → eqb file nobody ≡ false → (next : Computation) (e : a ≡ goes next) (item′ : List ℕ) (l : length item′ ≡ length item) (b : Course) (ws″ : List ℕ) → FileSeeded item′ next ws′ (root-given next e item′ l) g file b ws″ → Seeded item x ws v g file b ws″
+  unfolding Enumeration.seed root-given
+  root-on g file q next e item′ l b ws″ h =
+      let u = rooted next e in
+      rw (u .1, q) (subst (λ (y : ExtractionFrame). Tells (v .view) (v .filing) (v .origin) y b ws″ (v .database) (Enumeration.seed (settingOf y) (u .0) (map routeAt (startsFrom file 0 (g .nodes))))) (u .2) h)

@@ -8,7 +8,7 @@ use mathlib.Core.Logic.{_⊎_, inl, inr, ⊎-elim}
 use mathlib.Core.Bool.{Bool, true, false, true≢false}
 use mathlib.Core.Option.{Option, none, some}
 use mathlib.Core.List.{List, [], _∷_}
-use lib.Dec.{leb, ltb, leb→le, ltb→lt}
+use lib.Dec.{eqb, leb, ltb, leb→le, ltb→lt}
 use lib.ListN.{length, getD}
 use lib.IntN.{ℤ}
 use borrow.Author.Tests.{not-true}
@@ -19,7 +19,7 @@ use Rattle.semantics.specs.declared.graph.Node.the-variants as N
 use Rattle.semantics.specs.declared.graph.Edge.{Edge}
 use Rattle.semantics.specs.declared.graph.Edge.the-variants as E
 use Rattle.semantics.specs.Lists.{and}
-use Rattle.semantics.specs.Lists.Laws.{eq→T, eqb-true, and-true}
+use Rattle.semantics.specs.Lists.Laws.{eq→T, eqb-true, eqb-same, and-true}
 use Rattle.semantics.specs.Graph.{Graph, View, viewOf, traits, fileOf, lacksFile, isExported}
 use Rattle.semantics.specs.Graph.Laws.{fileless-shared}
 use Rattle.semantics.specs.PartialPaths.Laws.{belongs-cases, belongs-source}
@@ -46,6 +46,10 @@ module _ (g : Graph) (h : accepts g ≡ true) where
   each : (everyFrom (nodeTest (g .files) (viewOf g)) 0 (g .nodes) ≡ true) × (everyFrom (edgeTest (viewOf g)) 0 (g .edges) ≡ true)
   each = and-true (everyFrom (nodeTest (g .files) (viewOf g)) 0 (g .nodes)) _ (tests .1)
 
+  pub few-files : g .files ≤ 256
+  unfolding countFits
+  few-files = leb→le (g .files) 256 (eq→T _ (and-true (leb (g .files) 256) _ (tests .0) .0))
+
   node-at : (n : ℕ) → (nodeTest (g .files) (viewOf g) n ((viewOf g) .node n) ≡ true) ⊎ ((viewOf g) .node n ≡ N.Removed)
   unfolding viewOf
   node-at n = rw zero-add at (every-at (nodeTest (g .files) (viewOf g)) N.Removed (g .nodes) 0 n (each .0))
@@ -67,6 +71,18 @@ module _ (g : Graph) (h : accepts g ≡ true) where
   unfolding edgeFits oneFile
   one-file e s t p a b k x y = ⊎-elim (λ (q : edgeFits (viewOf g) ((viewOf g) .edge e) ≡ true). eqb-true a b (sym (ap (λ (o : Option ℕ). oneFile o (some b)) x) ∙ ap (oneFile (fileOf ((viewOf g) .node (s .0)))) (sym y) ∙ and-true (oneFile (fileOf ((viewOf g) .node (s .0))) (fileOf ((viewOf g) .node (t .0)))) _ (sym (ap (edgeFits (viewOf g)) k) ∙ q) .0))
       (λ q. absurd (let z : _≡_ {A = Bool} true false = cc in true≢false z)) (edge-at e)
+
+  -- a live edge has live ends and does not start at jump
+  pub edge-live : (e : ℕ) (s t : NodeId) (p : ℤ) → (viewOf g) .edge e ≡ E.Live s t p → (isLive ((viewOf g) .node (s .0)) ≡ true) × (isLive ((viewOf g) .node (t .0)) ≡ true) × (s .0 ≡ 1 → ⊥)
+  unfolding edgeFits
+  edge-live e s t p k = ⊎-elim fits (λ q. absurd (let z : _≡_ {A = Bool} true false = cc in true≢false z)) (edge-at e)
+    where
+      fits : edgeFits (viewOf g) ((viewOf g) .edge e) ≡ true → (isLive ((viewOf g) .node (s .0)) ≡ true) × (isLive ((viewOf g) .node (t .0)) ≡ true) × (s .0 ≡ 1 → ⊥)
+      fits q =
+          let a = and-true (oneFile (fileOf ((viewOf g) .node (s .0))) (fileOf ((viewOf g) .node (t .0)))) _ (sym (ap (edgeFits (viewOf g)) k) ∙ q) in
+          let b = and-true (isLive ((viewOf g) .node (s .0))) _ (a .1) in
+          let c = and-true (isLive ((viewOf g) .node (t .0))) _ (b .1) in
+          (b .0, c .0, λ z. true≢false (sym (eqb-same (s .0)) ∙ ap (eqb (s .0)) z ∙ not-true (eqb (s .0) 1) (c .1)))
 
   -- jump is node 1 and no other
   pub jump-only : (n : ℕ) → (viewOf g) .node n ≡ N.JumpToScope → n ≡ 1

@@ -1,5 +1,5 @@
--- Demand 3 at the level of words: what stands in the used result slots of the two recorded-path calls.
--- The third demand; document 01: "A recorded set is the edge lists in the used result slots of the added call, none twice".
+-- Demand 3 at the level of words: what stands in the used result slots of the two recorded-path calls; and the same with the alias set.
+-- The third demand; document 02, order 5; document 01: "A recorded set is the edge lists in the used result slots of the added call, none twice".
 use Prim.Native.Nat.{ℕ, suc, _≤_, _*_}
 use native.Mathlib.Omega.{arith}
 use native.Mathlib.Nat.{mul-le-mul-left, le-trans}
@@ -31,7 +31,7 @@ use Rattle.semantics.specs.Direct.Laws.{direct-ok, direct-exact}
 use Rattle.semantics.specs.PartialPaths.{Slot}
 use Rattle.semantics.specs.Stitching.{stitched, slotTries}
 use Rattle.semantics.specs.Stitching.Laws.{stitched-ok, stitched-exact}
-use Rattle.semantics.specs.Demand.{fileOwners, Demand, Valid, Holds, Suited}
+use Rattle.semantics.specs.Demand.{Owners, fileOwners, allOwners, Demand, DemandAll, Valid, Holds, Suited}
 use Rattle.semantics.specs.Acceptance.{accepts}
 use Rattle.semantics.specs.Words.{wholeSlots, area, listsIn}
 use Rattle.semantics.specs.Words.Laws.{Fits, AllFit, lists-area, whole-fits, length-area}
@@ -39,6 +39,7 @@ use Rattle.semantics.specs.Database.{slotsIn, checkDatabase, knownOwners
 use Rattle.semantics.specs.Database.Laws.{checked}
 use Rattle.semantics.specs.Calls.{Request, Outcome, settingOf, searchOutcome, directCall, stitchedOutcome, stitchedCall}
 use Rattle.semantics.specs.Demand.Laws.{demand-slots}
+use Rattle.semantics.specs.Demand.Aliases.{suited-all, demand-slots-all}
 use Rattle.semantics.specs.Acceptance.Laws.{suited}
 
 -- THE SLOTS HOLD THE RECORDED LISTS
@@ -111,63 +112,72 @@ direct-slots bd g q u h e =
     ∙ slots-hold bd (q .result) u (enumerate-room (wholeSlots (slotWords bd) (q .result)) Search.NoResultSlot (settingOf bd q) refl (tries Search.TooLong bd (q .limits .length) (viewOf g)) (bd .expansions) (a .0 ∷ []) u (a .2))
     (λ l m. valid-fits bd (q .limits .length) (viewOf g) (q .node) l (x .sound l m)) (recorded-shorter u)
 
-stitched-slots : (bd : Bounds) (g : Graph) (words : List ℕ) (q : Request) (u : State Path) → Suited (viewOf g) (fileOwners g) → Holds (fileOwners g) bd (viewOf g) (slotsIn bd words)
+stitched-slots : (O : Owners) (bd : Bounds) (g : Graph) (words : List ℕ) (q : Request) (u : State Path) → Suited (viewOf g) O → Holds O bd (viewOf g) (slotsIn bd words)
     → stitched bd (q .limits .length) (settingOf bd q) (viewOf g) (slotsIn bd words) (q .node) ≡ ok u → (stitchedCall bd recorded knownOwners (ok g) words q) .result ≡ area (slotWords bd) (q .result) (edgeLists (recorded u)) → stitchedLists bd g words q ≡ edgeLists (recorded u)
-stitched-slots bd g words q u good holds h e =
-    let a = stitched-ok (fileOwners g) bd (q .limits .length) (settingOf bd q) (viewOf g) (q .node) (slotsIn bd words) u h in
-    let x = stitched-exact (fileOwners g) bd (q .limits .length) (settingOf bd q) (viewOf g) (q .node) (slotsIn bd words) u holds good h in
+stitched-slots O bd g words q u good holds h e =
+    let a = stitched-ok O bd (q .limits .length) (settingOf bd q) (viewOf g) (q .node) (slotsIn bd words) u h in
+    let x = stitched-exact O bd (q .limits .length) (settingOf bd q) (viewOf g) (q .node) (slotsIn bd words) u holds good h in
     ap (listsIn (slotWords bd)) e
     ∙ slots-hold bd (q .result) u (enumerate-room (wholeSlots (slotWords bd) (q .result)) Search.NoResultSlot (settingOf bd q) refl (slotTries bd (q .limits .length) (viewOf g) (slotsIn bd words)) (bd .expansions) (a .0 ∷ []) u (a .2))
     (λ l m. valid-fits bd (q .limits .length) (viewOf g) (q .node) l (x .sound l m .0)) (recorded-shorter u)
 
 -- same accepted graph and reference, the same length limit; neither call was refused or set its path-count or complete-count flag
-pub demand : (bd : Bounds) (g : Graph) → accepts g ≡ true → (q q′ : Request) (words : List ℕ) → q .node ≡ q′ .node → q .limits .length ≡ q′ .limits .length
-    → Holds (fileOwners g) bd (viewOf g) (slotsIn bd words)
-    → (n n′ : ℕ) (t t′ : SearchStats)
-    → (directCall bd recorded (ok g) q) .answer ≡ Resolution.Done n t → t .countLimited ≡ false → t .completeLimited ≡ false
-    → (stitchedCall bd recorded knownOwners (ok g) words q′) .answer ≡ Resolution.Done n′ t′ → t′ .countLimited ≡ false → t′ .completeLimited ≡ false
-    → Demand bd (viewOf g) (q .node) (q .limits .length) (directLists bd g q) (stitchedLists bd g words q′)
-unfolding directCall
-demand bd g good q q′ words node limit holds n n′ t t′ hd dn dk hs sn sk =
-    subst (λ z. Demand bd (viewOf g) (q .node) (q .limits .length) z (stitchedLists bd g words q′)) (sym lists-d)
-    (subst (λ z. Demand bd (viewOf g) (q .node) (q .limits .length) (edgeLists (recorded (d .state))) z) (sym lists-s)
-    (demand-slots g ac bd lim (settingOf bd q) (settingOf bd q′) r (slotsIn bd words) holds (d .state) (s .state) (d .found) dn′ dk′ found-s sn′ sk′))
-  where
-    lim : Limit
-    lim = q .limits .length
+module _ (bd : Bounds) (g : Graph) (good : accepts g ≡ true) (q q′ : Request) (words : List ℕ) (node : q .node ≡ q′ .node) (limit : q .limits .length ≡ q′ .limits .length) (n n′ : ℕ) (t t′ : SearchStats)
+    (hd : (directCall bd recorded (ok g) q) .answer ≡ Resolution.Done n t) (dn : t .countLimited ≡ false) (dk : t .completeLimited ≡ false)
+    (hs : (stitchedCall bd recorded knownOwners (ok g) words q′) .answer ≡ Resolution.Done n′ t′) (sn : t′ .countLimited ≡ false) (sk : t′ .completeLimited ≡ false) where
+  directed : Answered bd (q .result) (direct bd (q .limits .length) (settingOf bd q) (viewOf g) (q .node)) t (directCall bd recorded (ok g) q)
+  unfolding directCall
+  directed = searched-done bd q n t (direct bd (q .limits .length) (settingOf bd q) (viewOf g) (q .node)) hd
 
-    r : ℕ
-    r = q .node
+  stitchedTo : Answered bd (q′ .result) (stitched bd (q′ .limits .length) (settingOf bd q′) (viewOf g) (slotsIn bd words) (q′ .node)) t′ (stitchedCall bd recorded knownOwners (ok g) words q′)
+  stitchedTo = stitched-done bd knownOwners g words q′ n′ t′ hs
 
-    ac : Suited (viewOf g) (fileOwners g)
-    ac = suited g good
+  -- the state of either search, its flags, and what stands in its slots
+  record Ended (a : Answer SearchRefusal (State Path)) (lists : List (List ℕ)) : Type 0 where
+    pub state : State Path
+    pub found : a ≡ ok state
+    pub uncounted : state .stats .countLimited ≡ false
+    pub uncut : state .stats .completeLimited ≡ false
+    pub slots : lists ≡ edgeLists (recorded state)
 
-    d : Answered bd (q .result) (direct bd lim (settingOf bd q) (viewOf g) r) t (directCall bd recorded (ok g) q)
-    d = searched-done bd q n t (direct bd lim (settingOf bd q) (viewOf g) r) hd
+  direct-ended : Ended (direct bd (q .limits .length) (settingOf bd q) (viewOf g) (q .node)) (directLists bd g q)
+  direct-ended = record {
+    state = directed .state;
+    found = directed .found;
+    uncounted = ap (λ (z : SearchStats). z .countLimited) (directed .stats) ∙ dn;
+    uncut = ap (λ (z : SearchStats). z .completeLimited) (directed .stats) ∙ dk;
+    slots = direct-slots bd g q (directed .state) (directed .found) (directed .result);
+  }
 
-    s : Answered bd (q′ .result) (stitched bd (q′ .limits .length) (settingOf bd q′) (viewOf g) (slotsIn bd words) (q′ .node)) t′ (stitchedCall bd recorded knownOwners (ok g) words q′)
-    s = stitched-done bd knownOwners g words q′ n′ t′ hs
+  -- as asked of direct search
+  stitched-ended : (O : Owners) → Suited (viewOf g) O → Holds O bd (viewOf g) (slotsIn bd words) → Ended (stitched bd (q .limits .length) (settingOf bd q′) (viewOf g) (slotsIn bd words) (q .node)) (stitchedLists bd g words q′)
+  stitched-ended O fit holds =
+      let s = stitchedTo in
+      record {
+        state = s .state;
+        found = subst (λ z. stitched bd (q .limits .length) (settingOf bd q′) (viewOf g) (slotsIn bd words) z ≡ ok (s .state)) (sym node) (subst (λ z. stitched bd z (settingOf bd q′) (viewOf g) (slotsIn bd words) (q′ .node) ≡ ok (s .state)) (sym limit) (s .found));
+        uncounted = ap (λ (z : SearchStats). z .countLimited) (s .stats) ∙ sn;
+        uncut = ap (λ (z : SearchStats). z .completeLimited) (s .stats) ∙ sk;
+        slots = stitched-slots O bd g words q′ (s .state) fit holds (s .found) (s .result);
+      }
 
-    found-s : stitched bd lim (settingOf bd q′) (viewOf g) (slotsIn bd words) r ≡ ok (s .state)
-    found-s = subst (λ z. stitched bd lim (settingOf bd q′) (viewOf g) (slotsIn bd words) z ≡ ok (s .state)) (sym node) (subst (λ z. stitched bd z (settingOf bd q′) (viewOf g) (slotsIn bd words) (q′ .node) ≡ ok (s .state)) (sym limit) (s .found))
+  -- the database holds the files' partial paths
+  pub demand : Holds (fileOwners g) bd (viewOf g) (slotsIn bd words) → Demand bd (viewOf g) (q .node) (q .limits .length) (directLists bd g q) (stitchedLists bd g words q′)
+  demand holds =
+      let d = direct-ended in
+      let s = stitched-ended (fileOwners g) (suited g good) holds in
+      subst (λ z. Demand bd (viewOf g) (q .node) (q .limits .length) z (stitchedLists bd g words q′)) (sym (d .slots))
+      (subst (λ z. Demand bd (viewOf g) (q .node) (q .limits .length) (edgeLists (recorded (d .state))) z) (sym (s .slots))
+      (demand-slots g (suited g good) bd (q .limits .length) (settingOf bd q) (settingOf bd q′) (q .node) (slotsIn bd words) holds (d .state) (s .state) (d .found) (d .uncounted) (d .uncut) (s .found) (s .uncounted) (s .uncut)))
 
-    dn′ : d .state .stats .countLimited ≡ false
-    dn′ = ap (λ (z : SearchStats). z .countLimited) (d .stats) ∙ dn
-
-    dk′ : d .state .stats .completeLimited ≡ false
-    dk′ = ap (λ (z : SearchStats). z .completeLimited) (d .stats) ∙ dk
-
-    sn′ : s .state .stats .countLimited ≡ false
-    sn′ = ap (λ (z : SearchStats). z .countLimited) (s .stats) ∙ sn
-
-    sk′ : s .state .stats .completeLimited ≡ false
-    sk′ = ap (λ (z : SearchStats). z .completeLimited) (s .stats) ∙ sk
-
-    lists-d : directLists bd g q ≡ edgeLists (recorded (d .state))
-    lists-d = direct-slots bd g q (d .state) (d .found) (d .result)
-
-    lists-s : stitchedLists bd g words q′ ≡ edgeLists (recorded (s .state))
-    lists-s = stitched-slots bd g words q′ (s .state) ac holds (s .found) (s .result)
+  -- and the alias set
+  pub demand-all : Holds (allOwners g) bd (viewOf g) (slotsIn bd words) → DemandAll bd (viewOf g) (q .node) (q .limits .length) (directLists bd g q) (stitchedLists bd g words q′)
+  demand-all holds =
+      let d = direct-ended in
+      let s = stitched-ended (allOwners g) (suited-all g good) holds in
+      subst (λ z. DemandAll bd (viewOf g) (q .node) (q .limits .length) z (stitchedLists bd g words q′)) (sym (d .slots))
+      (subst (λ z. DemandAll bd (viewOf g) (q .node) (q .limits .length) (edgeLists (recorded (d .state))) z) (sym (s .slots))
+      (demand-slots-all g good bd (q .limits .length) (settingOf bd q) (settingOf bd q′) (q .node) (slotsIn bd words) holds (d .state) (s .state) (d .found) (d .uncounted) (d .uncut) (s .found) (s .uncounted) (s .uncut)))
 
 -- the result area keeps its length
 module _ (bd : Bounds) (kept : State Path → List Path) (shorter : (u : State Path) → length (kept u) ≤ length (u .kept)) where

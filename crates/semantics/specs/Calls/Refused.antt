@@ -20,11 +20,11 @@ use Rattle.semantics.specs.Path.{Path, replay}
 use Rattle.semantics.specs.Enumeration.{State}
 use Rattle.semantics.specs.Direct.{direct}
 use Rattle.semantics.specs.Linear.{linear}
-use Rattle.semantics.specs.PartialPaths.{Route, Slot, filePartials}
+use Rattle.semantics.specs.PartialPaths.{Route, Slot, filePartials, aliasRoutes}
 use Rattle.semantics.specs.Stitching.{stitched}
 use Rattle.semantics.specs.Words.{zeros}
 use Rattle.semantics.specs.Database.{checkDatabase, hasRoom}
-use Rattle.semantics.specs.Calls.{Request, LinearRequest, FileRequest, Outcome, Change, noPath, replayAnswer, replayCall, settingOf, linearSettingOf, fileSettingOf, searchOutcome, directCall, stitchedOutcome, stitchedCall, linearOutcome, linearCall, creationOutcome, freshCall, filingOutcome, computationOutcome, replacementOutcome, replaceCall}
+use Rattle.semantics.specs.Calls.{Request, LinearRequest, FileRequest, Outcome, Change, noPath, replayAnswer, replayCall, settingOf, linearSettingOf, fileSettingOf, searchOutcome, directCall, stitchedOutcome, stitchedCall, linearOutcome, linearCall, creationOutcome, freshCall, filingOutcome, computationOutcome, replacementOutcome, replaceCall, aliasOutcome, aliasCall}
 
 -- told with a number other than 0
 abbrev pub IsRefused : List ℕ → Type 0
@@ -101,6 +101,16 @@ module _ (bd : Bounds) where
   unfolding replaceCall
   replace-kept known (ok g) q words = database-kept g q words (checkDatabase bd known g words)
   replace-kept known (refuse x) q words = record { work = refl; database = λ h. refl }
+
+  aliases-kept : (g : Graph) (q : FileRequest) (words : List ℕ) (a : Answer DatabaseRefusal (List Slot)) → Kept toldReplacement (q .work) words (aliasOutcome bd g q words a)
+  unfolding aliasOutcome
+  aliases-kept g q words (ok db) = computed-kept g q words (aliasRoutes bd (q .length) (fileSettingOf bd q) g)
+  aliases-kept g q words (refuse r) = record { work = refl; database = λ h. refl }
+
+  pub alias-kept : (known : ℕ → ℕ → Bool) (image : Answer ImageRefusal Graph) (q : FileRequest) (words : List ℕ) → Kept toldReplacement (q .work) words (aliasCall bd known image q words)
+  unfolding aliasCall
+  alias-kept known (ok g) q words = aliases-kept g q words (checkDatabase bd known g words)
+  alias-kept known (refuse x) q words = record { work = refl; database = λ h. refl }
 
 created-kept : (b : Bool) (g : Graph) (words : List ℕ) → Kept toldCreation 0 words (creationOutcome b g words)
 unfolding creationOutcome

@@ -20,7 +20,7 @@ use Rattle.semantics.specs.declared.answer.Resolution.{Resolution}
 use Rattle.semantics.specs.declared.answer.Resolution.the-variants as Resolution
 use Rattle.semantics.specs.declared.answer.Replacement.{Replacement}
 use Rattle.semantics.specs.declared.answer.Replacement.the-variants as Replacement
-use Rattle.semantics.specs.Limits.{Bounds, slotWords}
+use Rattle.semantics.specs.Limits.{Bounds, slotWords, nobody}
 use Rattle.semantics.specs.Answer.{Answer, ok, refuse, andThen, wrap}
 use Rattle.semantics.specs.Answer.Laws.{refuse-ok, andThen-ok}
 use Rattle.semantics.specs.Graph.{Graph, View, viewOf}
@@ -28,12 +28,12 @@ use Rattle.semantics.specs.Path.{Path, fromReference}
 use Rattle.semantics.specs.Enumeration.{Setting, State, Try, slots, enumerate, reportOf}
 use Rattle.semantics.specs.Enumeration.Waiting.{lent, waited, WithSlots, waiting-other}
 use Rattle.semantics.specs.Direct.{direct, tries}
-use Rattle.semantics.specs.PartialPaths.{Route, Slot, partials, routeTries, startRoutes, belongs, fileRoutes, ifKnown, filePartials, partialStats}
+use Rattle.semantics.specs.PartialPaths.{Route, Slot, partials, routeTries, routeAt, startRoutes, belongs, ownedBy, fileRoutes, ifKnown, filePartials, aliasRoutes, partialStats}
 use Rattle.semantics.specs.Stitching.{stitched, slotTries}
 use Rattle.semantics.specs.Words.{wholeSlots}
 use Rattle.semantics.specs.Database.{checkDatabase, hasRoom}
 use Rattle.semantics.specs.Calls.Statistics.{searched-done}
-use Rattle.semantics.specs.Calls.{Request, FileRequest, Outcome, Change, Reply, settingOf, fileSettingOf, refused, unaltered, searchOutcome, directCall, stitchedOutcome, stitchedCall, filingOutcome, computationOutcome, replacementOutcome, replaceCall}
+use Rattle.semantics.specs.Calls.{Request, FileRequest, Outcome, Change, Reply, settingOf, fileSettingOf, refused, unaltered, searchOutcome, directCall, stitchedOutcome, stitchedCall, filingOutcome, computationOutcome, replacementOutcome, replaceCall, aliasOutcome, aliasCall}
 
 -- the waiting slots in so many words of work area
 abbrev pub slotsFor : Bounds → ℕ → ℕ
@@ -122,7 +122,7 @@ module _ (bd : Bounds) (reply : Reply) where
       on (refuse r) h = absurd (let z : _≡_ {A = Bool} true false = cc in true≢false z)
   stitched-waiting known (refuse r) words q n t e work = absurd (let z : _≡_ {A = Bool} true false = cc in true≢false z)
 
--- ---- THE PARTIAL PATHS OF A FILE
+-- ---- THE PARTIAL PATHS OF A FILE, AND THE ALIAS SET
 
 module _ (bd : Bounds) (g : Graph) (q : FileRequest) (words : List ℕ) (work : ℕ) where
   abbrev computed : FileRequest → Answer PartialPathRefusal (State Route)
@@ -135,6 +135,13 @@ module _ (bd : Bounds) (g : Graph) (q : FileRequest) (words : List ℕ) (work : 
       on : (b : Bool) → ifKnown b bd (q .length) (fileSettingOf bd q) g (q .file) ≡ ok u → WithSlots (slotsFor bd work) Partial.NoWaitingSlot u (ifKnown b bd (q .length) (fileSettingOf bd (lendingFile work q)) g (q .file))
       on true k = unfold fileRoutes in unfold partials in waiting-other (fileSettingOf bd q) (slotsFor bd (q .work)) (slotsFor bd work) Partial.NoWaitingSlot (routeTries bd (q .length) (viewOf g) (belongs (viewOf g) (q .file))) (bd .expansions) (startRoutes g (q .file)) u k
       on false k = absurd (refuse-ok _ u k)
+
+  abbrev computedAliases : FileRequest → Answer PartialPathRefusal (State Route)
+  computedAliases x = aliasRoutes bd (x .length) (fileSettingOf bd x) g
+
+  aliases-other : (u : State Route) → computedAliases q ≡ ok u → WithSlots (slotsFor bd work) Partial.NoWaitingSlot u (computedAliases (lendingFile work q))
+  unfolding aliasRoutes partials
+  aliases-other u e = waiting-other (fileSettingOf bd q) (slotsFor bd (q .work)) (slotsFor bd work) Partial.NoWaitingSlot (routeTries bd (q .length) (viewOf g) (ownedBy (viewOf g) nobody)) (bd .expansions) (routeAt 0 ∷ []) u e
 
   computed-done : (a : Answer PartialPathRefusal (State Route)) (t : PartialPathStats) → (computationOutcome bd g q words a) .answer ≡ Replacement.Done t → (u : State Route) × (a ≡ ok u) × (hasRoom bd u words ≡ true) × (partialStats u ≡ t)
   unfolding computationOutcome filingOutcome
@@ -159,12 +166,14 @@ module _ (bd : Bounds) (g : Graph) (q : FileRequest) (words : List ℕ) (work : 
       same true = (refl, refl)
       same false = (refl, refl)
 
-  computed-waiting : (t : PartialPathStats) → (computationOutcome bd g q words (computed q)) .answer ≡ Replacement.Done t
-      → FilingWith (t .waited) (slotsFor bd work) (lendingFile work q) words (computationOutcome bd g q words (computed q)) (computationOutcome bd g (lendingFile work q) words (computed (lendingFile work q)))
-  computed-waiting t e =
-      let x = computed-done (computed q) t e in
-      subst (λ (a : Answer PartialPathRefusal (State Route)). FilingWith (t .waited) (slotsFor bd work) (lendingFile work q) words (computationOutcome bd g q words a) (computationOutcome bd g (lendingFile work q) words (computed (lendingFile work q)))) (sym (x .1))
-      (computed-other (x .0) t (x .3) (computed (lendingFile work q)) (partials-other (x .0) (x .1)))
+  -- of a computation with these slots and with others
+  computed-waiting : (with-these with-others : Answer PartialPathRefusal (State Route)) → ((u : State Route) → with-these ≡ ok u → WithSlots (slotsFor bd work) Partial.NoWaitingSlot u with-others)
+      → (t : PartialPathStats) → (computationOutcome bd g q words with-these) .answer ≡ Replacement.Done t
+      → FilingWith (t .waited) (slotsFor bd work) (lendingFile work q) words (computationOutcome bd g q words with-these) (computationOutcome bd g (lendingFile work q) words with-others)
+  computed-waiting these others other t e =
+      let x = computed-done these t e in
+      subst (λ (a : Answer PartialPathRefusal (State Route)). FilingWith (t .waited) (slotsFor bd work) (lendingFile work q) words (computationOutcome bd g q words a) (computationOutcome bd g (lendingFile work q) words others)) (sym (x .1))
+      (computed-other (x .0) t (x .3) others (other (x .0) (x .1)))
 
 pub replace-waiting : (bd : Bounds) (known : ℕ → ℕ → Bool) (image : Answer ImageRefusal Graph) (q : FileRequest) (words : List ℕ) (t : PartialPathStats) → (replaceCall bd known image q words) .answer ≡ Replacement.Done t → (work : ℕ)
     → FilingWith (t .waited) (slotsFor bd work) (lendingFile work q) words (replaceCall bd known image q words) (replaceCall bd known image (lendingFile work q) words)
@@ -172,6 +181,16 @@ unfolding replaceCall replacementOutcome
 replace-waiting bd known (ok g) q words t e work = on (checkDatabase bd known g words) e
   where
     on : (a : Answer DatabaseRefusal (List Slot)) → (replacementOutcome bd g q words a) .answer ≡ Replacement.Done t → FilingWith (t .waited) (slotsFor bd work) (lendingFile work q) words (replacementOutcome bd g q words a) (replacementOutcome bd g (lendingFile work q) words a)
-    on (ok db) h = computed-waiting bd g q words work t h
+    on (ok db) h = computed-waiting bd g q words work (computed bd g q words work q) (computed bd g q words work (lendingFile work q)) (partials-other bd g q words work) t h
     on (refuse r) h = absurd (let z : _≡_ {A = Bool} true false = cc in true≢false z)
 replace-waiting bd known (refuse r) q words t e work = absurd (let z : _≡_ {A = Bool} true false = cc in true≢false z)
+
+pub alias-waiting : (bd : Bounds) (known : ℕ → ℕ → Bool) (image : Answer ImageRefusal Graph) (q : FileRequest) (words : List ℕ) (t : PartialPathStats) → (aliasCall bd known image q words) .answer ≡ Replacement.Done t → (work : ℕ)
+    → FilingWith (t .waited) (slotsFor bd work) (lendingFile work q) words (aliasCall bd known image q words) (aliasCall bd known image (lendingFile work q) words)
+unfolding aliasCall aliasOutcome
+alias-waiting bd known (ok g) q words t e work = on (checkDatabase bd known g words) e
+  where
+    on : (a : Answer DatabaseRefusal (List Slot)) → (aliasOutcome bd g q words a) .answer ≡ Replacement.Done t → FilingWith (t .waited) (slotsFor bd work) (lendingFile work q) words (aliasOutcome bd g q words a) (aliasOutcome bd g (lendingFile work q) words a)
+    on (ok db) h = computed-waiting bd g q words work (computedAliases bd g q words work q) (computedAliases bd g q words work (lendingFile work q)) (aliases-other bd g q words work) t h
+    on (refuse r) h = absurd (let z : _≡_ {A = Bool} true false = cc in true≢false z)
+alias-waiting bd known (refuse r) q words t e work = absurd (let z : _≡_ {A = Bool} true false = cc in true≢false z)

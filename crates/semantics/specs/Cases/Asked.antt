@@ -23,7 +23,7 @@ use Rattle.semantics.specs.Recorded.{recorded, returned}
 use Rattle.semantics.specs.Image.{symbolBytes, checkImage}
 use Rattle.semantics.specs.Words.{zeros, listsIn}
 use Rattle.semantics.specs.Database.{slotsIn, knownOwners, lookupPart, wordsOf}
-use Rattle.semantics.specs.Calls.{Request, LinearRequest, FileRequest, Outcome, Change, ReplayedPath, checkCall, replayCall, completeCall, shadowsCall, directCall, stitchedCall, linearCall, freshCall, replaceCall}
+use Rattle.semantics.specs.Calls.{Request, LinearRequest, FileRequest, Outcome, Change, ReplayedPath, checkCall, replayCall, completeCall, shadowsCall, directCall, stitchedCall, linearCall, freshCall, replaceCall, aliasRequest, aliasCall}
 use Rattle.semantics.specs.Finding.{FindRequest, findCall}
 use Rattle.semantics.specs.Cases.Graphs.{joined}
 
@@ -191,7 +191,7 @@ namingAreas q im = toldFinding ((naming base q im) .answer) ∷ (naming base q i
 abbrev pub databaseOf : ℕ → ℕ → ℕ → List (List ℕ) → List ℕ
 databaseOf used nodes files records = used ∷ nodes ∷ files ∷ joined records
 
--- a record with room for so many edges: file + 1, start, end, edge count, the edges, zeros behind the last
+-- a record with room for so many edges: owner + 1, start, end, edge count, the edges, zeros behind the last
 abbrev pub heldIn : ℕ → ℕ → ℕ → ℕ → List ℕ → List ℕ
 heldIn room owner start end edges = owner ∷ start ∷ end ∷ length edges ∷ (edges ++ zeros (room - length edges))
 
@@ -212,6 +212,14 @@ fileRequest bd order length count waiting file = record { order = order; length 
 unfoldable pub filing : Bounds → FileRequest → List ℕ → List ℕ → Change Replacement
 unfolding replaceCall checkImage
 filing bd q im words = replaceCall bd knownOwners (checkImage symbolBytes im) q words
+
+-- the alias set, with so many whole waiting slots
+abbrev pub aliasesWith : Bounds → SearchOrder → Limit → Limit → ℕ → FileRequest
+aliasesWith bd order length count waiting = aliasRequest order length count (slotWords bd * waiting)
+
+unfoldable pub aliasing : Bounds → FileRequest → List ℕ → List ℕ → Change Replacement
+unfolding aliasCall checkImage
+aliasing bd q im words = aliasCall bd knownOwners (checkImage symbolBytes im) q words
 
 -- every word that a fresh database and a replacement leave
 abbrev pub createdWords : Change Creation → List (List ℕ)
@@ -251,7 +259,17 @@ unfoldable pub partialsIn : Bounds → SearchOrder → Limit → Limit → ℕ �
 unfolding shownSlots filing creating
 partialsIn bd order length count waiting slots f im = shownSlots bd (filing bd (fileRequest bd order length count waiting f) im ((creating im (wordsFor bd slots)) .database))
 
--- a slot's file, start and end, then its edges; nothing for a dead one
+-- the alias set in a fresh database of so many slots
+unfoldable pub aliasesIn : Bounds → SearchOrder → Limit → Limit → ℕ → ℕ → List ℕ → List (List ℕ)
+unfolding shownSlots aliasing creating
+aliasesIn bd order length count waiting slots im = shownSlots bd (aliasing bd (aliasesWith bd order length count waiting) im ((creating im (wordsFor bd slots)) .database))
+
+-- the words after the alias set was replaced in them
+unfoldable pub aliasesBeside : List ℕ → List ℕ → List ℕ
+unfolding aliasing
+aliasesBeside im words = (aliasing base (aliasesWith base BreadthFirst Absent Absent 128) im words) .database
+
+-- a slot's owner, start and end, then its edges; nothing for a dead one
 unfoldable pub slotWhole : Slot → List ℕ
 slotWhole dead = []
 slotWhole (slot owner start end edges) = owner ∷ start ∷ end ∷ edges
@@ -288,3 +306,8 @@ waitsLinear im = behind searchNumbers (toldLinearResolution ((linear base (linea
 unfoldable pub waitsFiling : SearchOrder → Limit → ℕ → ℕ → List ℕ → List ℕ
 unfolding behind filing freshly
 waitsFiling order count waiting f im = behind replacementNumbers (toldReplacement ((filing base (fileRequest base order Absent count waiting f) im (freshly im)) .answer))
+
+-- the alias set in a database of 8 slots
+unfoldable pub waitsAliasing : SearchOrder → Limit → ℕ → List ℕ → List ℕ
+unfolding behind aliasing freshly
+waitsAliasing order count waiting im = behind replacementNumbers (toldReplacement ((aliasing base (aliasesWith base order Absent count waiting) im (freshly im)) .answer))

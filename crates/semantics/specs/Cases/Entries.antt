@@ -18,7 +18,7 @@ use Rattle.semantics.specs.Recorded.{returned, recorded}
 use Rattle.semantics.specs.Image.{symbolBytes, checkImage}
 use Rattle.semantics.specs.Told.{toldChecked, toldReplayed, toldJudgement, toldResolution, toldLinearResolution, toldCreation, toldReplacement, toldFinding, toldRewriting, toldPart}
 use Rattle.semantics.specs.Database.{knownOwners, lookupPart}
-use Rattle.semantics.specs.Calls.{edge, jump, noPath, checkCall, replayCall, completeCall, shadowsCall, directCall, linearCall, stitchedCall, freshCall, replaceCall}
+use Rattle.semantics.specs.Calls.{edge, jump, noPath, checkCall, replayCall, completeCall, shadowsCall, directCall, linearCall, stitchedCall, freshCall, replaceCall, aliasCall}
 use Rattle.semantics.specs.Finding.{findCall}
 use Rattle.semantics.specs.Rewriting.{rewriteCall}
 use Rattle.semantics.specs.Asked.{orderAsked, limitsAsked, lengthAsked, expansionsAsked}
@@ -26,9 +26,9 @@ use Rattle.semantics.specs.Written.{written}
 use Rattle.semantics.specs.Path.{Symbol}
 use Rattle.semantics.specs.PathWords.{symbolWords, pathWords}
 use Rattle.semantics.specs.ReplayedPaths.{scopesFrom, symbolsFrom, passagesTo, readPath}
-use Rattle.semantics.specs.Entries.{checkOf, replayOf, completeOf, shadowsOf, lookupOf, widenImage, narrowImage, freshDatabase, directAsked, linearAsked, stitchedAsked, nameAsked, replaceAsked}
+use Rattle.semantics.specs.Entries.{checkOf, replayOf, completeOf, shadowsOf, lookupOf, widenImage, narrowImage, freshDatabase, directAsked, linearAsked, stitchedAsked, nameAsked, replaceAsked, aliasesAsked}
 use Rattle.semantics.specs.Cases.Rows.{Row, _gives_, Agreed}
-use Rattle.semantics.specs.Cases.Graphs.{imageA, imageB}
+use Rattle.semantics.specs.Cases.Graphs.{imageA, imageB, aliasesAll}
 use Rattle.semantics.specs.Cases.Asked.{firstFiled}
 use Rattle.semantics.specs.Cases.Versions.{imageHigh}
 
@@ -104,7 +104,7 @@ writing-cases = refl
 
 -- EACH ENTRY: its arguments in their places, every number of what is asked another one
 pub entered : List (Row (List ℕ))
-unfolding checkCall replayCall completeCall shadowsCall directCall linearCall stitchedCall findCall rewriteCall freshCall replaceCall lookupPart checkImage firstFiled returned recorded
+unfolding checkCall replayCall completeCall shadowsCall directCall linearCall stitchedCall findCall rewriteCall freshCall replaceCall aliasCall lookupPart checkImage firstFiled returned recorded
 entered =
     (toldChecked (checkOf imageA) gives 0 ∷ 1 ∷ 6 ∷ 3 ∷ [])
     ∷ (toldReplayed (replayOf imageA 2 (0 ∷ 2 ∷ []) .answer) gives 15 ∷ 5 ∷ [])
@@ -142,6 +142,14 @@ entered =
     ∷ (toldReplacement (replaceAsked imageA 0 (0 ∷ 1 ∷ 1 ∷ []) (zeros (8 * slotLength)) (firstFiled imageA ++ zeros (8 * recordLength)) .answer) gives 0 ∷ 6 ∷ 3 ∷ 0 ∷ 1 ∷ 0 ∷ 3 ∷ [])
     ∷ (toldReplacement (replaceAsked imageA 0 (0 ∷ 0 ∷ 0 ∷ 1 ∷ 2 ∷ []) (zeros (8 * slotLength)) (firstFiled imageA ++ zeros (8 * recordLength)) .answer) gives 0 ∷ 2 ∷ 1 ∷ 0 ∷ 0 ∷ 1 ∷ 3 ∷ [])
     ∷ (toldReplacement (replaceAsked imageA 7 [] (zeros 3) (firstFiled imageA) .answer) gives 21 ∷ 7 ∷ [])
+    -- the alias set: unlimited, depth-first with an expansion limit of 4, with a length limit of 1; the work area and the database each in their place
+    ∷ (toldReplacement (aliasesAsked aliasesAll [] (zeros (8 * slotLength)) (freshDatabase aliasesAll (zeros (3 + 9 * recordLength)) .database) .answer) gives 0 ∷ 10 ∷ 9 ∷ 6 ∷ 0 ∷ 0 ∷ 4 ∷ [])
+    ∷ (toldReplacement (aliasesAsked aliasesAll (1 ∷ 0 ∷ 0 ∷ 1 ∷ 4 ∷ []) (zeros (8 * slotLength)) (freshDatabase aliasesAll (zeros (3 + 9 * recordLength)) .database) .answer) gives 0 ∷ 4 ∷ 6 ∷ 3 ∷ 0 ∷ 1 ∷ 4 ∷ [])
+    ∷ (toldReplacement (aliasesAsked aliasesAll (0 ∷ 1 ∷ 1 ∷ []) (zeros (8 * slotLength)) (freshDatabase aliasesAll (zeros (3 + 9 * recordLength)) .database) .answer) gives 0 ∷ 4 ∷ 3 ∷ 2 ∷ 1 ∷ 0 ∷ 3 ∷ [])
+    ∷ (toldReplacement (aliasesAsked aliasesAll [] (zeros (3 * slotLength)) (freshDatabase aliasesAll (zeros (3 + 9 * recordLength)) .database) .answer) gives 31 ∷ [])
+    ∷ (toldReplacement (aliasesAsked aliasesAll [] (zeros (8 * slotLength)) (freshDatabase aliasesAll (zeros (3 + 8 * recordLength)) .database) .answer) gives 33 ∷ [])
+    ∷ (aliasesAsked imageA [] (9 ∷ replicate 128 9) (0 ∷ 4 ∷ 0 ∷ 7 ∷ []) .work gives zeros 129)
+    ∷ (aliasesAsked imageA [] (9 ∷ replicate 128 9) (0 ∷ 4 ∷ 0 ∷ 7 ∷ []) .database gives 0 ∷ 6 ∷ 1 ∷ 7 ∷ [])
     ∷ (toldPart (lookupOf 4 (firstFiled imageA)) gives (7 + 4 * recordLength) ∷ 2 ∷ [])
     ∷ (toldPart (lookupOf 5 (firstFiled imageA)) gives 0 ∷ 0 ∷ [])
     ∷ []

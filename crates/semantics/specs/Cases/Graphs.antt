@@ -201,3 +201,11 @@ goingOn = imageOf 1 (reference 0 7 ∷ definition 0 7 ∷ push 0 7 ∷ definitio
 -- a scope with a loop
 abbrev pub looping : List ℕ
 looping = imageOf 1 (reference 0 7 ∷ scope 0 ∷ []) (2 ⟶ 3 ∷ 3 ⟶ 3 ∷ [])
+
+-- from root straight to jump, with scope 4 on the scope stack: reference 2 pushes 9, 3 pushes 7 with scope 4 attached, which 5 pops; behind 4 is the definition
+abbrev pub hopping : List ℕ
+hopping = imageOf 1 (reference 0 9 ∷ pushScoped 0 7 4 ∷ exported 0 ∷ popScoped 0 7 ∷ definition 0 9 ∷ []) (2 ⟶ 3 ∷ 3 ⟶ 5 ∷ 5 ⟶ 0 ∷ 0 ⟶ 1 ∷ 4 ⟶ 6 ∷ [])
+
+-- two files; edges 1 and 8 from root to root and 3 from root to jump; every other one has an end in a file, at root or at jump but for edge 4, which is removed
+abbrev pub aliasesAll : List ℕ
+aliasesAll = imageOf 2 (reference 0 7 ∷ definition 0 7 ∷ exported 1 ∷ []) (2 ⟶ 0 ∷ 0 ⟶ 0 ∷ 0 ⟶ 3 ∷ 0 ⟶ 1 ∷ removedEdge ∷ 4 ⟶ 0 ∷ 0 ⟶ 4 ∷ 4 ⟶ 1 ∷ 0 ⟶ 0 ∷ [])

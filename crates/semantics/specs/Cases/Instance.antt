@@ -1,28 +1,33 @@
 -- An instance of demand 3: all its premises hold of graph C and a database that was filed by the public calls.
--- So the demand is not empty, and its conclusion there is what document 01 says of C. Likewise what is said of names (document 02, order 1).
-use Prim.Native.Nat.{ℕ, _+_, _*_}
+-- So the demand is not empty, and its conclusion there is what document 01 says of C. Likewise what is said of names (document 02, order 1) and of the
+-- alias set (order 5).
+use Prim.Native.Nat.{ℕ, _+_, _*_, _<_}
 use native.Mathlib.Omega.{arith}
 use mathlib.Core.Path.{_≡_, refl}
 use mathlib.Core.Bool.{true, false}
-use mathlib.Core.List.{[], _∷_, List·Memᴰ·head}
+use mathlib.Core.Logic.{⊎-elim}
+use mathlib.Core.List.{List, [], _∷_, List·Memᴰ, List·Memᴰ·head, List·Memᴰ·tail, List·Memᴰ·not-nil, List·Memᴰ·cases-cons}
 use Rattle.semantics.specs.declared.graph.Node.the-variants as N
 use Rattle.semantics.specs.declared.search.Limit.the-variants.{Absent}
 use Rattle.semantics.specs.declared.search.SearchOrder.the-variants.{BreadthFirst}
-use Rattle.semantics.specs.Limits.{base, slotLength, recordLength}
+use Rattle.semantics.specs.Limits.{base, slotLength, recordLength, nobody}
 use Rattle.semantics.specs.Answer.{ok}
-use Rattle.semantics.specs.Graph.{fileId, Graph, viewOf, isReference}
+use Rattle.semantics.specs.Graph.{nodeId, fileId, Graph, viewOf, isReference}
 use Rattle.semantics.specs.Path.{Path}
 use Rattle.semantics.specs.Enumeration.{State}
 use Rattle.semantics.specs.Recorded.{recorded}
 use Rattle.semantics.specs.Image.{symbolBytes, checkImage}
-use Rattle.semantics.specs.Words.{zeros}
-use Rattle.semantics.specs.Calls.{Request, directCall, stitchedCall, freshCall, replaceCall}
-use Rattle.semantics.specs.Calls.Filing.{Filed, begun, refiled}
-use Rattle.semantics.specs.Calls.Whole.{Premises, filed-premise, Refiling}
+use Rattle.semantics.specs.Image.Laws.{image-accepted}
+use Rattle.semantics.specs.Database.{slotsIn}
+use Rattle.semantics.specs.Demand.{NoAliases}
+use Rattle.semantics.specs.Words.{zeros, listsIn}
+use Rattle.semantics.specs.Calls.{Request, directCall, stitchedCall, freshCall, replaceCall, aliasCall}
+use Rattle.semantics.specs.Calls.Filing.{Refiled, Filed, begun, refiled, aliased, still-none, filed-none}
+use Rattle.semantics.specs.Calls.Whole.{recordedSet, directRecorded, stitchedRecorded, Premises, filed-premise, Refiling, AliasPremises, refiled-aliases, AliasRefiling}
 use Rattle.semantics.specs.Finding.{Name, FindRequest, findCall}
 use Rattle.semantics.specs.Finding.Laws.{Unnamed, Lowest, searchBy, nothing-answered, found-answered}
-use Rattle.semantics.specs.Cases.Graphs.{imageA, graphA, imageC, live}
-use Rattle.semantics.specs.Cases.Asked.{request, nameRequest, firstFiled, replacing, freshly}
+use Rattle.semantics.specs.Cases.Graphs.{imageA, graphA, imageC, hopping, live}
+use Rattle.semantics.specs.Cases.Asked.{request, nameRequest, firstFiled, replacing, freshly, aliasesBeside}
 
 -- DEMAND 3 HAS INSTANCES: its premises hold together of C, whose file was filed into a fresh database of 8 slots
 abbrev pub askedC : Request
@@ -35,6 +40,10 @@ graphC =
       nodes = N.Root ∷ N.JumpToScope ∷ N.Push (fileId 0) 7 true ∷ N.Pop (fileId 0) 7 true ∷ [];
       edges = live 2 0 0 ∷ live 0 0 0 ∷ live 0 3 0 ∷ [];
     }
+
+-- file 0 alone was replaced
+just-file : List·Memᴰ nobody (0 ∷ []) → ⊥
+just-file m = ⊎-elim (λ (e : nobody ≡ 0). absurd (let z : _≡_ {A = ℕ} 65534 0 = e in omega (arith, z))) List·Memᴰ·not-nil (List·Memᴰ·cases-cons m)
 
 filedC : Filed base (checkImage symbolBytes imageC) (firstFiled imageC) (0 ∷ [])
 unfolding firstFiled replacing freshly checkImage freshCall replaceCall
@@ -51,12 +60,20 @@ premises-c = record {
   accepted = refl;
   same-reference = refl;
   same-length-limit = refl;
-  database-holds = filed-premise symbolBytes base imageC graphC refl (firstFiled imageC) (0 ∷ []) filedC (λ f h. List·Memᴰ·head (omega (arith, h)));
+  database-holds = filed-premise symbolBytes base imageC graphC refl (firstFiled imageC) (0 ∷ []) filedC (λ f h. List·Memᴰ·head (omega (arith, h))) just-file;
   direct-finished = record { paths = 2; stats = record { expanded = 5; complete = 2; rejected = 0; cycles = 1; lengthLimited = false; countLimited = false; completeLimited = false; waited = 2 }; answered = refl; uncounted = refl; uncut = refl };
   stitched-finished = record { paths = 1; stats = record { expanded = 4; complete = 2; rejected = 0; cycles = 0; lengthLimited = false; countLimited = false; completeLimited = false; waited = 2 }; answered = refl; uncounted = refl; uncut = refl };
 }
 
 -- THE DAILY REFILING HAS ONE TOO: a database that was filed on C, and then its file replaced on A
+filed-c-none : NoAliases (slotsIn base (firstFiled imageC))
+unfolding checkImage graphC
+filed-c-none = filed-none base graphC (image-accepted symbolBytes imageC graphC refl) (firstFiled imageC) (0 ∷ []) filedC just-file
+
+refiledA : Refiled base (ok graphA) (firstFiled imageC) ((replacing imageA 0 (firstFiled imageC)) .database) (0 ∷ [])
+unfolding checkImage firstFiled replacing freshly replaceCall
+refiledA = refiled BreadthFirst (128 * slotLength) 0 (record { expanded = 8; found = 5; cycles = 0; lengthLimited = false; countLimited = false; waited = 4 }) begun refl
+
 pub refiling-a : Refiling symbolBytes base imageA (firstFiled imageC) ((replacing imageA 0 (firstFiled imageC)) .database) askedC askedC
 unfolding checkImage firstFiled replacing freshly freshCall replaceCall directCall stitchedCall recorded
 refiling-a = record {
@@ -65,8 +82,88 @@ refiling-a = record {
   same-reference = refl;
   same-length-limit = refl;
   done = 0 ∷ [];
-  replaced = refiled BreadthFirst (128 * slotLength) 0 (record { expanded = 8; found = 5; cycles = 0; lengthLimited = false; countLimited = false; waited = 4 }) begun refl;
+  replaced = refiledA;
   every-file = λ f h. let z : f ≡ 0 = omega (arith, h) in List·Memᴰ·head z;
+  no-aliases = still-none base graphA (image-accepted symbolBytes imageA graphA refl) refiledA filed-c-none just-file;
+  direct-finished = record { paths = 1; stats = record { expanded = 3; complete = 1; rejected = 1; cycles = 0; lengthLimited = false; countLimited = false; completeLimited = false; waited = 1 }; answered = refl; uncounted = refl; uncut = refl };
+  stitched-finished = record { paths = 1; stats = record { expanded = 4; complete = 2; rejected = 2; cycles = 0; lengthLimited = false; countLimited = false; completeLimited = false; waited = 2 }; answered = refl; uncounted = refl; uncut = refl };
+}
+
+-- ORDER 5 HAS INSTANCES: on C with the alias set, where stitched search records [0 2] and [0 1 2]
+abbrev allC : List ℕ
+allC = aliasesBeside imageC (firstFiled imageC)
+
+refiledC : Refiled base (checkImage symbolBytes imageC) (freshly imageC) allC (nobody ∷ 0 ∷ [])
+unfolding checkImage freshly firstFiled replacing aliasesBeside replaceCall aliasCall
+refiledC = aliased BreadthFirst (128 * slotLength) (record { expanded = 2; found = 1; cycles = 1; lengthLimited = false; countLimited = false; waited = 1 })
+    (refiled BreadthFirst (128 * slotLength) 0 (record { expanded = 5; found = 3; cycles = 0; lengthLimited = false; countLimited = false; waited = 2 }) begun refl) refl
+
+-- file 0 and the set
+both : (f : ℕ) → f < 1 → List·Memᴰ f (nobody ∷ 0 ∷ [])
+both f h = let z : f ≡ 0 = omega (arith, h) in List·Memᴰ·tail (List·Memᴰ·head z)
+
+pub alias-premises-c : AliasPremises symbolBytes base imageC allC askedC askedC
+unfolding checkImage graphC firstFiled replacing freshly aliasesBeside directCall stitchedCall recorded
+alias-premises-c = record {
+  graph = graphC;
+  accepted = refl;
+  same-reference = refl;
+  same-length-limit = refl;
+  database-holds = refiled-aliases symbolBytes base imageC graphC refl (freshly imageC) allC (nobody ∷ 0 ∷ []) refiledC both (List·Memᴰ·head refl);
+  direct-finished = record { paths = 2; stats = record { expanded = 5; complete = 2; rejected = 0; cycles = 1; lengthLimited = false; countLimited = false; completeLimited = false; waited = 2 }; answered = refl; uncounted = refl; uncut = refl };
+  stitched-finished = record { paths = 2; stats = record { expanded = 6; complete = 3; rejected = 0; cycles = 1; lengthLimited = false; countLimited = false; completeLimited = false; waited = 3 }; answered = refl; uncounted = refl; uncut = refl };
+}
+
+-- both searches record these two lists
+pub recorded-c : (recordedSet base (directRecorded symbolBytes base imageC askedC) ≡ (0 ∷ 2 ∷ []) ∷ (0 ∷ 1 ∷ 2 ∷ []) ∷ [])
+    × (recordedSet base (stitchedRecorded symbolBytes base imageC allC askedC) ≡ (0 ∷ 2 ∷ []) ∷ (0 ∷ 1 ∷ 2 ∷ []) ∷ [])
+unfolding checkImage firstFiled replacing freshly aliasesBeside directCall stitchedCall recorded listsIn
+recorded-c = (refl, refl)
+
+-- on the smallest graph with an edge from root to jump on the way, where the set was replaced before the file
+graphHopping : Graph
+graphHopping =
+    record {
+      files = 1;
+      nodes = N.Root ∷ N.JumpToScope ∷ N.Push (fileId 0) 9 true ∷ N.PushScoped (fileId 0) 7 (nodeId 4) false ∷ N.Scope (fileId 0) true ∷ N.PopScoped (fileId 0) 7 false ∷ N.Pop (fileId 0) 9 true ∷ [];
+      edges = live 2 3 0 ∷ live 3 5 0 ∷ live 5 0 0 ∷ live 0 1 0 ∷ live 4 6 0 ∷ [];
+    }
+
+abbrev allHopping : List ℕ
+allHopping = (replacing hopping 0 (aliasesBeside hopping (freshly hopping))) .database
+
+pub refiling-hopping : AliasRefiling symbolBytes base hopping (freshly hopping) allHopping askedC askedC
+unfolding checkImage graphHopping freshly replacing aliasesBeside replaceCall aliasCall directCall stitchedCall recorded
+refiling-hopping = record {
+  graph = graphHopping;
+  accepted = refl;
+  same-reference = refl;
+  same-length-limit = refl;
+  done = 0 ∷ nobody ∷ [];
+  replaced = refiled BreadthFirst (128 * slotLength) 0 (record { expanded = 7; found = 2; cycles = 0; lengthLimited = false; countLimited = false; waited = 3 })
+      (aliased BreadthFirst (128 * slotLength) (record { expanded = 2; found = 1; cycles = 0; lengthLimited = false; countLimited = false; waited = 1 }) begun refl) refl;
+  every-file = λ f h. let z : f ≡ 0 = omega (arith, h) in List·Memᴰ·head z;
+  alias-set = List·Memᴰ·tail (List·Memᴰ·head refl);
+  direct-finished = record { paths = 1; stats = record { expanded = 6; complete = 1; rejected = 0; cycles = 0; lengthLimited = false; countLimited = false; completeLimited = false; waited = 1 }; answered = refl; uncounted = refl; uncut = refl };
+  stitched-finished = record { paths = 1; stats = record { expanded = 4; complete = 1; rejected = 0; cycles = 0; lengthLimited = false; countLimited = false; completeLimited = false; waited = 1 }; answered = refl; uncounted = refl; uncut = refl };
+}
+
+-- and on A in words that hold the set of C: an empty one takes its place
+abbrev setC : List ℕ
+setC = aliasesBeside imageC (freshly imageC)
+
+pub alias-refiling-a : AliasRefiling symbolBytes base imageA setC (aliasesBeside imageA ((replacing imageA 0 setC) .database)) askedC askedC
+unfolding checkImage firstFiled replacing freshly aliasesBeside freshCall replaceCall aliasCall directCall stitchedCall recorded
+alias-refiling-a = record {
+  graph = graphA;
+  accepted = refl;
+  same-reference = refl;
+  same-length-limit = refl;
+  done = nobody ∷ 0 ∷ [];
+  replaced = aliased BreadthFirst (128 * slotLength) (record { expanded = 1; found = 0; cycles = 0; lengthLimited = false; countLimited = false; waited = 1 })
+      (refiled BreadthFirst (128 * slotLength) 0 (record { expanded = 8; found = 5; cycles = 0; lengthLimited = false; countLimited = false; waited = 4 }) begun refl) refl;
+  every-file = both;
+  alias-set = List·Memᴰ·head refl;
   direct-finished = record { paths = 1; stats = record { expanded = 3; complete = 1; rejected = 1; cycles = 0; lengthLimited = false; countLimited = false; completeLimited = false; waited = 1 }; answered = refl; uncounted = refl; uncut = refl };
   stitched-finished = record { paths = 1; stats = record { expanded = 4; complete = 2; rejected = 2; cycles = 0; lengthLimited = false; countLimited = false; completeLimited = false; waited = 2 }; answered = refl; uncounted = refl; uncut = refl };
 }

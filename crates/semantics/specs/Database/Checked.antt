@@ -1,20 +1,20 @@
 -- What the check of a database says of its slots: each live one names a known owner and has an edge.
 -- Document 01, "Turned back", the rows of 35 and 34.
-use Prim.Native.Nat.{ℕ, zero, suc, _≤_}
+use Prim.Native.Nat.{ℕ, zero, suc, _≤_, _<_}
 use native.Mathlib.Omega.{arith}
 use mathlib.Core.Path.{_≡_, refl, _∙_, ap}
-use mathlib.Core.Logic.{⊎-elim}
+use mathlib.Core.Logic.{_⊎_, inl, inr, ⊎-elim}
 use mathlib.Core.Bool.{Bool, true, false, true≢false}
 use mathlib.Core.List.{List, [], _∷_, List·Memᴰ, List·Memᴰ·not-nil, List·Memᴰ·cases-cons}
-use lib.Dec.{leb, ltb, ltb→lt, leb→le}
+use lib.Dec.{eqb, leb, ltb, ltb→lt, leb→le}
 use lib.ListN.{length, getD, take, drop, length-drop}
 use lib.Seq.{length-take-le}
 use Rattle.semantics.specs.declared.refusal.DatabaseRefusal.the-variants.{Malformed, Outgrown}
-use Rattle.semantics.specs.Limits.{Bounds, recordWords}
+use Rattle.semantics.specs.Limits.{Bounds, recordWords, nobody}
 use Rattle.semantics.specs.Answer.{ok, andThen, okIf}
 use Rattle.semantics.specs.Answer.Laws.{refuse-ok}
-use Rattle.semantics.specs.Lists.{and}
-use Rattle.semantics.specs.Lists.Laws.{and-true, eq→T, mem-map}
+use Rattle.semantics.specs.Lists.{or, and}
+use Rattle.semantics.specs.Lists.Laws.{and-true, eq→T, eqb-true, mem-map}
 use Rattle.semantics.specs.Graph.{Graph}
 use Rattle.semantics.specs.PartialPaths.{Slot, slot}
 use Rattle.semantics.specs.Demand.{OwnersIn}
@@ -94,6 +94,10 @@ module _ (bd : Bounds) (known : ℕ → ℕ → Bool) (g : Graph) (ws : List ℕ
   pub checked-edge : (f s t : ℕ) (es : List ℕ) → List·Memᴰ (slot f s t es) (slotsIn bd ws) → 1 ≤ length es
   checked-edge f s t es m = (live f s t es m) .some-edge
 
--- a live slot names a file of the graph
+-- a live slot names a file of the graph or nobody
 pub checked-owners : (bd : Bounds) (g : Graph) (ws : List ℕ) → Checked bd knownOwners g ws → OwnersIn g (slotsIn bd ws)
-checked-owners bd g ws c f s t es m = let h = ltb→lt f (filesIn ws) (eq→T (ltb f (filesIn ws)) ((live bd knownOwners g ws c f s t es m) .owner)) in omega (arith, h, c .files)
+checked-owners bd g ws c f s t es m = on (ltb f (filesIn ws)) refl ((live bd knownOwners g ws c f s t es m) .owner)
+  where
+    on : (b : Bool) → ltb f (filesIn ws) ≡ b → or b (eqb f nobody) ≡ true → (f < g .files) ⊎ (f ≡ nobody)
+    on true h o = let k = ltb→lt f (filesIn ws) (eq→T (ltb f (filesIn ws)) h) in inl (omega (arith, k, c .files))
+    on false h o = inr (eqb-true f nobody o)

@@ -24,13 +24,13 @@ use Rattle.semantics.specs.Enumeration.{Setting, State}
 use Rattle.semantics.specs.Recorded.{edgeLists, recorded}
 use Rattle.semantics.specs.Direct.{direct}
 use Rattle.semantics.specs.Direct.Laws.{direct-exact}
-use Rattle.semantics.specs.PartialPaths.{Slot, belongs, isOfFile}
+use Rattle.semantics.specs.PartialPaths.{Slot, belongs, isOfFile, isFileless}
 use Rattle.semantics.specs.PartialPaths.Laws.{belongs-cases, belongs-source, belongs-target}
 use Rattle.semantics.specs.Stitching.{stitched}
 use Rattle.semantics.specs.Stitching.Laws.{AllOwned, stitched-exact}
-use Rattle.semantics.specs.Demand.{Agree, isFileless, NoFileless, Valid, Owners, fileOwners, Owned, Suited, Holds, Demand}
+use Rattle.semantics.specs.Demand.{Agree, NoFileless, Valid, Owners, fileOwners, Owned, Suited, Holds, Demand}
 
-abbrev AllLive : View → List ℕ → Type 0
+abbrev pub AllLive : View → List ℕ → Type 0
 AllLive g [] = Unit {0}
 AllLive g (e ∷ es) = ((s : NodeId) × (t : NodeId) × (p : ℤ) × (g .edge e ≡ E.Live s t p)) × AllLive g es
 
@@ -42,7 +42,8 @@ taken-live bd g (e ∷ es) p q h =
     let k = append-ok g p (a .0) e (appendUnder-ok bd g p (a .0) e (a .1) .1) in
     ((k .source, k .target, k .precedence, k .found), taken-live bd g es (a .0) q (a .2))
 
-valid-live : (bd : Bounds) (lim : Limit) (g : View) (r : ℕ) (l : List ℕ) → Valid bd lim g r l → AllLive g l
+-- every edge of a valid list is live
+pub valid-live : (bd : Bounds) (lim : Limit) (g : View) (r : ℕ) (l : List ℕ) → Valid bd lim g r l → AllLive g l
 valid-live bd lim g r l v =
     let a = replay-ok bd g r l (v .path) (v .taken .replayed) in
     taken-live bd g l (a .0) (v .path) (a .2)

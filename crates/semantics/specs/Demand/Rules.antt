@@ -22,7 +22,7 @@ use Rattle.semantics.specs.Path.Takes.{takes-replay, replay-takes}
 use Rattle.semantics.specs.Enumeration.{Setting, State}
 use Rattle.semantics.specs.Direct.{direct}
 use Rattle.semantics.specs.Direct.Unbounded.{appendEach, unbounded}
-use Rattle.semantics.specs.Demand.{Valid, NoFileless, Demand}
+use Rattle.semantics.specs.Demand.{Valid, NoFileless, Demand, DemandAll}
 
 -- the rules take a list of distinct edges, within the length limit, from the reference to a definition with both stacks empty
 pub record ByRules (lim : Limit) (g : View) (r : ℕ) (l : List ℕ) : Type 0 where
@@ -36,6 +36,11 @@ pub record ByRules (lim : Limit) (g : View) (r : ℕ) (l : List ℕ) : Type 0 wh
 pub record Exactly (lim : Limit) (g : View) (r : ℕ) (D S : List (List ℕ)) : Type 0 where
   pub direct : (l : List ℕ) → (List·Memᴰ l D → ByRules lim g r l) × (ByRules lim g r l → List·Memᴰ l D)
   pub stitched : (l : List ℕ) → (List·Memᴰ l S → ByRules lim g r l × NoFileless g l) × (ByRules lim g r l × NoFileless g l → List·Memᴰ l S)
+
+-- ORDER 5: with the alias set
+pub record ExactlyAll (lim : Limit) (g : View) (r : ℕ) (D S : List (List ℕ)) : Type 0 where
+  pub direct : (l : List ℕ) → (List·Memᴰ l D → ByRules lim g r l) × (ByRules lim g r l → List·Memᴰ l D)
+  pub stitched : (l : List ℕ) → (List·Memᴰ l S → ByRules lim g r l) × (ByRules lim g r l → List·Memᴰ l S)
 
 -- a path starts where it began
 all-start : (bd : Bounds) (g : View) (es : List ℕ) (p q : Path) → appendAll bd g p es ≡ ok q → q .start ≡ p .start
@@ -99,4 +104,10 @@ module _ (bd : Bounds) (lim : Limit) (c : Setting SearchRefusal) (g : View) (law
   demand-exactly D S d = record {
     direct = λ l. (λ m. valid-rules lim g r l bd (d .direct l .0 m), λ b. d .direct l .1 (rules-bounded l b));
     stitched = λ l. (λ m. let v = d .stitched l .0 m in (valid-rules lim g r l bd (v .0), v .1), λ b. d .stitched l .1 (rules-bounded l (b .0), b .1));
+  }
+
+  pub all-exactly : (D S : List (List ℕ)) → DemandAll bd g r lim D S → ExactlyAll lim g r D S
+  all-exactly D S d = record {
+    direct = λ l. (λ m. valid-rules lim g r l bd (d .direct l .0 m), λ b. d .direct l .1 (rules-bounded l b));
+    stitched = λ l. (λ m. valid-rules lim g r l bd (d .stitched l .0 m), λ b. d .stitched l .1 (rules-bounded l b));
   }

@@ -1,5 +1,5 @@
--- What a computation of partial paths finds, and what a fresh database holds in which files were then replaced.
--- Document 01, "Partial paths", last paragraph: the premise of demand 3 on databases.
+-- What a computation of partial paths finds, and which slots survive a clearing.
+-- Document 01, "Partial paths".
 use Prim.Native.Nat.{ℕ, zero, suc, _+_, _≤_, _<_}
 use native.Mathlib.Nat.{add-zero, zero-add, add-suc, suc-add}
 use native.Mathlib.Omega.{arith}
@@ -7,7 +7,7 @@ use mathlib.Core.Path.{_≡_, refl, sym, _∙_, ap, subst}
 use mathlib.Core.Logic.{_⊎_, inl, inr, ⊎-elim}
 use mathlib.Core.Bool.{Bool, true, false, true≢false, false≢true}
 use mathlib.Core.Option.{Option, none, some}
-use mathlib.Core.List.{List, [], _∷_, _++_, map, append-assoc, List·Memᴰ, List·Memᴰ·head, List·Memᴰ·tail, List·Memᴰ·not-nil, List·Memᴰ·cases-cons, Memᴰ·append-left, Memᴰ·append-right, List·Memᴰ·append-cases}
+use mathlib.Core.List.{List, [], _∷_, _++_, map, append-assoc, List·Memᴰ, List·Memᴰ·head, List·Memᴰ·tail, List·Memᴰ·not-nil, List·Memᴰ·cases-cons}
 use lib.Dec.{eqb, ltb, ltb→lt, lt→ltb}
 use lib.ListN.{length, getD, length-append}
 use lib.IntN.{ℤ}
@@ -30,8 +30,8 @@ use Rattle.semantics.specs.Graph.{nodeId, fileId, Graph, View, viewOf, f
 use Rattle.semantics.specs.Graph.Laws.{viewOf-lawful}
 use Rattle.semantics.specs.Enumeration.{go, Setting, State, tested}
 use Rattle.semantics.specs.Enumeration.Laws.{Leads, here, on, enumerate-full, enumerate-sound, enumerate-unlimited, tested-go}
-use Rattle.semantics.specs.PartialPaths.{Route, Slot, dead, slot, isOfFile, belongs, targetOf, longer, reached, judgeRoute, routeTries, startsFrom, routeAt, startRoutes, partials, fileRoutes, ifKnown, filePartials, clear, deadIf, slotOf, replaced}
-use Rattle.semantics.specs.Demand.{Owners, fileOwners, Walk, stay, step, Partial, Holds, Built, given, after}
+use Rattle.semantics.specs.PartialPaths.{Route, Slot, dead, slot, isOfFile, belongs, targetOf, longer, reached, judgeRoute, routeTries, startsFrom, routeAt, startRoutes, partials, fileRoutes, ifKnown, filePartials, clear, deadIf}
+use Rattle.semantics.specs.Demand.{Owners, fileOwners, Walk, stay, step, Partial}
 
 pub walk-snoc : (g : View) (mine : ℕ → Bool) (e : ℕ) (t : NodeId) (p : ℤ) {n m : ℕ} {es : List ℕ} → Walk g mine n es m → g .edge e ≡ E.Live (nodeId m) t p → mine e ≡ true → Walk g mine n (es ++ (e ∷ [])) (t .0)
 walk-snoc g mine e t p stay h b = step p h b stay
@@ -189,7 +189,7 @@ unfolding belongs isOfFile
 belongs-target g f e s t p h k = ap (isOfFile g f) h ∙ ap (or (isFile f (fileOf (g .node (s .0))))) (isFile-of f (fileOf (g .node (t .0))) k) ∙ or-true (isFile f (fileOf (g .node (s .0))))
 
 -- THE STARTS OF A FILE
-starts-are : (f i x : ℕ) (ns : List Node) → List·Memᴰ x (startsFrom f i ns) → (k : ℕ) × (x ≡ i + k) × (fileOf (getD ns k N.Removed) ≡ some f) × (isStart (getD ns k N.Removed) ≡ true)
+pub starts-are : (f i x : ℕ) (ns : List Node) → List·Memᴰ x (startsFrom f i ns) → (k : ℕ) × (x ≡ i + k) × (fileOf (getD ns k N.Removed) ≡ some f) × (isStart (getD ns k N.Removed) ≡ true)
 unfolding startsFrom
 starts-are f i x [] m = absurd (List·Memᴰ·not-nil m)
 starts-are f i x (n ∷ ns) m =
@@ -239,10 +239,8 @@ module _ (bd : Bounds) (lim : Limit) (c : Setting PartialPathRefusal) (g : Graph
       on true e k = (ltb→lt f (g .files) (eq→T (ltb f (g .files)) e), k)
       on false e k = absurd (refuse-ok (UnknownFile (fileId f)) u k)
 
--- A DATABASE IN WHICH EVERY FILE WAS REPLACED
-
--- a slot that survives a clearing is another file's
-clear-from : (f f′ s t : ℕ) (es : List ℕ) (db : List Slot) → List·Memᴰ (slot f′ s t es) (clear f db) → List·Memᴰ (slot f′ s t es) db × (eqb f′ f ≡ false)
+-- A CLEARING: a slot that survives it is another owner's, and those stay
+pub clear-from : (f f′ s t : ℕ) (es : List ℕ) (db : List Slot) → List·Memᴰ (slot f′ s t es) (clear f db) → List·Memᴰ (slot f′ s t es) db × (eqb f′ f ≡ false)
 unfolding clear
 clear-from f f′ s t es [] m = absurd (List·Memᴰ·not-nil m)
 clear-from f f′ s t es (dead ∷ db) m = ⊎-elim (λ e. absurd (let z : _≡_ {A = Bool} true false = cc in true≢false z)) (λ k. let r = clear-from f f′ s t es db k in (List·Memᴰ·tail (r .0), r .1)) (List·Memᴰ·cases-cons m)
@@ -252,7 +250,7 @@ clear-from f f′ s t es (slot x s′ t′ es′ ∷ db) m = ⊎-elim (λ e. let
     was true h e = absurd (let z : _≡_ {A = Bool} true false = cc in true≢false z)
     was false h e = (e, let z : f′ ≡ x = cc in ap (λ q. eqb q f) z ∙ h)
 
-clear-keeps : (f f′ s t : ℕ) (es : List ℕ) (db : List Slot) → eqb f′ f ≡ false → List·Memᴰ (slot f′ s t es) db → List·Memᴰ (slot f′ s t es) (clear f db)
+pub clear-keeps : (f f′ s t : ℕ) (es : List ℕ) (db : List Slot) → eqb f′ f ≡ false → List·Memᴰ (slot f′ s t es) db → List·Memᴰ (slot f′ s t es) (clear f db)
 unfolding clear
 clear-keeps f f′ s t es [] n m = absurd (List·Memᴰ·not-nil m)
 clear-keeps f f′ s t es (dead ∷ db) n m = ⊎-elim (λ e. List·Memᴰ·head e) (λ k. List·Memᴰ·tail (clear-keeps f f′ s t es db n k)) (List·Memᴰ·cases-cons m)
@@ -260,49 +258,3 @@ clear-keeps f f′ s t es (slot x s′ t′ es′ ∷ db) n m = ⊎-elim (λ e. 
   where
     stays : slot f′ s t es ≡ slot x s′ t′ es′ → slot f′ s t es ≡ deadIf (eqb x f) (slot x s′ t′ es′)
     stays e = let z : f′ ≡ x = cc in let y : eqb x f ≡ false = ap (λ q. eqb q f) (sym z) ∙ n in e ∙ ap (λ b. deadIf b (slot x s′ t′ es′)) (sym y)
-
-module _ (bd : Bounds) (g : Graph) where
-  abbrev Found-in : ℕ → ℕ → ℕ → List ℕ → Type 0
-  Found-in f s t es = Partial bd Absent (viewOf g) (fileOwners g) f (record { start = s; current = t; edges = es })
-
-  -- every slot names a file of the graph, and one of a file that was replaced is a partial path of it
-  built-only : {db : List Slot} {done : List ℕ} → Built bd g db done → (f s t : ℕ) (es : List ℕ) → List·Memᴰ (slot f s t es) db → (f < g .files) × (List·Memᴰ f done → Found-in f s t es)
-  unfolding replaced
-  built-only (given h) f s t es m = (h f s t es m, λ i. absurd (List·Memᴰ·not-nil i))
-  built-only (after {db = db} {done = done} f′ c u b l h n k) f s t es m = ⊎-elim (older (λ i. built-only b f s t es i)) is-new (List·Memᴰ·append-cases (clear f′ db) m)
-    where
-      older : (List·Memᴰ (slot f s t es) db → (f < g .files) × (List·Memᴰ f done → Found-in f s t es)) → List·Memᴰ (slot f s t es) (clear f′ db) → (f < g .files) × (List·Memᴰ f (f′ ∷ done) → Found-in f s t es)
-      older ih i =
-          let r = clear-from f′ f s t es db i in
-          let y = ih (r .0) in
-          (y .0, λ j. ⊎-elim (λ (q : f ≡ f′). absurd (true≢false (sym (eqb-same f) ∙ ap (eqb f) q ∙ r .1))) (λ q. y .1 q) (List·Memᴰ·cases-cons j))
-
-      is-new : List·Memᴰ (slot f s t es) (map (slotOf f′) (u .kept)) → (f < g .files) × (List·Memᴰ f (f′ ∷ done) → Found-in f s t es)
-      is-new i =
-          let x = mem-map (slotOf f′) (slot f s t es) (u .kept) i in
-          let e : slot f s t es ≡ slot f′ (x .0 .start) (x .0 .current) (x .0 .edges) = x .2 in
-          let p = (file-found bd Absent c g f′ u h) .sound (x .0) (x .1) in
-          let ff : f ≡ f′ = cc in
-          let ss : s ≡ x .0 .start = cc in
-          let t₁ : t ≡ x .0 .current = cc in
-          let ee : es ≡ x .0 .edges = cc in
-          let r : record { start = s; current = t; edges = es } ≡ x .0 = λ j. record { start = ss j; current = t₁ j; edges = ee j } in
-          (subst (λ q. q < g .files) (sym ff) l, λ j. rw (ff, r) p)
-
-  built-every : {db : List Slot} {done : List ℕ} → Built bd g db done → (f : ℕ) (r : Route) → List·Memᴰ f done → Partial bd Absent (viewOf g) (fileOwners g) f r → List·Memᴰ (slot f (r .start) (r .current) (r .edges)) db
-  unfolding replaced
-  built-every (given h) f r m p = absurd (List·Memᴰ·not-nil m)
-  built-every (after {db = db} {done = done} f′ c u b l h n k) f r m p = by-file (eqb f f′) refl (λ i. built-every b f r i p)
-    where
-      by-file : (x : Bool) → eqb f f′ ≡ x → (List·Memᴰ f done → List·Memᴰ (slot f (r .start) (r .current) (r .edges)) db) → List·Memᴰ (slot f (r .start) (r .current) (r .edges)) (clear f′ db ++ map (slotOf f′) (u .kept))
-      by-file true e ih =
-          let z = eqb-true f f′ e in
-          Memᴰ·append-right (clear f′ db) (rw z (map-mem (slotOf f′) r (u .kept) (file-unlimited bd Absent c g f′ u h n k r (rw z at p))))
-      by-file false e ih = Memᴰ·append-left (map (slotOf f′) (u .kept)) (clear-keeps f′ f (r .start) (r .current) (r .edges) db e (ih (older (List·Memᴰ·cases-cons m))))
-        where
-          older : (f ≡ f′) ⊎ List·Memᴰ f done → List·Memᴰ f done
-          older (inl q) = absurd (true≢false (sym (eqb-same f) ∙ ap (eqb f) q ∙ e))
-          older (inr q) = q
-
-  pub built-holds : (db : List Slot) (done : List ℕ) → Built bd g db done → ((f : ℕ) → f < g .files → List·Memᴰ f done) → Holds (fileOwners g) bd (viewOf g) db
-  built-holds db done b all = record { every = λ f r l p. built-every b f r (all f l) p; only = λ f s t es m. let y = built-only b f s t es m in (y .0, y .1 (all f (y .0))) }

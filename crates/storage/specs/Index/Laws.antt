@@ -19,7 +19,7 @@ use Rattle.semantics.specs.declared.graph.Edge.the-variants as E
 use Rattle.semantics.specs.Bytes.{signed}
 use Rattle.semantics.specs.Lists.{pick, or, has}
 use Rattle.semantics.specs.Lists.Laws.{or-true, and-true}
-use Rattle.semantics.specs.Graph.{nodeId, fileId, fileOf, isFile, isReference, isDefinition, isExported, isStart, isEndpoint}
+use Rattle.semantics.specs.Graph.{nodeId, fileId, fileOf, isFile, lacksFile, isReference, isDefinition, isExported, isStart, isEndpoint}
 use Rattle.semantics.specs.Image.{firstRecord, nodesOf, edgesOf}
 pub use Rattle.image.specs.Index.Laws.{cell-out, cell-same, cell-other}
 use Rattle.semantics.specs.Halves.{joined}
@@ -243,4 +243,10 @@ module _ (l : List ℕ) (n : ℕ) where
   unfolding isFile
   file-row f =
       by-kind (λ k x. isFile f (fileOf x) ≡ pick (ltb k 3) false (pick (ltb 8 k) false (eqb (cell l FILE n) f))) l n
+      refl refl refl refl refl refl refl refl refl (λ k h. rw (le-ltb k 3 (omega (arith, h)), lt-ltb 8 k h))
+
+  pub fileless-row : lacksFile (fileOf (nodeRow l n)) ≡ pick (ltb (cell l KIND n) 3) true (ltb 8 (cell l KIND n))
+  unfolding lacksFile
+  fileless-row =
+      by-kind (λ k x. lacksFile (fileOf x) ≡ pick (ltb k 3) true (ltb 8 k)) l n
       refl refl refl refl refl refl refl refl refl (λ k h. rw (le-ltb k 3 (omega (arith, h)), lt-ltb 8 k h))

@@ -86,7 +86,7 @@ returns-2 c =
         ap (λ (f : Filings). f .work) e,
         (
           ap (λ (f : Filings). f .words) e,
-          λ k. subst (λ (w : List ℕ). Refills (a .image .now) (a .files) w) (sym (ap (λ (f : Filings). f .words) e)) (refilings-fill (a .image .now) (a .order) (a .files) (a .work .now) (a .words .now) (sym (ap (λ (f : Filings). f .all) e))),
+          λ k. subst (λ (w : List ℕ). Refills (a .image .now) (a .files) (a .words .now) w) (sym (ap (λ (f : Filings). f .words) e)) (refilings-fill (a .image .now) (a .order) (a .files) (a .work .now) (a .words .now) (sym (ap (λ (f : Filings). f .all) e))),
         ),
       ),
     )

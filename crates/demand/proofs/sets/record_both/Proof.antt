@@ -1,7 +1,7 @@
 -- `demand::sets::record_both`: the equations of both calls, and demand 3 from them.
 use mathlib.Core.Path.{refl}
 use borrow.Author.Needs.{needs}
-use Rattle.demand.specs.Agreement.{requestOf, calls-agree}
+use Rattle.demand.specs.Agreement.{requestOf, calls-agree, calls-agree-all}
 use Rattle.demand.proofs.sets.record_both.Statement.{statement}
 use Rattle.demand.proofs.sets.record_both.Tie as tie
 
@@ -42,10 +42,16 @@ returns c =
               s .1 .0,
               (
                 s .1 .1,
-                λ e.
-                    calls-agree (a .image .now) (a .words .now) (requestOf (a .first) (a .waiting .now) (a .found .now) (a .reference .0))
-                    (requestOf (a .second) (a .stitching .now) (a .joined .now) (a .reference .0)) (search-recorded .result) (search-recorded2 .result)
-                    (d .0) (d .1 .1) (s .0) (s .1 .1) refl e,
+                (
+                  λ e.
+                      calls-agree (a .image .now) (a .words .now) (requestOf (a .first) (a .waiting .now) (a .found .now) (a .reference .0))
+                      (requestOf (a .second) (a .stitching .now) (a .joined .now) (a .reference .0)) (search-recorded .result) (search-recorded2 .result)
+                      (d .0) (d .1 .1) (s .0) (s .1 .1) refl e,
+                  λ e.
+                      calls-agree-all (a .image .now) (a .words .now) (requestOf (a .first) (a .waiting .now) (a .found .now) (a .reference .0))
+                      (requestOf (a .second) (a .stitching .now) (a .joined .now) (a .reference .0)) (search-recorded .result) (search-recorded2 .result)
+                      (d .0) (d .1 .1) (s .0) (s .1 .1) refl e,
+                ),
               ),
             ),
           ),

@@ -1,10 +1,14 @@
 -- `partial::replace::replace_in`: the refusal of the image, or the replacement on the graph that it holds.
 use borrow.Author.Needs.{needs}
 use mathlib.Core.Path.{ap, _∙_}
+use native.Mathlib.Omega.{arith}
+use Rattle.semantics.specs.Acceptance.Laws.{few-files}
 use Rattle.semantics.specs.Entries.{graphIn}
+use Rattle.semantics.specs.Image.{symbolBytes}
+use Rattle.semantics.specs.Image.Laws as Image
 use Rattle.semantics.specs.Words.{zeros}
 use Rattle.storage.specs.Index.Use.{answer-refused, answer-accepted}
-use Rattle.partial.specs.Replacements.{askedBy}
+use Rattle.partial.specs.Replacements.{askedBy, numberOf}
 use Rattle.partial.specs.Replacements.Laws.{image-refused, image-accepted}
 use Rattle.partial.proofs.replace.replace_in.Statement.{statement}
 use Rattle.partial.proofs.replace.replace_in.Tie as tie
@@ -30,9 +34,8 @@ replace-loaded-requires c κs =
     let z = answer-accepted (graphIn (a .image .now)) (checked2 .given .0 .0) (checked2 .given .0 .1 .0) (checked2 .given .0 .1 .1 .0)
     (load-fresh .ensures .0) (checked2 .given .1) in
     record {
-      holds = record { graph = z .graph; loaded = load-fresh .ensures .1 (z .graph) (z .is) };
-      node-count = z .node-count;
-      file-count = z .file-count;
+      sized = record { holds = record { graph = z .graph; loaded = load-fresh .ensures .1 (z .graph) (z .is) }; node-count = z .node-count; file-count = z .file-count };
+      few = omega (arith, z .file-count, few-files (z .graph) (Image.image-accepted symbolBytes (a .image .now) (z .graph) (z .is)));
     }
 
 zero-requires-2 : tie.Need-zero-requires-2
@@ -50,7 +53,7 @@ returns c =
     let c₁ = c .before .before .before .before .before .before .before .before .before in
     let load-fresh = c₁ .load-fresh in
     let a = c₁ .before .before .before .before .before .before .args in
-    image-refused (askedBy (a .config) (a .work .now) (a .file)) (a .words .now) (c .before .before .zero .ensures) (checked .given .0 .0)
+    image-refused (a .owner) (askedBy (a .config) (a .work .now) (numberOf (a .owner))) (a .words .now) (c .before .before .zero .ensures) (checked .given .0 .0)
     (answer-refused (graphIn (a .image .now)) (checked .given .0 .0) (load-fresh .ensures .0) (checked .given .1))
 
 same-length-3 : tie.Need-same-length-3
@@ -72,13 +75,12 @@ returns-2 c =
     let a = c₂ .before .before .before .before .before .before .args in
     let z = answer-accepted (graphIn (a .image .now)) (checked2 .given .0 .0) (checked2 .given .0 .1 .0) (checked2 .given .0 .1 .1 .0)
     (load-fresh .ensures .0) (checked2 .given .1) in
-    image-accepted (askedBy (a .config) (a .work .now) (a .file)) (a .words .now)
+    image-accepted (a .owner) (askedBy (a .config) (a .work .now) (numberOf (a .owner))) (a .words .now)
     (c .before .before .zero2 .ensures ∙ ap zeros (replace-loaded .kept .1 .1 .1 .1 .0)) (z .graph) (z .is) (replace-loaded .result)
     (replace-loaded .last .1 .1 .1 .1 .1 .0) (replace-loaded .ensures
     (record {
-      holds = record { graph = z .graph; loaded = load-fresh .ensures .1 (z .graph) (z .is) };
-      node-count = z .node-count;
-      file-count = z .file-count;
+      sized = record { holds = record { graph = z .graph; loaded = load-fresh .ensures .1 (z .graph) (z .is) }; node-count = z .node-count; file-count = z .file-count };
+      few = omega (arith, z .file-count, few-files (z .graph) (Image.image-accepted symbolBytes (a .image .now) (z .graph) (z .is)));
     }))
 
 pub replace-in-spec : {M : Type 1} → statement M

@@ -4,11 +4,10 @@ use native.Mathlib.Omega.{arith}
 use mathlib.Core.Path.{_≡_, refl, sym, ap, subst, _∙_}
 use lib.ListN.{length}
 use Rattle.semantics.specs.Limits.{lookedBefore, lookedEver}
-use Rattle.semantics.specs.Graph.{fileOf, isFile}
 use Rattle.storage.specs.Index.{nodeRow}
 use Rattle.storage.specs.Index.Use.{left}
 use Rattle.partial_state.specs.Extractions.{at, goingAt}
-use Rattle.partial_trial.specs.Expansions.{Expanding}
+use Rattle.partial_trial.specs.Expansions.{soughtFrom, Expanding}
 use Rattle.partial_trial.specs.Expansions.Edges.{Mid, mid-start, mid-owning, mid-less, mid-again, mid-refused, mid-end}
 use borrow.Author.Needs.{needs}
 use Rattle.partial_trial.proofs.expand.expand.Statement.{statement}
@@ -19,20 +18,20 @@ Inv-loop index filing ends k item₀ work₀ words₀ frame own on₀ link₀ it
     (length item ≡ length item₀)
     × (length work ≡ length work₀)
     × (length words ≡ length words₀)
-    × (own ≡ isFile (filing .file) (fileOf (nodeRow index (ends .end))))
+    × (own ≡ soughtFrom (filing .file) (nodeRow index (ends .end)))
     × ((v : Expanding lookedBefore index filing ends k item₀ (at frame on₀) work₀ words₀) → Mid v (at frame on) item work words link)
 
 abbrev μ-loop : tie.MeasureT-loop
 μ-loop index filing ends k item₀ work₀ words₀ frame own on₀ link₀ item work words on link = left index link
 
-is-of-file-requires : tie.Need-is-of-file-requires Inv-loop μ-loop
-is-of-file-requires c κs = c .before .before .before .before .pre .given .loaded .long
+sought-from-requires : tie.Need-sought-from-requires Inv-loop μ-loop
+sought-from-requires c κs = c .before .before .before .before .pre .given .loaded .long
 
 first-requires : tie.Need-first-requires Inv-loop μ-loop
 first-requires c κs = c .before .before .before .before .before .pre .given .loaded .long
 
 loop-holds : tie.Need-loop-holds Inv-loop μ-loop
-loop-holds c = (refl, refl, refl, c .before .is-of-file .ensures, λ v. mid-start v (c .first .ensures))
+loop-holds c = (refl, refl, refl, c .before .sought-from .ensures, λ v. mid-start v (c .first .ensures))
 
 sub-edge : tie.Need-sub-edge Inv-loop μ-loop
 sub-edge c = search needs
@@ -123,7 +122,7 @@ expand-spec =
     (tie.spec
     Inv-loop
     μ-loop
-    is-of-file-requires
+    sought-from-requires
     first-requires
     loop-holds
     sub-edge
