@@ -16,20 +16,21 @@ ROOT_NODE, JUMP_NODE = 0, 1
 NAME, OTHER = 7, 8
 BREADTH_FIRST, DEPTH_FIRST = "- - - - - 0", "- - - - - 0 d"
 FIRST_SIXTEEN = "- - - - - 16"
-LIMITED = "120 500 - - - 0 d"
+LIMITED = "60 500 - - - 0 d"
 SHORT = "3 - - 3 - 0"
 
-# A path has at most 127 edges, a graph 2,048 nodes, a database 4,096 slots.
-LENGTHS = (15, 30, 60, 120)
+# A path has at most 63 edges, a graph 2,048 nodes, a database 4,096 slots.
+LENGTHS = (7, 15, 30, 60)
 WIDTHS = (250, 500, 1000, 2000)
-DEPTHS = (5, 10, 20, 40)
+DEPTHS = (2, 5, 10, 20)
 FILES = (32, 64, 128, 256)
 BALLAST = (15, 30, 60, 120)
 RINGS = (16, 32, 64, 128)
 WAYS = (225, 450, 900, 1800)
 PATHS = (256, 512, 1024, 2048)
 SCOPES = (8, 16, 32, 64)
-HEIGHTS = (7, 15, 30, 60)
+HEIGHTS = (3, 7, 15, 30)
+TAIL = 60
 
 
 class Drawing:
@@ -202,7 +203,7 @@ def tails(count):
     reference, meeting = drawing.reference(), drawing.scope(exported=True)
     for _ in range(count):
         drawing.chain(reference, 2, meeting)
-    drawing.chain(meeting, 100, drawing.definition())
+    drawing.chain(meeting, TAIL, drawing.definition())
     return drawing.graph
 
 

@@ -7,7 +7,7 @@ writes the fourth list of crates/cases/stdin, and into stdout what the program
 must print of it, and tells how many cases of each sort there are. The expected answers
 are those of partials.py, a second reading of documents 01 and 02. Wherever the Rust
 has an answer it is asked through the oracle and must agree: the partial paths
-of the file without the bound of 127 edges and without areas, on each accepted
+of the file without the bound of 63 edges and without areas, on each accepted
 image and known or unknown file; the statistics of the replacement and every
 slot after it, where nothing is refused; the slots of a fresh database; the
 edges that a lookup answers, on every database that does not meet 35 and stores
@@ -62,7 +62,7 @@ The list holds, in this order:
 - words of which each demand of 35 is met and broken by one, in dead slots and
   behind the used ones as well; N and F stored about those of the graph (34);
   which of several refusals comes first;
-- routes of 126 to 129 edges, about the bound and about length limits there;
+- routes of 62 to 65 edges, about the bound and about length limits there;
 - about 4,096 slots;
 - files cleared, grown and filed again, on graphs with more nodes and files and
   on smaller ones, in one database;
@@ -83,6 +83,7 @@ import collections
 import itertools
 import random
 
+from conversion import FORMER_EDGES
 from image_cases import mixed_graph
 from images import (DROP_SCOPES, GRAPH_A, GRAPH_B, GRAPH_C, JUMP, POP,
                     POP_SCOPED, PROGRAM, PUSH, PUSH_SCOPED, REMOVED,
@@ -96,6 +97,7 @@ from path_cases import LAST, damaged_images, error_told, listed, longs
 from refusals import Refused, checked
 from search_cases import (FILLS, SCOPED, SLOT, TWO_LOOPS, area_told, around,
                           limit_bytes, limit_word, wide)
+from searches import MOST_EDGES
 from stored_lists import MOST_NUMBERS, write_list
 
 # As many words as the program lends.
@@ -362,7 +364,7 @@ def add_small_graphs(cases):
         for file, number in itertools.product(range(graph.files), (0, 1, 2, 3, 8)):
             cases.either(file, length=number)
             cases.both(file, count=number)
-        for limit in (127, 2**32, 2**64 - 1):
+        for limit in (MOST_EDGES, 2**32, 2**64 - 1):
             cases.either(0, length=limit, count=limit)
         for length, count in ((0, 0), (1, 3), (2, 5), (2, 9), (1, 100)):
             cases.either(graph.files - 1, length, count)
@@ -453,7 +455,8 @@ def add_malformed(cases):
     altered += [(FILES, files) for files in (0, 2, LAST)]
     for number, (field, values) in itertools.product((0, 1, 2, 3), (
             (OWNER, (0, 1, 2, 3, LAST)), (START, (0, 5, 6, 7, 65_536, LAST)),
-            (END, (6, LAST)), (COUNT, (0, 1, 127, 128, 129, LAST)),
+            (END, (6, LAST)),
+            (COUNT, (0, 1, *range(MOST_EDGES, MOST_EDGES + 3), FORMER_EDGES, LAST)),
             (EDGES, (3, LAST)), (RECORD - 1, (1, LAST)))):
         altered += [(place(number) + field, value) for value in values]
     for at, value in altered:
@@ -462,7 +465,8 @@ def add_malformed(cases):
         cases.lend(words)
         cases.lookups(0, 1, 2)
         cases.replace(cases.rng.choice((0, 0, 0, 1)), cases.rng.choice("bd"),
-                      count=cases.rng.choice((0, 1, 2, 3)), work=cases.rng.choice((0, 256, 512)))
+                      count=cases.rng.choice((0, 1, 2, 3)),
+                      work=cases.rng.choice((0, 2 * SLOT, 4 * SLOT)))
     for length in (0, 1, 2, 3, 4, place(2), place(3) - 1, place(3), place(3) + 1):
         for used in (0, 1, 2, 3):
             cases.lend(([used] + good[1:])[:length])
@@ -493,7 +497,8 @@ def malformed_and_outgrown():
     for n, f in ((nodes + 1, files), (nodes, files + 1), (LAST, LAST)):
         yield [1, n, f] + record(None)[:-1]
         live = record(PartialPath(0, 2, 4, (0, 1)))
-        for field, value in ((OWNER, min(f + 2, LAST)), (START, n), (COUNT, 0), (COUNT, 128)):
+        for field, value in ((OWNER, min(f + 2, LAST)), (START, n), (COUNT, 0),
+                             (COUNT, MOST_EDGES + 1)):
             words = [1, n, f] + live[:field] + [value] + live[field + 1:]
             # a file + 1 of 32 bits is never above an F of as many
             if is_malformed(words):
@@ -520,28 +525,30 @@ def row(count, last, doubled=None):
 
 
 def add_long_routes(cases):
-    """30, and the length limits about it; slots of 127 edges."""
+    """30, and the length limits about it; slots of 63 edges."""
     definition = Node(POP, symbol=7, flag=True)
-    for count in (126, 127, 128, 129):
+    for count in range(MOST_EDGES - 1, MOST_EDGES + 3):
         cases.load(row(count, definition))
-        for length, order in ((None, "b"), (126, "d"), (127, "b"), (128, "d")):
+        for length, order in ((None, "b"), (MOST_EDGES - 1, "d"), (MOST_EDGES, "b"),
+                              (MOST_EDGES + 1, "d")):
             cases.empty(2, fill=RUBBISH)
             cases.replace(0, order, length, work=4 * SLOT)
         cases.lookups()
-        for limit in (127, 129):
+        for limit in (MOST_EDGES, MOST_EDGES + 2):
             cases.empty(1)
             cases.replace(0, "b", count=limit, work=2 * SLOT)
         cases.empty(0)
         cases.replace(0, work=2 * SLOT)
         cases.replace(0, work=SLOT)
-    # the edge behind the 127th is on the route already, or belongs to no file
-    back = row(126, Node(SCOPE, flag=True))
-    for graph in (back._replace(edges=back.edges + [Edge(128, 3)]),
-                  back._replace(edges=back.edges + [Edge(128, 0), Edge(0, 0), Edge(0, 1)]),
-                  back._replace(edges=back.edges + [Edge(128, 0), Edge(0, 2)]),
-                  row(127, definition, doubled=100)):
+    # the edge behind the 63rd is on the route already, or belongs to no file
+    back = row(MOST_EDGES - 1, Node(SCOPE, flag=True))
+    last = len(back.nodes) - 1
+    for graph in (back._replace(edges=back.edges + [Edge(last, 3)]),
+                  back._replace(edges=back.edges + [Edge(last, 0), Edge(0, 0), Edge(0, 1)]),
+                  back._replace(edges=back.edges + [Edge(last, 0), Edge(0, 2)]),
+                  row(MOST_EDGES, definition, doubled=50)):
         cases.load(graph)
-        for order, length in (("b", None), ("d", None), ("d", 127)):
+        for order, length in (("b", None), ("d", None), ("d", MOST_EDGES)):
             cases.empty(5)
             cases.replace(0, order, length, work=6 * SLOT)
         cases.lookup(1)
@@ -748,7 +755,8 @@ def malformed_aliases():
     for number, (field, values) in itertools.product((0, 3), (
             (OWNER, (0, 1, 2, NOBODY, ALIASES, ALIASES + 1, LAST)),
             (START, (0, 3, 4, ALIASES, LAST)),
-            (COUNT, (0, 1, 127, 128, ALIASES)), (END, (LAST,)), (EDGES, (3, LAST)))):
+            (COUNT, (0, 1, MOST_EDGES, MOST_EDGES + 1, ALIASES)), (END, (LAST,)),
+            (EDGES, (3, LAST)))):
         altered_words += [(place(number) + field, value) for value in values]
     for at, value in altered_words:
         yield good[:at] + [value] + good[at + 1:]
@@ -784,7 +792,7 @@ def any_words(rng, graph):
     files = max(0, graph.files - rng.choice((0, 0, 0, 1)))
     records, fill = rng.choice((6, 12, 30, 30)), rng.choice((0, 0, 1, RUBBISH))
     used = rng.randint(0, min(records, 8))
-    words = [used, nodes, files] + [fill] * (RECORD * records + rng.choice((0, 0, 1, 130)))
+    words = [used, nodes, files] + [fill] * (RECORD * records + rng.choice((0, 0, 1, RECORD - 1)))
     for number in range(used):
         draw = rng.random()
         path = PartialPath(rng.randrange(max(1, files)), rng.randrange(max(1, nodes)),

@@ -1,6 +1,6 @@
 """Partial paths and the database in words, written a second time from documents 01 and 02.
 
-The Rust keeps its database in vectors that grow, so the bound of 127 edges,
+The Rust keeps its database in vectors that grow, so the bound of 63 edges,
 waiting slots, the words of a database and the refusals 30, 31, 33, 34 and 35
 are compared with this plain reading instead. Without bounds and areas it must
 find what the Rust finds, which partial_cases.py holds it to.
@@ -162,7 +162,7 @@ def slots(words):
 
 
 def is_sound(words, number):
-    """Whether a record is dead, or of a known file or none and with a known start and 1 to 127
+    """Whether a record is dead, or of a known file or none and with a known start and 1 to 63
     edges."""
     first, start, _, count = words[place(number):place(number) + EDGES]
     is_known = first - 1 < words[FILES] or first == ALIASES

@@ -7,8 +7,8 @@ writes the second list of crates/cases/stdin, and into stdout what the program
 must print of it, and tells how many cases of each sort there are. The expected answers
 are the oracle's, that is the given Rust's, but for two things that the Rust
 does not know: the refusals 1 to 5 of an image come from refusals.py, and the
-bound of 127 edges is laid over the Rust here: an edge list that is longer is
-answered as its first 127 edges are if these are refused, else by 30.
+bound of 63 edges is laid over the Rust here: an edge list that is longer is
+answered as its first 63 edges are if these are refused, else by 30.
 
 A case is a tag and what the tag says; numbers are big-endian:
 
@@ -45,9 +45,9 @@ The list holds, in this order:
   reasons why a path is complete or not; refusals on either side of H; then
   random walks. 19 cannot happen: in an accepted graph every attached scope is
   a live exported scope of its file, and no other gets on the scope stack;
-- loops at a scope and at a reference: 126, 127 and 128 edges, whatever the
-  last one is, up to 128 symbols, and lists of 100,000 edges;
-- scopes attached and taken off again, up to 64 at once; up to 42 jumps in a
+- loops at a scope and at a reference: 62, 63 and 64 edges, whatever the last
+  one is, up to 64 symbols, and lists of 100,000 edges;
+- scopes attached and taken off again, up to 32 at once; up to 21 jumps in a
   row; many symbols with many scopes each;
 - edges of five precedences, from the least to the greatest, and edges into
   jump beside them: each two paths as left and right;
@@ -73,10 +73,11 @@ from images import (DROP_SCOPES, FAR_APART, GRAPH_A, GRAPH_B, GRAPH_C,
                     Oracle, fields, image, random_graph)
 from image_cases import mixed_graph
 from refusals import checked
+from searches import MOST_EDGES
 from stored_lists import MOST_NUMBERS, write_list
 
-# The bound on the edges of a path, and the refusal beyond it.
-BOUND, TOO_LONG = 127, 30
+# The refusal beyond the bound on the edges of a path.
+TOO_LONG = 30
 # The longest edge list that the program lends.
 LONGEST = 100_000
 LEAST, GREATEST = -(2**31), 2**31 - 1
@@ -180,7 +181,7 @@ class CaseList:
 
     def path(self, reference, edges):
         """The oracle's answer to a replay within the bound."""
-        return self.ask(f"Y {reference} {written(edges[:BOUND])}")
+        return self.ask(f"Y {reference} {written(edges[:MOST_EDGES])}")
 
     def refusal(self, reference, edges):
         """The refusal of a replay, or None."""
@@ -189,7 +190,7 @@ class CaseList:
         answer = self.path(reference, edges)
         if not answer.startswith("ok"):
             return error_told(answer)
-        return [TOO_LONG] if len(edges) > BOUND else None
+        return [TOO_LONG] if len(edges) > MOST_EDGES else None
 
     def _add(self, kind, paths, answer):
         """One case: its paths and the answer."""
@@ -279,7 +280,7 @@ def add_damaged_images(cases):
     """The image is refused before anything else is looked at."""
     for data in damaged_images():
         cases.image(data)
-        for reference, edges in ((2, [0, 1]), (LAST, [LAST]), (2, [0] * 128)):
+        for reference, edges in ((2, [0, 1]), (LAST, [LAST]), (2, [0] * (MOST_EDGES + 1))):
             cases.both(reference, edges)
             cases.shadows(2, [0, 1], reference, edges)
             cases.shadows(reference, edges, 2, [0, 1])
@@ -361,7 +362,7 @@ LOOPS = Graph(1, ROOT_AND_JUMP + [
 def add_long_paths(cases):
     """Paths at and beyond the bound, and edge lists far beyond it."""
     cases.image(image(LOOPS))
-    for count in (125, 126, 127):
+    for count in (MOST_EDGES - 2, MOST_EDGES - 1, MOST_EDGES):
         turns = [0] + [1] * (count - 1)
         for last in ([], [1], [2], [2, 2], [0], [LAST], [1, 1], [2, LAST]):
             cases.both(2, turns + last)
@@ -369,7 +370,8 @@ def add_long_paths(cases):
         cases.shadows(2, turns[:-1] + [4], 2, turns[:-1] + [1])
         cases.shadows(2, turns, 2, [0])
         cases.shadows(2, [0], 2, turns + [1])
-    for count in (126, 127, 128, 129, 255, 256, 257, 65_535, 65_536, LONGEST):
+    for count in (*range(MOST_EDGES - 1, MOST_EDGES + 3), 127, 128, 255, 256, 257, 65_535, 65_536,
+                  LONGEST):
         cases.both(2, [3] * count)
     for reference, edge in ((2, 0), (2, 1), (2, 3), (2, LAST), (3, 3), (LAST, 3)):
         cases.both(reference, [edge] * LONGEST)
@@ -396,14 +398,14 @@ def chain(count):
 def add_scope_chains(cases):
     """Scopes attached and taken off, scope by scope."""
     cases.image(image(CHAINS))
-    for count in (*range(9), 30, 31, 62, 63, 64, 65, 125, 126, 127, 128):
+    for count in (*range(9), 15, 16, 30, 31, 32, 33, *range(MOST_EDGES - 2, MOST_EDGES + 2), 127):
         cases.both(2, chain(count))
-    for count in (1, 3, 5, 7, 25, 83):
+    for count in (1, 3, 5, 7, 25, 41):
         jumps = all_jumps(cases, chain(count))
         for taken in sorted({1, 2, len(jumps) // 2, len(jumps)}):
             cases.both(2, chain(count) + jumps[:taken])
         cases.both(2, chain(count) + jumps + [6])
-    for count, more in ((1, 3), (3, 5), (21, 30), (61, 60), (61, 64), (61, 65), (61, 66)):
+    for count, more in ((1, 3), (3, 5), (21, 30), (31, 28), (31, 30), (31, 31), (31, 32)):
         pushes = ([1] + [9, 11, 10, 12] * 20)[:more]
         cases.both(2, chain(count) + pushes)
         cases.both(2, chain(count) + [13, 15] + pushes[1:])
@@ -477,7 +479,7 @@ def walk(cases, rng, graph, reference, edges, length):
     edges = list(edges)
     while len(edges) < length:
         answer = cases.path(reference, edges)
-        if not answer.startswith("ok") or len(edges) > BOUND:
+        if not answer.startswith("ok") or len(edges) > MOST_EDGES:
             break
         end = int(fields(answer)["end"])
         if not graph.outgoing(end) and rng.random() < 0.5:
@@ -498,7 +500,7 @@ def any_reference(rng, graph):
 def any_length(rng):
     """Short, seldom long, very seldom about the bound."""
     return rng.choices((rng.randint(0, 5), rng.randint(3, 12), rng.randint(10, 40),
-                        rng.randint(120, 130)), (60, 40, 6, 1))[0]
+                        rng.randint(MOST_EDGES - 7, MOST_EDGES + 3)), (60, 40, 6, 1))[0]
 
 
 def add_walks(cases, rng, graph, replays, completes, pairs):

@@ -9,7 +9,7 @@ hexadecimal, then `*` and how often they stand there if not once, then a comment
 behind `#`.
 
 The statistics and paths of a search are the oracle's, that is the given Rust's.
-The Rust knows neither areas of fixed size nor the bound of 127 edges, so 30, 31
+The Rust knows neither areas of fixed size nor the bound of 63 edges, so 30, 31
 and 32 are those of searches.py, which must agree with the Rust everywhere else.
 The number of a refused image is that of refusals.py, a second reading of
 documents 01 and 02, and 2 for more than 65,536 bytes. The cases:
@@ -128,7 +128,7 @@ GRAPHS = {
     "example": EXAMPLE, "example_with_refused": with_refused(),
     "fan_128": fan(SLOTS), "fan_129": fan(SLOTS + 1),
     "crowd_128": crowd(SLOTS), "crowd_129": crowd(SLOTS + 1),
-    "edges_127": chain(MOST_EDGES - 1, at_end), "edges_128": chain(MOST_EDGES, at_end),
+    "edges_63": chain(MOST_EDGES - 1, at_end), "edges_64": chain(MOST_EDGES, at_end),
     "no_file": Graph(0, ROOT_AND_JUMP, []),
     "no_reference": Graph(1, ROOT_AND_JUMP + [Node(SCOPE), Node(PUSH, symbol=7)], [Edge(3, 2)]),
     "largest": largest(),

@@ -30,7 +30,7 @@ from images import (GRAPH_A, GRAPH_B, GRAPH_C, POP, PUSH, REPOSITORY,
 from path_cases import damaged_images
 from refusals import Refused, checked
 from search_cases import MANY, at_end, chain
-from searches import Request, searched
+from searches import MOST_EDGES, Request, searched
 
 PROGRAM = REPOSITORY / "target" / "bin" / "resolve"
 MOST_BYTES, SLOTS = 65_536, 128
@@ -103,7 +103,8 @@ def runs(rng, count):
     yield image(GRAPH_A), PRINTED_FOR_A
     graphs = [GRAPH_A, GRAPH_B, GRAPH_C, Graph(0, ROOT_AND_JUMP, []),
               Graph(1, ROOT_AND_JUMP + [Node(SCOPE)], []), large_graph(), refused_between(),
-              fan(127), fan(128), fan(129), chain(126, at_end), chain(127, at_end)]
+              fan(SLOTS - 1), fan(SLOTS), fan(SLOTS + 1), chain(MOST_EDGES - 1, at_end),
+              chain(MOST_EDGES, at_end)]
     while len(graphs) < count:
         graph = random_graph(rng)
         if ends_soon(graph):

@@ -7,7 +7,7 @@ writes the third list of crates/cases/stdin, and into stdout what the program
 must print of it, and tells how many cases of each sort there are. The expected answers
 are those of searches.py, a second reading of document 01. On each accepted
 image every request is also put to the oracle, that is to the given Rust, which
-must answer as searches.py does without the bound of 127 edges and without
+must answer as searches.py does without the bound of 63 edges and without
 areas; where the bound and the areas refuse nothing, that is the expected
 answer itself. What the Rust lacks, 30, 31, 32 and every word of the areas,
 comes from searches.py and document 01 alone; the refusals 1 to 5 of an image
@@ -50,7 +50,7 @@ The list holds, in this order:
   reference that would be refused and without areas;
 - areas with as many slots as the search needs, one more, one less, and none,
   with some words behind the last whole slot or one too few for another;
-- paths of 126 to 130 edges with an end, another edge, an edge that would be
+- paths of 62 to 66 edges with an end, another edge, an edge that would be
   rejected, or an edge of the path behind the last one, about the bound and about
   length limits there; two such paths, one of which shadows the other;
 - more paths than 128 slots hold;
@@ -352,20 +352,20 @@ def at_beginning(last):
 
 def add_long_paths(cases):
     """30, and the length limits about it."""
-    for count in (125, 126, 127, 128):
+    for count in range(MOST_EDGES - 2, MOST_EDGES + 2):
         cases.load(chain(count, at_end))
-        for limit in (None, 126, 127, 128):
+        for limit in (None, MOST_EDGES - 1, MOST_EDGES, MOST_EDGES + 1):
             cases.some(2, (limit, None, None), work=SLOT, result=SLOT)
-        for limit in (127, 128, 129):
+        for limit in (MOST_EDGES, MOST_EDGES + 1, MOST_EDGES + 2):
             cases.some(2, (None, limit, None), work=SLOT, result=SLOT)
-    for count, tail in ((126, at_two_ends), (127, at_other_symbol), (126, at_beginning),
-                        (127, at_beginning)):
+    for count, tail in ((MOST_EDGES - 1, at_two_ends), (MOST_EDGES, at_other_symbol),
+                        (MOST_EDGES - 1, at_beginning), (MOST_EDGES, at_beginning)):
         cases.load(chain(count, tail))
-        for limit in (None, 127, 128):
+        for limit in (None, MOST_EDGES, MOST_EDGES + 1):
             cases.some(2, (limit, None, None), work=2 * SLOT, result=2 * SLOT)
         cases.some(2, work=SLOT, result=0)
-    cases.load(chain(126, at_end, doubled=60))
-    for limits in ((None, None, None), (127, None, None), (None, 190, None), (None, None, 1)):
+    cases.load(chain(MOST_EDGES - 1, at_end, doubled=30))
+    for limits in ((None, None, None), (MOST_EDGES, None, None), (None, 95, None), (None, None, 1)):
         cases.every(2, limits, work=2 * SLOT + 5, result=3 * SLOT)
 
 

@@ -1,6 +1,6 @@
-"""Direct and linear search, written a second time from document 01.
+"""Direct and linear search, written a second time from document 01, with document 02's bound.
 
-The Rust knows neither the bound of 127 edges, nor areas of fixed size, nor the
+The Rust knows neither the bound of 63 edges, nor areas of fixed size, nor the
 bound on expansions, so the refusals 30, 31, 32 and 36 are compared with this
 plain reading instead. Without bounds and areas it must find what the Rust
 finds, which search_cases.py holds it to.
@@ -16,7 +16,9 @@ from images import (JUMP, POP, POP_SCOPED, PUSH, PUSH_SCOPED, REMOVED, Stacks,
                     applied)
 from refusals import Refused
 
-MOST_EDGES, MOST_EXPANSIONS = 127, 16_777_216
+# The edges of a path: document 02, order 6.
+MOST_EDGES = 63
+MOST_EXPANSIONS = 16_777_216
 # A jump step: its source is node 1, its precedence 0.
 JUMP_STEP = (1, 0)
 

@@ -1,6 +1,6 @@
 """Stitched search, written a second time from document 01.
 
-The Rust knows neither the bound of 127 edges, nor areas of fixed size, nor a
+The Rust knows neither the bound of 63 edges, nor areas of fixed size, nor a
 database in words, so the refusals 30 to 35 are compared with this plain
 reading instead. Without bounds and areas it must find what the Rust finds,
 which stitching_cases.py holds it to.

@@ -8,7 +8,7 @@ must print of it, and tells how many cases of each sort there are. The expected
 answers are those of stitched.py and partials.py, a second reading of documents
 01 and 02. Wherever image and database are accepted and every slot has a file the
 request is also put to the oracle, that is to the given Rust with the same slots,
-which must answer as stitched.py does without the bound of 127 edges and without
+which must answer as stitched.py does without the bound of 63 edges and without
 areas; where the bound and the areas refuse nothing, that is the expected answer
 itself. What the Rust lacks, 30, 31, 32, 34, 35, slots that belong to no file and
 every word of the areas, comes from stitched.py, partials.py and the documents
@@ -46,7 +46,7 @@ The list holds, in this order:
   with edges shared with the path or with one another, twice the same, with any
   end and file, with any words behind the last edge; dead ones between them;
 - walks as slots on graphs with every kind of node, scopes attached and taken off;
-- paths of 126 to 131 edges in one, two and three pieces, about the bound and about
+- paths of 62 to 67 edges in one, two and three pieces, about the bound and about
   length limits there, with 12 and rejections behind it;
 - more paths than 128 slots hold;
 - about 4,096 slots;
@@ -280,7 +280,8 @@ def add_malformed(cases):
     cases.load(GRAPH_A)
     good = filed_on_a()
     fields = [(OWNER, (0, 1, 2, LAST)), (START, (0, 5, 6, LAST)), (END, (LAST,)),
-              (COUNT, (0, 1, 2, 127, 128, LAST)), (EDGES, (3, LAST)), (RECORD - 1, (LAST,))]
+              (COUNT, (0, 1, 2, MOST_EDGES, MOST_EDGES + 1, LAST)), (EDGES, (3, LAST)),
+              (RECORD - 1, (LAST,))]
     altered = [(place(number) + field, value) for number in (0, 1, 2, 3)
                for field, values in fields for value in values]
     altered += [(USED, used) for used in (0, 1, 2, 4, 5, LAST)]
@@ -289,7 +290,7 @@ def add_malformed(cases):
     for at, value in altered:
         cases.lend(good[:at] + [value] + good[at + 1:])
         cases.either(2)
-        cases.either(cases.rng.choice((0, 2, 6, LAST)), work=cases.rng.choice((0, 300)))
+        cases.either(cases.rng.choice((0, 2, 6, LAST)), work=cases.rng.choice((0, 2 * SLOT + 44)))
     for length in (0, 1, 2, 3, place(2), place(3) - 1, place(3)):
         for used in (0, 2, 3):
             cases.lend(([used] + good[1:])[:length])
@@ -380,28 +381,35 @@ def add_repeated_edges(cases):
 
 def add_long_paths(cases):
     """30, and the length limits about it: the whole partial path is counted before any edge."""
-    for count, tail in ((126, at_end), (127, at_end), (126, at_two_ends)):
+    for count, tail in ((MOST_EDGES - 1, at_end), (MOST_EDGES, at_end),
+                        (MOST_EDGES - 1, at_two_ends)):
         graph = chain(count, tail)
         cases.load(graph)
         edges = tuple(range(count + 1))
         whole = [from_edges(graph, *edges)] if count < MOST_EDGES else []
-        halves = [from_edges(graph, *edges[:64]), from_edges(graph, *edges[64:])]
-        thirds = [from_edges(graph, *edges[:1]), from_edges(graph, *edges[1:90]),
-                  from_edges(graph, *edges[90:])]
+        halves = [from_edges(graph, *edges[:32]), from_edges(graph, *edges[32:])]
+        thirds = [from_edges(graph, *edges[:1]), from_edges(graph, *edges[1:45]),
+                  from_edges(graph, *edges[45:])]
         for paths in (whole, halves, thirds):
             cases.lend(holding(graph, paths))
             cases.either(2, work=2 * SLOT, result=SLOT)
             for limit in (count, count + 1, MOST_EDGES):
                 cases.either(2, (limit, None, None), work=2 * SLOT, result=SLOT)
-    graph = chain(130, at_end)
+    add_long_second_pieces(cases)
+
+
+def add_long_second_pieces(cases):
+    """30 before 12, before a rejection, not where an edge is shared or a limit is there."""
+    graph = chain(MOST_EDGES + 3, at_end)
     cases.load(graph)
-    first = from_edges(graph, *range(100))
-    # 30 before 12, before a rejection, not where an edge is shared or a limit is there
-    for edges in ((100, *[LAST] * 26), (100, *[LAST] * 27), (*[LAST] * 28,), (*[0] * 28,),
-                  (*[120] * 28,), (*[120] * 27,), tuple(range(100, 127)), tuple(range(100, 128))):
-        cases.lend(holding(graph, [first, PartialPath(0, 102, 3, edges)]))
+    held = 40
+    first, left = from_edges(graph, *range(held)), MOST_EDGES - held
+    for edges in ((held, *[LAST] * (left - 1)), (held, *[LAST] * left), (*[LAST] * (left + 1),),
+                  (*[0] * (left + 1),), (*[50] * (left + 1),), (*[50] * left,),
+                  tuple(range(held, MOST_EDGES)), tuple(range(held, MOST_EDGES + 1))):
+        cases.lend(holding(graph, [first, PartialPath(0, held + 2, 3, edges)]))
         cases.some(2, work=2 * SLOT, result=SLOT)
-        cases.either(2, (127, None, None), work=2 * SLOT, result=SLOT)
+        cases.either(2, (MOST_EDGES, None, None), work=2 * SLOT, result=SLOT)
         cases.either(2, (None, 1, None), work=2 * SLOT, result=SLOT)
 
 

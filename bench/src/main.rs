@@ -1,11 +1,13 @@
 //! bench [--only TIMES JOB SIDE] IMAGE ..: direct, linear and stitched search from
 //! every reference, and the replacement of every file, by the proved library
 //! and by the given Rust. bench --names IMAGE ..: names for definitions, against
-//! the recorded searches that they make. README.md says what a line holds.
+//! the recorded searches that they make. bench --convert: an old database converted,
+//! against a plain copy. README.md says what a line holds.
 
 use settings::Settings;
 use std::process::exit;
 
+mod conversion;
 #[path = "../../oracle/src/load.rs"]
 mod load;
 mod names;
@@ -31,6 +33,9 @@ pub const JOBS: [Job; 4] = [Job::Direct, Job::Linear, Job::Replace, Job::Stitche
 
 fn main() {
     let mut words: Vec<String> = std::env::args().skip(1).collect();
+    if words.first().is_some_and(|word| word == "--convert") {
+        return conversion::compare();
+    }
     let only = (words.first().is_some_and(|word| word == "--only") && words.len() >= 4)
         .then(|| words.drain(..4).collect::<Vec<String>>());
     let of_names = words.first().is_some_and(|word| word == "--names");

@@ -9,6 +9,7 @@ use std::time::{Duration, Instant};
 
 const MAX_RECORDS: usize = 4_096;
 const MOST_SLOTS: usize = 65_536;
+pub const TOO_LONG: u64 = 30;
 
 pub struct Ours<'a> {
     bytes: &'a [u8],
@@ -16,6 +17,8 @@ pub struct Ours<'a> {
     words: Vec<u32>,
     work: Vec<u32>,
     result: Vec<u32>,
+    /// Files that the database lacks, as one of their routes is over the bound.
+    pub unfiled: usize,
 }
 
 /// The image checked so many times.
@@ -23,6 +26,11 @@ pub fn check(bytes: &[u8], times: usize) {
     for _ in 0..times {
         std::hint::black_box(pozhdaghi::check(bytes)).expect("the image is accepted");
     }
+}
+
+/// The calls that the bound on edges refuses, which the Rust does not have.
+pub fn too_long(told: &[Told]) -> usize {
+    told.iter().filter(|told| told[0] == TOO_LONG).count()
 }
 
 fn refusal(refusal: Refusal) -> Told {
@@ -68,9 +76,11 @@ impl<'a> Ours<'a> {
             words: vec![0; DATABASE_HEAD + MAX_RECORDS * RECORD_WORDS],
             work: Vec::new(),
             result: Vec::new(),
+            unfiled: 0,
         };
         let slots = ours.slots(Job::Replace);
-        ours.run(Job::Replace, slots);
+        let (_, told) = ours.run(Job::Replace, slots);
+        ours.unfiled = too_long(&told);
         // Words behind the used ones would be cleared before every run of the
         // replacement, and what the caches hold of a small job with them.
         let used = ours.words[0] as usize;

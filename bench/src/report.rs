@@ -1,6 +1,6 @@
 //! A line for each job: the least times of several runs, and their ratios.
 
-use crate::ours::{self, Ours};
+use crate::ours::{self, Ours, TOO_LONG, too_long};
 use crate::settings::Settings;
 use crate::theirs::{self, Theirs};
 use crate::{JOBS, Job, Told};
@@ -87,6 +87,8 @@ fn compare_job(
     let slots = ours.slots(job);
     let (_, our_answers) = ours.run(job, slots);
     let (_, their_answers) = theirs.run(job);
+    // a search over fewer partial paths than the Rust has tells nothing of either
+    let is_comparable = job != Job::Stitched || ours.unfiled == 0;
     let [our_time, their_time, checks, loads] = best_of([
         &mut || ours.run(job, slots).0,
         &mut || theirs.run(job).0,
@@ -101,9 +103,13 @@ fn compare_job(
         their_time + loads,
         (their_time + loads) / our_time,
         ratio(their_time, bare),
-        verdict(&our_answers, &their_answers)
+        if is_comparable {
+            verdict(&our_answers, &their_answers)
+        } else {
+            format!("not compared: {} files lacking by 30", ours.unfiled)
+        }
     );
-    our_answers == their_answers
+    !is_comparable || differing(&our_answers, &their_answers).is_none()
 }
 
 /// The expansions of all calls; a refused one tells of none.
@@ -124,14 +130,19 @@ fn ratio(theirs: f64, ours: f64) -> String {
     "-".to_owned()
 }
 
+/// The first call that the sides answer differently; the Rust has no bound on edges, so
+/// 30 is no difference.
+fn differing(ours: &[Told], theirs: &[Told]) -> Option<usize> {
+    let differ = |(left, right): (&Told, &Told)| left != right && left[0] != TOO_LONG;
+    ours.iter().zip(theirs).position(differ)
+}
+
 fn verdict(ours: &[Told], theirs: &[Told]) -> String {
-    match ours
-        .iter()
-        .zip(theirs)
-        .position(|(left, right)| left != right)
-    {
-        None if ours.len() == theirs.len() => format!("{} alike", ours.len()),
-        None => "missing".to_owned(),
+    let refused = too_long(ours);
+    match differing(ours, theirs) {
+        _ if ours.len() != theirs.len() => "missing".to_owned(),
         Some(at) => format!("DIFFER at {at}: {:?} {:?}", ours[at], theirs[at]),
+        None if refused > 0 => format!("{} alike, {refused} refused by 30", ours.len() - refused),
+        None => format!("{} alike", ours.len()),
     }
 }

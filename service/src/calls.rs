@@ -406,6 +406,35 @@ pub fn replace_aliases(
     answer::replacement(&told)
 }
 
+/// Rewrites a database made when a path might have 127 edges, with records of
+/// `FORMER_RECORD_WORDS`, for the present bound. Every live path keeps its number, and
+/// the three leading words are kept; dead records and all words behind a last edge and
+/// behind the used records are zero in `new`, whatever `old` has there. `old` is only
+/// read. `new` needs `DATABASE_HEAD` words, and `RECORD_WORDS` for each used record.
+///
+/// Refused by 35 if `old` is no database under the old bound, then by 33 if `new` has
+/// under 3 words or fewer records than are used, then by 39 if a live path has more
+/// than `MOST_EDGES` edges; each leaves all of `new` zero, whatever it held.
+///
+/// Nothing in the words tells an old database from a new one: a new one that is
+/// converted again, or an old one that is lent to another call, is read in records of
+/// the wrong size and may pass for a database. So convert each one exactly once.
+pub fn convert(old: &[u32], new: &mut [u32]) -> Result<(), Refusal> {
+    let mut told = EMPTY;
+    // SAFETY: each pointer and length is that of a slice held here.
+    unsafe {
+        link::pozhdaghi_convert(
+            old.as_ptr(),
+            old.len(),
+            new.as_mut_ptr(),
+            new.len(),
+            told.as_mut_ptr(),
+            told.len(),
+        );
+    }
+    answer::done(&told)
+}
+
 /// The edges of a partial path, as a part of the words; empty if it is dead,
 /// beyond use, or the words are no database.
 pub fn lookup(words: &[u32], number: u32) -> &[u32] {

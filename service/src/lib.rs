@@ -6,7 +6,7 @@
 //! database words; every call leaves them as its contract says
 //! (`crates/pozhdaghi/src`). A refusal has the number and the values of document
 //! 01, "Turned back", or of document 02. The library's own work takes up to about
-//! 240 KB of the caller's stack, and `replay` 290 KB with the words of its path.
+//! 230 KB of the caller's stack, and `replay` 215 KB with the words of its path.
 //!
 //! An area that a call writes overlaps no other area that it is lent: the
 //! contracts speak of each by itself. Here the borrow checker sees to it, which
@@ -33,18 +33,26 @@ mod request;
 
 pub use answer::{Counts, PartialStatistics, Refusal, Resolution, Statistics};
 pub use calls::{
-    check, direct, direct_recorded, find_name, fresh, is_complete, linear, linear_recorded, lookup,
-    narrow, replace_aliases, replace_file, replay, shadows, stitched, stitched_recorded, widen,
+    check, convert, direct, direct_recorded, find_name, fresh, is_complete, linear,
+    linear_recorded, lookup, narrow, replace_aliases, replace_file, replay, shadows, stitched,
+    stitched_recorded, widen,
 };
 pub use replayed::{Replayed, Step, Symbol};
 pub use request::{Limits, Order, Request};
 
-/// Words of a waiting slot and of a result slot: the edge count and 127 edges.
-pub const SLOT_WORDS: usize = 128;
+/// How many edges a path may have: document 02, order 6.
+pub const MOST_EDGES: usize = 63;
 
-/// Words in front of a database's records, and words of a record.
+/// Words of a waiting slot and of a result slot: the edge count and the edges.
+pub const SLOT_WORDS: usize = 1 + MOST_EDGES;
+
+/// Words in front of a database's records, and words of a record: the owner, start,
+/// end, edge count and edges.
 pub const DATABASE_HEAD: usize = 3;
-pub const RECORD_WORDS: usize = 131;
+pub const RECORD_WORDS: usize = 4 + MOST_EDGES;
+
+/// Words of a record when a path might have 127 edges: what `convert` reads.
+pub const FORMER_RECORD_WORDS: usize = 131;
 
 /// The first word of a record of the alias set. A file's is its number + 1, and an
 /// image has at most 256 files.
@@ -54,12 +62,18 @@ pub const ALIASES: u32 = 65_535;
 /// into as many.
 pub const LONGEST_IMAGE: usize = 65_536;
 
-/// Words that any replayed path fits into: its end; at most 254 steps, as each
-/// of 127 edges may be followed by a jump; at most 128 symbols with 64 scopes
-/// each; 64 scopes. A symbol takes three words, any other item two, and a word
-/// ends each list. A scope more on a symbol takes a push and a pop among 128
-/// nodes, so there are at most 64.
-pub const PATH_WORDS: usize = 1 + (2 * 254 + 1) + (128 * (3 + 2 * 64 + 1) + 1) + (2 * 64 + 1);
+/// Words that any replayed path fits into: its end; at most two steps for each edge,
+/// as each may be followed by a jump; at most a symbol for each node that the path
+/// meets; scopes. A symbol takes three words, any other item two, and a word ends
+/// each list. A scope more on a symbol takes a push and a pop among those nodes, so
+/// there are at most half as many scopes on one and on the stack.
+pub const PATH_WORDS: usize = 1
+    + (2 * (2 * MOST_EDGES) + 1)
+    + (MOST_NODES * (3 + 2 * MOST_SCOPES + 1) + 1)
+    + (2 * MOST_SCOPES + 1);
+
+const MOST_NODES: usize = 1 + MOST_EDGES;
+const MOST_SCOPES: usize = MOST_NODES / 2;
 
 /// The paths in a result area, each as its edges: the slots up to the first
 /// without edges.

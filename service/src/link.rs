@@ -70,6 +70,14 @@ unsafe extern "C" {
         answer: *mut u64,
         answer_len: usize,
     );
+    pub fn pozhdaghi_convert(
+        old: *const u32,
+        old_len: usize,
+        new: *mut u32,
+        new_len: usize,
+        answer: *mut u64,
+        answer_len: usize,
+    );
     pub fn pozhdaghi_lookup(
         words: *const u32,
         words_len: usize,

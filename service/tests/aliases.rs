@@ -5,11 +5,12 @@
 mod common;
 
 use common::{
-    area, blank, database, definition, filed, graph_c, image, image_of, is_zero, reference,
+    area, blank, database, definition, filed, graph_c, image, image_of, is_zero, place, reference,
     refusal, scope, scoped_pop, scoped_push, slots, Drawn, Edge, Record, Slot, NOBODY,
 };
 use pozhdaghi::{
     Limits, Order, PartialStatistics, Refusal, Request, Resolution, Statistics, ALIASES,
+    MOST_EDGES, RECORD_WORDS,
 };
 
 /// The set replaced without limits.
@@ -278,10 +279,10 @@ fn crowded() -> Vec<u32> {
         Some((NOBODY, 3, 0, &[9])),
     ];
     let mut words = database(4, 256, &parts, 8);
-    words[3 + 131 + 130] = 5;
-    words[3 + 2 * 131 + 1..3 + 3 * 131].fill(65_535);
-    words[3 + 4 * 131 - 1] = 77;
-    words[3 + 5 * 131..].fill(9);
+    words[place(2) - 1] = 5;
+    words[place(2) + 1..place(3)].fill(65_535);
+    words[place(4) - 1] = 77;
+    words[place(5)..].fill(9);
     words
 }
 
@@ -298,10 +299,10 @@ fn other_slots_kept() {
     let mut words = crowded();
     let mut wanted = words.clone();
     for dead in [1, 4] {
-        wanted[3 + 131 * dead..3 + 131 * (dead + 1)].fill(0);
+        wanted[place(dead)..place(dead + 1)].fill(0);
     }
     let new = database(4, 256, &PARTS_OF_C[3..], 1);
-    wanted[3 + 131 * 5..3 + 131 * 6].copy_from_slice(&new[3..]);
+    wanted[place(5)..place(6)].copy_from_slice(&new[3..]);
     wanted[0] = 6;
     assert_eq!(replaced(&image, 1, &mut words), Ok(COUNTED_ON_C));
     assert_eq!(words, wanted);
@@ -313,14 +314,14 @@ fn set_kept() {
     let image = c_of_many_files();
     let (mut words, request) = (crowded(), Request::default());
     let mut wanted = words.clone();
-    wanted[3 + 131 * 3..3 + 131 * 4].fill(0);
+    wanted[place(3)..place(4)].fill(0);
     // file 255 has no node, so root is expanded and nothing found
     let told = pozhdaghi::replace_file(&image, 255, &request, &mut slots(1), &mut words);
     assert_eq!(told.map(|counted| counted.found), Ok(0));
     assert_eq!(words, wanted);
-    wanted[3..3 + 131].fill(0);
+    wanted[place(0)..place(1)].fill(0);
     let new = database(4, 256, &PARTS_OF_C[..3], 3);
-    wanted[3 + 131 * 5..].copy_from_slice(&new[3..]);
+    wanted[place(5)..].copy_from_slice(&new[3..]);
     wanted[0] = 8;
     assert!(pozhdaghi::replace_file(&image, 0, &request, &mut slots(2), &mut words).is_ok());
     assert_eq!(words, wanted);
@@ -375,7 +376,7 @@ fn six_loops_fit() {
         (0..3_913).map(|n| pozhdaghi::lookup(&words, n)).collect();
     // all differ, hence with distinct edges and jump last they are all lists
     assert_eq!(lists.len(), 3_913);
-    for (number, slot) in words[3..].chunks_exact(131).enumerate() {
+    for (number, slot) in words[3..].chunks_exact(RECORD_WORDS).enumerate() {
         let edges = pozhdaghi::lookup(&words, number as u32);
         let distinct: std::collections::BTreeSet<&u32> = edges.iter().collect();
         let (last, before) = edges.split_last().expect("some edge");
@@ -469,24 +470,26 @@ fn refusals_in_their_order() {
     assert_eq!(replaced(&image, 1, &mut full), Err(refusal(33, &[])));
 }
 
-/// The 128th expansion is of a list with 127 edges, where one more loop is 30; before
+/// The 64th expansion is of a list with 63 edges, where one more loop is 30; before
 /// it there are more lists than slots, of which only a finished computation speaks.
 #[test]
 fn too_long() {
-    let image = rooted(128, 0);
+    let image = rooted(MOST_EDGES + 1, 0);
     let mut request = depth_first();
     let mut words = database(2, 0, &[], 0);
+    // each expansion leaves one fewer beside the list that it goes on with
+    let waiting = (MOST_EDGES + 1) * (MOST_EDGES + 2) / 2;
     assert_eq!(
-        asked(&image, &request, 8_300, &mut words),
+        asked(&image, &request, waiting, &mut words),
         Err(refusal(30, &[]))
     );
-    request.limits.paths = Some(127);
+    request.limits.paths = Some(MOST_EDGES as u64);
     assert_eq!(
-        asked(&image, &request, 8_300, &mut words),
+        asked(&image, &request, waiting, &mut words),
         Err(refusal(33, &[]))
     );
     assert_eq!(
-        asked(&image, &request, 127, &mut words),
+        asked(&image, &request, MOST_EDGES, &mut words),
         Err(refusal(31, &[]))
     );
 }
@@ -507,9 +510,9 @@ fn not_a_file() {
 }
 
 /// C's database with a word of the set's slot altered.
-fn altered(place: usize, word: u32) -> Vec<u32> {
+fn altered(at: usize, word: u32) -> Vec<u32> {
     let mut words = database(4, 1, &PARTS_OF_C, 4);
-    words[3 + 131 * 3 + place] = word;
+    words[place(3) + at] = word;
     words
 }
 
@@ -527,7 +530,7 @@ fn what_is_no_database() {
         altered(1, 4),
         altered(1, 65_535),
         altered(3, 0),
-        altered(3, 128),
+        altered(3, MOST_EDGES as u32 + 1),
         // a stored N of 0
         database(0, 0, &PARTS_OF_C[3..], 1),
     ];
@@ -546,23 +549,23 @@ fn what_is_no_database() {
     }
 }
 
-/// Any node below N may be its start, any edges may stand in it, also as many as 127,
-/// and F may be 0.
+/// Any node below N may be its start, any edges may stand in it, also as many as a
+/// path may have, and F may be 0.
 #[test]
 fn what_is_a_database() {
-    let mut longest = altered(3, 127);
-    longest[3 + 131 * 3 + 4..3 + 131 * 4].fill(9);
+    let mut longest = altered(3, MOST_EDGES as u32);
+    longest[place(3) + 4..place(4)].fill(9);
     for (words, edges) in [
         (altered(1, 3), 1),
         (altered(2, u32::MAX), 1),
         (altered(4, u32::MAX), 1),
-        (longest, 127),
+        (longest, MOST_EDGES),
     ] {
         let part = pozhdaghi::lookup(&words, 3);
-        let place = 3 + 131 * 3 + 4;
+        let edges_at = place(3) + 4;
         assert_eq!(
             part.as_ptr_range(),
-            words[place..place + edges].as_ptr_range()
+            words[edges_at..edges_at + edges].as_ptr_range()
         );
     }
     let alone = database(1, 0, &PARTS_OF_C[3..], 1);
@@ -655,7 +658,7 @@ fn recorded_alike() {
         stitched.sort();
         direct.sort();
         assert_eq!(stitched, direct);
-        for slot in words[3..].chunks_exact_mut(131) {
+        for slot in words[3..].chunks_exact_mut(RECORD_WORDS) {
             if slot[0] == ALIASES {
                 slot.fill(0);
             }

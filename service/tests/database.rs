@@ -3,14 +3,19 @@
 
 mod common;
 
-use common::{blank, database, filed, graph_a, image_of, refusal, scope, slots, Slot};
+use common::{blank, database, filed, graph_a, image_of, place, refusal, scope, slots, Slot};
 use pozhdaghi::{
-    Limits, Order, PartialStatistics, Request, DATABASE_HEAD, RECORD_WORDS, SLOT_WORDS,
+    Limits, Order, PartialStatistics, Request, DATABASE_HEAD, FORMER_RECORD_WORDS, MOST_EDGES,
+    PATH_WORDS, RECORD_WORDS, SLOT_WORDS,
 };
 
 #[test]
 fn sizes() {
-    assert_eq!((SLOT_WORDS, DATABASE_HEAD, RECORD_WORDS), (128, 3, 131));
+    assert_eq!(MOST_EDGES, 63);
+    assert_eq!((SLOT_WORDS, DATABASE_HEAD, RECORD_WORDS), (64, 3, 67));
+    assert_eq!(FORMER_RECORD_WORDS, 131);
+    // an end, 126 steps, 64 symbols with 32 scopes each, 32 scopes
+    assert_eq!(PATH_WORDS, 1 + 253 + 4_353 + 65);
 }
 
 #[test]
@@ -119,13 +124,16 @@ fn limits() {
     assert_eq!(counted(None, Some(2)), few);
 }
 
-/// A part of the words themselves: record n begins at 3 + 131 n, its edges 4
-/// words behind.
+/// A part of the words themselves: record n begins at 3 + 67 n, its edges 4 words
+/// behind.
 #[test]
 fn lookups() {
     let words = database(6, 1, &[PARTS[0], None, PARTS[3]], 4);
     let part = pozhdaghi::lookup(&words, 2);
-    assert_eq!(part.as_ptr_range(), words[269..271].as_ptr_range());
+    assert_eq!(
+        part.as_ptr_range(),
+        words[place(2) + 4..place(2) + 6].as_ptr_range()
+    );
     assert_eq!(part, [0, 1]);
     assert_eq!(
         pozhdaghi::lookup(&words, 0).as_ptr_range(),
@@ -137,10 +145,10 @@ fn lookups() {
     }
 }
 
-/// 127 edges, as many as a record holds.
+/// As many edges as a record holds.
 #[test]
 fn longest_part() {
-    let edges: Vec<u32> = (0..127).collect();
+    let edges: Vec<u32> = (0..MOST_EDGES as u32).collect();
     let words = database(200, 1, &[Some((0, 2, 3, &edges))], 1);
     assert_eq!(pozhdaghi::lookup(&words, 0), edges);
 }

@@ -6,7 +6,7 @@ mod common;
 
 use common::{area, definition, graph_a, graph_b, graph_c, image, is_zero, refusal, slots};
 use common::{chain, reference, scope, Edge, Record};
-use pozhdaghi::{Refusal, SLOT_WORDS};
+use pozhdaghi::{Refusal, MOST_EDGES, SLOT_WORDS};
 
 /// The name of a node: the reference, and its edges.
 type Name = Option<(u32, Vec<u32>)>;
@@ -159,7 +159,7 @@ fn refused_searches() {
     assert_eq!(named(&after, 4, None, [2, 1]), found(2, &[0]));
 }
 
-/// A row of 128 edges beside the way to the node is refused, unless a limit cuts
+/// A row of too many edges beside the way to the node is refused, unless a limit cuts
 /// it.
 #[test]
 fn too_long() {
@@ -174,22 +174,25 @@ fn too_long() {
         edges
     };
     let (longest, longer) = (
-        image(&nodes(127), &edges(127)),
-        image(&nodes(128), &edges(128)),
+        image(&nodes(MOST_EDGES), &edges(MOST_EDGES as u16)),
+        image(&nodes(MOST_EDGES + 1), &edges(MOST_EDGES as u16 + 1)),
     );
     assert_eq!(named(&longest, 3, None, [2, 1]), found(2, &[0]));
     assert_eq!(named(&longer, 3, None, [2, 1]), Err(refusal(30, &[])));
-    assert_eq!(named(&longer, 3, Some(127), [2, 1]), found(2, &[0]));
+    assert_eq!(
+        named(&longer, 3, Some(MOST_EDGES as u64), [2, 1]),
+        found(2, &[0])
+    );
     // a graph without a definition has no node to name
     assert_eq!(named(&chain(3), 2, None, [2, 1]), Err(refusal(37, &[2])));
 }
 
-/// The 16,777,216th expansion is made, and the next one is not: 18 double edges in
-/// a row give 2^19 - 1 expansions and 2^18 paths, each of which goes on along 62
+/// The 16,777,216th expansion is made, and the next one is not: 19 double edges in
+/// a row give 2^20 - 1 expansions and 2^19 paths, each of which goes on along 30
 /// edges; each edge beside them gives one more.
 #[test]
 fn expansions() {
-    let (doubled, row) = (18, 62);
+    let (doubled, row) = (19, 30);
     for (beside, name) in [(1, Ok(None)), (2, Err(refusal(36, &[])))] {
         let mut nodes = vec![reference(7), definition(7)];
         let mut edges = Vec::new();

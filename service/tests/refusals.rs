@@ -8,10 +8,10 @@
 mod common;
 
 use common::{
-    chain, database, filed, graph_a, graph_b, graph_c, image_of, is_zero, refusal, slots,
+    chain, database, filed, graph_a, graph_b, graph_c, image_of, is_zero, place, refusal, slots,
 };
 use common::{reference, scope};
-use pozhdaghi::{Refusal, Request, Resolution};
+use pozhdaghi::{Refusal, Request, Resolution, MOST_EDGES};
 
 /// A search of an image, with a database, from a node, in two areas.
 type Search = fn(&[u8], &[u32], u32, &mut [u32], &mut [u32]) -> Result<Resolution, Refusal>;
@@ -171,13 +171,16 @@ fn nodes_and_edges() {
 
 #[test]
 fn too_long() {
-    let (longest, longer) = (chain(127), chain(128));
-    let rows: Vec<u32> = (0..128).collect();
-    let (row, rest) = rows.split_at(127);
+    let most = MOST_EDGES as u16;
+    let (longest, longer) = (chain(most), chain(most + 1));
+    // the node behind the longest row, and the last one
+    let (next, last) = (u32::from(most) + 2, u32::from(most) + 3);
+    let rows: Vec<u32> = (0..=u32::from(most)).collect();
+    let (row, rest) = rows.split_at(MOST_EDGES);
     let words = database(
-        131,
+        last + 1,
         1,
-        &[Some((0, 2, 129, row)), Some((0, 129, 130, rest))],
+        &[Some((0, 2, next, row)), Some((0, next, last, rest))],
         2,
     );
     for search in searches() {
@@ -188,7 +191,7 @@ fn too_long() {
     }
     for search in DIRECT.into_iter().chain(LINEAR) {
         let found = search(&longest, &[], 2, &mut slots(4), &mut slots(4)).expect("not refused");
-        assert_eq!(found.statistics.expanded, 128);
+        assert_eq!(found.statistics.expanded, MOST_EDGES as u64 + 1);
     }
     assert_eq!(
         not_replaced(&longer, 0, 8, &database(2, 1, &[], 8)),
@@ -200,12 +203,12 @@ fn too_long() {
 #[test]
 fn too_many_edges_to_replay() {
     let image = graph_c();
-    let mut edges = vec![1; 128];
+    let mut edges = vec![1; MOST_EDGES + 1];
     edges[0] = 0;
-    let (longest, last) = (&edges[..127], refusal(30, &[]));
+    let (longest, last) = (&edges[..MOST_EDGES], refusal(30, &[]));
     assert_eq!(
         pozhdaghi::replay(&image, 2, longest).map(|path| (path.end, path.steps.len())),
-        Ok((0, 127))
+        Ok((0, MOST_EDGES))
     );
     assert_eq!(pozhdaghi::replay(&image, 2, &edges), Err(last));
     assert_eq!(pozhdaghi::is_complete(&image, 2, &edges), Err(last));
@@ -279,9 +282,9 @@ fn replacements() {
 /// too many edges, a file and a start outside F and N.
 fn malformed() -> Vec<Vec<u32>> {
     let sound = database(6, 1, &[None, Some((0, 2, 3, &[0]))], 2);
-    let second = |place: usize, word: u32| {
+    let second = |at: usize, word: u32| {
         let mut words = sound.clone();
-        words[3 + 131 + place] = word;
+        words[place(1) + at] = word;
         words
     };
     let mut overfull = sound.clone();
@@ -291,7 +294,7 @@ fn malformed() -> Vec<Vec<u32>> {
         vec![0, 6],
         overfull,
         second(3, 0),
-        second(3, 128),
+        second(3, MOST_EDGES as u32 + 1),
         second(0, 2),
         second(1, 6),
     ]

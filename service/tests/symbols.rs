@@ -5,7 +5,7 @@
 mod common;
 
 use common::{area, blank, filed, is_zero, refusal, scope, slots, wide, Record};
-use pozhdaghi::{Request, Symbol};
+use pozhdaghi::{Request, Symbol, MOST_EDGES};
 
 /// Pairs of different symbols: in the high half alone, in its lowest and highest bit,
 /// in all of it; in the low half alone; about the bound of 32 bits.
@@ -169,10 +169,17 @@ fn scoped() {
     }
 }
 
-/// A stack of many symbols: each is told whole, tops first.
+/// A stack of as many symbols as a path may have, one for each bit, and one of others.
 #[test]
 fn a_stack() {
-    let symbols: Vec<u64> = (0..64).map(|bit| 1 << bit).chain([0, u64::MAX]).collect();
+    let bits: Vec<u64> = (0..64).map(|bit| 1 << bit).collect();
+    assert_eq!(bits.len(), MOST_EDGES + 1);
+    is_told(&bits);
+    is_told(&[0, u64::MAX, 0, 7]);
+}
+
+/// Each symbol is told whole, tops first.
+fn is_told(symbols: &[u64]) {
     let mut nodes = vec![scope(true), wide::reference(symbols[0])];
     nodes.extend(
         symbols[1..]

@@ -1,5 +1,5 @@
 -- One record of a database at its place: how it is read and written. For every bound on edges.
--- Document 01, "Partial paths": "slots used, N, F; then slots of 131: file + 1 (0 means dead), start, end, edge count, 127 edges".
+-- Document 01, "Partial paths": "slots used, N, F; then slots": "file + 1 (0 means dead), start, end, edge count" and edges.
 use Prim.Native.Nat.{ℕ, _+_, _≤_}
 use mathlib.Core.List.{List, _++_}
 use lib.ListN.{length, getD, take, drop}

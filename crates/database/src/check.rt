@@ -72,7 +72,7 @@ fn all_sound(words: &[u32], most: usize) -> bool
 }
 
 // The words do not meet 35, for slots of so many edges.
-fn well_formed_for(words: &[u32], most: usize) -> bool
+pub fn well_formed_for(words: &[u32], most: usize) -> bool
     requires { ⌜ most < 2 ^ 32 ⌝ }
     ensures { λ r. ⌜ r ≡ wellFormed (bounded most) knownOwners (now (words .entry)) ⌝ }
 {

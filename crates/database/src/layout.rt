@@ -1,11 +1,12 @@
 // Where the words of a database stand: three in front, then the records, and how many records there may be.
-// Document 01, "Partial paths": "slots used, N, F; then slots of 131: file + 1 (0 means dead), start, end, edge count, 127 edges".
+// Document 01, "Partial paths": "slots used, N, F; then slots": "file + 1 (0 means dead), start, end, edge count" and edges,
+// of which there are 63 since document 02, order 6. The functions that take how many edges a record has room for also read words of before.
 ghost use mathlib.Core.Path.{_≡_};
 ghost use Prim.Native.Nat.{_≤_, _<_, _^_};
 ghost use lib.ListN.{length, getD};
 ghost use Rattle.semantics.specs.Limits.{base};
 ghost use Rattle.semantics.specs.Database.{capacity};
-ghost use Rattle.database.specs.Records.{bounded, InWords, ownerWord, startWord, countWord, edgeWords};
+ghost use Rattle.database.specs.Records.{bounded, InWords, ownerWord, startWord, endWord, countWord, edgeWords};
 use semantics::bounds;
 
 // The words in front: slots used, N and F.
@@ -42,7 +43,7 @@ pub fn number(words: &[u32], at: usize) -> usize
 }
 
 // The lesser of 4,096 and the whole slots lent, for slots of so many edges.
-pub(crate) fn capacity_for(words: &[u32], most: usize) -> usize
+pub fn capacity_for(words: &[u32], most: usize) -> usize
     requires { ⌜ most < 2 ^ 32 ⌝ }
     ensures { λ r. ⌜ r ≡ capacity (bounded most) (now (words .entry)) ⌝ }
 {
@@ -64,7 +65,7 @@ pub(crate) fn capacity(words: &[u32]) -> usize
 }
 
 // Record i's file + 1, or 0 if it is dead.
-pub(crate) fn owner_for(words: &[u32], most: usize, i: usize) -> u32
+pub fn owner_for(words: &[u32], most: usize, i: usize) -> u32
     requires { ⌜ InWords (bounded most) i (now words) ⌝ }
     ensures { λ r. ⌜ r ≡ ownerWord (bounded most) i (now (words .entry)) ⌝ }
 {
@@ -79,7 +80,7 @@ pub fn owner(words: &[u32], i: usize) -> u32
 }
 
 // The node that record i starts at.
-pub(crate) fn start_for(words: &[u32], most: usize, i: usize) -> u32
+pub fn start_for(words: &[u32], most: usize, i: usize) -> u32
     requires { ⌜ InWords (bounded most) i (now words) ⌝ }
     ensures { λ r. ⌜ r ≡ startWord (bounded most) i (now (words .entry)) ⌝ }
 {
@@ -93,8 +94,16 @@ pub fn start(words: &[u32], i: usize) -> u32
     start_for(words, bounds::MAX_EDGES, i)
 }
 
+// The node that it ends at.
+pub fn end_for(words: &[u32], most: usize, i: usize) -> u32
+    requires { ⌜ InWords (bounded most) i (now words) ⌝ }
+    ensures { λ r. ⌜ r ≡ endWord (bounded most) i (now (words .entry)) ⌝ }
+{
+    words[FIRST_RECORD + (most + EDGES) * i + END]
+}
+
 // How many edges record i says it has.
-pub(crate) fn count_for(words: &[u32], most: usize, i: usize) -> u32
+pub fn count_for(words: &[u32], most: usize, i: usize) -> u32
     requires { ⌜ InWords (bounded most) i (now words) ⌝ }
     ensures { λ r. ⌜ r ≡ countWord (bounded most) i (now (words .entry)) ⌝ }
 {
@@ -109,7 +118,7 @@ pub(crate) fn count(words: &[u32], i: usize) -> u32
 }
 
 // The edges of record i, which says that it has no more than it may.
-fn edges_for(words: &[u32], most: usize, i: usize) -> &[u32]
+pub fn edges_for(words: &[u32], most: usize, i: usize) -> &[u32]
     requires { ⌜ InWords (bounded most) i (now words) × (countWord (bounded most) i (now words) ≤ most) ⌝ }
     ensures { λ r. ⌜ now r ≡ edgeWords (bounded most) i (now (words .entry)) ⌝ }
 {

@@ -24,7 +24,7 @@ pub fn has_room(words: &[u32], new: u64) -> bool
 }
 
 // Record i becomes zeros.
-fn zero_record_for(words: &mut [u32], most: usize, i: usize)
+pub fn zero_record_for(words: &mut [u32], most: usize, i: usize)
     requires { ⌜ InWords (bounded most) i (now words) ⌝ }
     ensures { λ _. ⌜ now (words .exit) ≡ putRecord (bounded most) i (zeros (recordWords (bounded most))) (now (words .entry)) ⌝ }
 {
@@ -77,7 +77,7 @@ fn lay_out(into: &mut [u32], most: usize, file: u32, start: u32, end: u32, edges
 }
 
 // Record i becomes a partial path of the file. Its first word is the file + 1, so that has to be a word.
-fn put_record_for(
+pub fn put_record_for(
     words: &mut [u32],
     most: usize,
     i: usize,

@@ -1,5 +1,5 @@
 -- What becomes of an edge, from what is read of the path and the index.
--- Document 01, "Answer": "Per edge: cycle, length, the 127 bound, append, completeness"; document 02, order 4.
+-- Document 01, "Answer": per edge cycle, length, the bound on edges, append, completeness; document 02, order 4.
 use Prim.Native.Nat.{ℕ}
 use mathlib.Core.Bool.{Bool}
 use Rattle.semantics.specs.declared.graph.Node.{Node}

@@ -1,4 +1,4 @@
-// What becomes of an edge on the path under expansion. Document 01, "Answer": "cycle, length, the 127 bound, append, completeness".
+// What becomes of an edge on the path under expansion. Document 01, "Answer": cycle, length, the bound on edges, append, completeness.
 // The edge is judged on the path as it stands; nothing is built that is then rejected.
 ghost use mathlib.Core.Path.{_≡_};
 ghost use Prim.Native.Nat.{_+_};

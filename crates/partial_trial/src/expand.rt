@@ -1,5 +1,5 @@
-// The expansion of a route by the edges of its owner, a file or nobody. Document 01, "Partial paths": "Each edge passes cycle, length and the 127 bound, is
-// recorded if it reaches an endpoint, and is then pushed". Stacks are not examined.
+// The expansion of a route by the edges of its owner, a file or nobody. Document 01, "Partial paths": each edge passes cycle, length and the bound on edges,
+// "is recorded if it reaches an endpoint, and is then pushed". Stacks are not examined.
 ghost use mathlib.Core.Path.{_≡_};
 ghost use Prim.Native.Nat.{_*_, _<_};
 ghost use lib.ListN.{length};

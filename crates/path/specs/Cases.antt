@@ -63,7 +63,7 @@ pub value-cases : values
         start = 2;
         end = 4;
         count = 2;
-        edges = 0 ∷ 1 ∷ zeros 125;
+        edges = 0 ∷ 1 ∷ zeros (maxEdges - 2);
         jumps = unset maxEdges;
         steps = 0 ∷ 2 ∷ 1 ∷ 0 ∷ 7 ∷ 0 ∷ 0 ∷ 0 ∷ 0 ∷ 0 ∷ 3 ∷ 1 ∷ 0 ∷ 0 ∷ 0 ∷ 0 ∷ 0 ∷ 0 ∷ 1 ∷ 4 ∷ 0 ∷ 0 ∷ 0 ∷ 0 ∷ 0 ∷ 0 ∷ 0 ∷ zeros (stepsLength - 3 * stepLength);
       };
@@ -74,8 +74,8 @@ pub value-cases : values
         start = 2;
         end = 4;
         count = 4;
-        edges = 0 ∷ 1 ∷ 2 ∷ 3 ∷ zeros 123;
-        jumps = false ∷ false ∷ false ∷ true ∷ unset 123;
+        edges = 0 ∷ 1 ∷ 2 ∷ 3 ∷ zeros (maxEdges - 4);
+        jumps = false ∷ false ∷ false ∷ true ∷ unset (maxEdges - 4);
         steps =
             0 ∷ 2 ∷ 1 ∷ 0 ∷ 9 ∷ 0 ∷ 0 ∷ 0 ∷ 0
             ∷ 0 ∷ 3 ∷ 2 ∷ 0 ∷ 7 ∷ 0 ∷ 2 ∷ 1 ∷ 4

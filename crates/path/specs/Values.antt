@@ -1,5 +1,5 @@
 -- A path by value: how it starts, how an edge is added, and what a caller reads off it.
--- Document 01, "Path": "in a fixed array of 127 numbers"; "answers the path (end, steps, both stacks)".
+-- Document 01, "Path": its edges stand "in a fixed array"; "answers the path (end, steps, both stacks)".
 use Prim.Native.Nat.{ℕ, _+_, _<_}
 use mathlib.Core.Path.{_≡_}
 use mathlib.Core.Bool.{Bool, false}

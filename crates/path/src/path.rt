@@ -1,4 +1,4 @@
-// A path by value: the outside form. Document 01, "Path": "A path holds at most 127 edges in a fixed array of 127 numbers".
+// A path by value: the outside form. Document 01, "Path": its edges stand "in a fixed array"; document 02, order 6: at most 63.
 // What both stacks hold stands in its steps, as inside the searches.
 ghost use mathlib.Core.Path.{_≡_};
 ghost use Prim.Native.Nat.{_<_};

@@ -3,9 +3,9 @@ ghost use mathlib.Core.Path.{_≡_};
 ghost use Prim.Native.Nat.{_+_, _*_, _≤_};
 ghost use lib.ListN.{length};
 ghost use Rattle.semantics.specs.Limits.{recordLength};
-ghost use Rattle.semantics.specs.Entries.{freshDatabase, lookupOf, replaceAsked, aliasesAsked};
+ghost use Rattle.semantics.specs.Entries.{convertDatabase, freshDatabase, lookupOf, replaceAsked, aliasesAsked};
 ghost use Rattle.semantics.specs.Written.{written};
-ghost use Rattle.semantics.specs.Told.{toldCreation, toldReplacement, toldPart};
+ghost use Rattle.semantics.specs.Told.{toldCreation, toldReplacement, toldConversion, toldPart};
 ghost use Rattle.semantics.specs.Image.{nodesOf, edgesOf};
 ghost use Rattle.storage.specs.Index.{FEW};
 ghost use Rattle.pozhdaghi.specs.Replaced.{askedFor};
@@ -13,6 +13,7 @@ ghost use Rattle.pozhdaghi.specs.Written.{numbersIn};
 use crate::asked;
 use crate::numbers;
 use crate::numbers::Numbers;
+use conversion::convert;
 use database::fresh;
 use database::layout;
 use database::lookup;
@@ -123,6 +124,16 @@ pub extern "C" fn pozhdaghi_replace_aliases(
         return;
     }
     replace_large_for(image, owner, asked, work, words, answer);
+}
+
+// 0; or the refusal. The old words are only read.
+#[no_mangle]
+pub extern "C" fn pozhdaghi_convert(old: &[u32], new: &mut [u32], answer: &mut [u64])
+    ensures { λ _. ⌜ now (answer .exit) ≡ written (length (now (answer .entry))) (toldConversion (convertDatabase (now (old .entry)) (now (new .entry)) .answer)) ⌝ }
+    ensures { λ _. ⌜ now (new .exit) ≡ convertDatabase (now (old .entry)) (now (new .entry)) .written ⌝ }
+{
+    let converted = convert::convert(old, new);
+    numbers::write(numbers::of_conversion(converted), answer);
 }
 
 // Where the edges of a record stand in the words.

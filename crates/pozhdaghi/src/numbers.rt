@@ -4,10 +4,11 @@ ghost use mathlib.Core.List.{[], _∷_};
 ghost use lib.ListN.{length, getD};
 ghost use Rattle.semantics.specs.Written.{written};
 ghost use Rattle.semantics.specs.Told.{toldFlag, toldStats, toldPartialStats};
-ghost use Rattle.semantics.specs.Told.{toldChecked, toldReplayed, toldJudgement, toldResolution, toldLinearResolution, toldCreation, toldReplacement, toldFinding, toldRewriting};
+ghost use Rattle.semantics.specs.Told.{toldChecked, toldReplayed, toldJudgement, toldResolution, toldLinearResolution, toldConversion, toldCreation, toldReplacement, toldFinding, toldRewriting};
 ghost use Rattle.told.specs.Numbers.{numbersOf};
 ghost use Rattle.pozhdaghi.specs.Written.{numbersIn};
 use semantics::answer::Checked;
+use semantics::answer::Conversion;
 use semantics::answer::Creation;
 use semantics::answer::Finding;
 use semantics::answer::Judgement;
@@ -197,6 +198,17 @@ pub(crate) fn of_rewriting(answer: Rewriting) -> Numbers
         Rewriting::Image(r) => of_told(refusal::image(r)),
         Rewriting::WideSymbol { place } => of_told(refusal::wide_symbol(place)),
         Rewriting::NoRoom => of_told(refusal::no_room()),
+    }
+}
+
+pub(crate) fn of_conversion(answer: Conversion) -> Numbers
+    ensures { λ r. ⌜ numbersIn r ≡ toldConversion answer ⌝ }
+{
+    match answer {
+        Conversion::Done => bare(0),
+        Conversion::Malformed => bare(35),
+        Conversion::Full => bare(33),
+        Conversion::TooLong => bare(39),
     }
 }
 

@@ -1,5 +1,10 @@
--- How many words each lent area has: 128 slots of 128 words.
-use Prim.Native.Nat.{ℕ}
+-- How many words each lent area has: 128 slots.
+use Prim.Native.Nat.{ℕ, _*_}
+use Rattle.semantics.specs.Limits.{slotLength}
+
+-- how many slots each area has
+abbrev pub slots : ℕ
+slots = 128
 
 abbrev pub areaWords : ℕ
-areaWords = 16384
+areaWords = slots * slotLength

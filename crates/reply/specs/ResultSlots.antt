@@ -1,5 +1,5 @@
 -- Result slots at the end of a search: the lists that they hold, and marks on those that are to be dropped. For every slot length L.
--- Document 01, "Answer": "A result slot is 128 words of 32 bits: edge count, edges, zeros. Unused slots .. are zero".
+-- Document 01, "Answer": a slot has "edge count, edges, zeros. Unused slots .. are zero".
 use Prim.Native.Nat.{ℕ, _+_, _-_, _*_, _≤_, _<_}
 use mathlib.Core.Path.{_≡_}
 use mathlib.Core.Bool.{Bool}

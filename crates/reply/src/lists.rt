@@ -1,5 +1,5 @@
 // The edge lists that result slots hold. A slot is marked by SLOT_WORDS more in its count word; reading a count takes the mark off.
-// Document 01, "Answer": "A result slot is 128 words of 32 bits: edge count, edges, zeros".
+// Document 01, "Answer": a slot has "edge count, edges, zeros".
 ghost use mathlib.Core.Path.{_≡_};
 ghost use mathlib.Core.Bool.{true, false};
 ghost use Prim.Native.Nat.{_*_};

@@ -1,5 +1,5 @@
 -- The path under expansion as the words of a slot, and one more edge stored behind its own.
--- Document 01, "Answer": "A result slot is 128 words of 32 bits: edge count, edges, zeros .. Waiting paths are held likewise".
+-- Document 01, "Answer": a slot has "edge count, edges, zeros .. Waiting paths are held likewise".
 use Prim.Native.Nat.{ℕ, suc, _+_, _-_, _<_}
 use mathlib.Core.Path.{_≡_}
 use mathlib.Core.List.{List, [], _∷_, _++_}

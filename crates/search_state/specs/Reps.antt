@@ -58,7 +58,7 @@ settingOf f = searchSetting (f .order) (f .limits) (f .waiting) (f .results)
 abbrev pub Replayed : View → ℕ → Path → Type 0
 Replayed g r p = replay base g r (p .edges) ≡ ok p
 
--- waiting slots have a word for the count and each edge of a path that waits, and lie in the area with 128 words as well
+-- waiting slots have a word for the count and each edge of a path that waits, and lie in the area with the words of a result slot as well
 pub record Slotted (f : Frontier) (ws : List ℕ) (rest pending : List Path) : Type 0 where
   pub wider : Wider f ws slotLength
   pub fits : (p : Path) → List·Memᴰ p rest ⊎ List·Memᴰ p pending → length (p .edges) < f .length

@@ -44,7 +44,7 @@ abbrev pub goingOf : SearchState → Pushed → Going
 goingOf s (Pushed.Done f) = On (record { frontier = f; state = s })
 goingOf s Pushed.Full = Refused Search.NoWaitingSlot
 
--- an item has 128 words and fewer edges; the waiting slots may have fewer words, and lie in the area with 128 as well
+-- an item has the words of a slot and fewer edges; the waiting slots may have fewer words, and lie in the area with so many as well
 pub record Pushable (s : S.Search) (ws item : List ℕ) : Type 0 where
   pub framed : Framed (s .frontier) ws
   pub wider : Wider (s .frontier) ws slotLength

@@ -22,6 +22,7 @@ pub mod Linear
 pub mod Names
 pub mod Partials
 pub mod Databases
+pub mod Conversion
 pub mod Stitching
 pub mod Aliases
 pub mod Instance

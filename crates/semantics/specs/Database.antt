@@ -1,4 +1,4 @@
--- A database as words: slots used, N, F, then records of 131 words; its checks, a fresh one, a file replaced, a lookup.
+-- A database as words: slots used, N, F, then records, each four words and its edges; its checks, a fresh one, a file replaced, a lookup.
 -- Document 01, "Partial paths", second paragraph; 33, 34 and 35 of "Turned back".
 use Prim.Native.Nat.{ℕ, zero, suc, _+_, _-_, _*_}
 use mathlib.Core.Bool.{Bool, true, false}
@@ -18,6 +18,7 @@ use Rattle.semantics.specs.Words.{zeros, wholeSlots, slotsOf}
 pub mod Laws
 pub mod Checked
 pub mod Lookup
+pub mod Conversion
 
 abbrev pub usedIn : List ℕ → ℕ
 usedIn ws = getD ws 0 0
@@ -54,7 +55,7 @@ slotsIn bd ws = map decode (records bd ws)
 abbrev pub knownOwners : ℕ → ℕ → Bool
 knownOwners files f = or (ltb f files) (eqb f nobody)
 
--- a live record has a known owner, a start below N and 1 to 127 edges
+-- a live record has a known owner, a start below N and 1 to as many edges as the bound says
 unfoldable pub sound : Bounds → (ℕ → ℕ → Bool) → ℕ → ℕ → List ℕ → Bool
 sound bd known nodes files [] = true
 sound bd known nodes files (zero ∷ ws) = true

@@ -76,7 +76,7 @@ pub data Walk (g : View) (mine : ℕ → Bool) : ℕ → List ℕ → ℕ → Ty
   stay : {n : ℕ} → Walk g mine n [] n
   step : {n e m : ℕ} {t : NodeId} {es : List ℕ} (p : ℤ) → g .edge e ≡ E.Live (nodeId n) t p → mine e ≡ true → Walk g mine (t .0) es m → Walk g mine n (e ∷ es) m
 
--- a partial path of owner f: 1 to 127 distinct edges of it from a start to an endpoint (for demand 3 the limit is absent)
+-- a partial path of owner f: at least one and at most as many distinct edges of it as the bound says, from a start to an endpoint (for demand 3 the limit is absent)
 pub record Partial (bd : Bounds) (lim : Limit) (g : View) (O : Owners) (f : ℕ) (r : Route) : Type 0 where
   pub begins : O .Starts f (r .start)
   pub walk : Walk g (O .owns f) (r .start) (r .edges) (r .current)

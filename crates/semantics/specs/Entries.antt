@@ -15,11 +15,12 @@ use Rattle.semantics.specs.declared.answer.LinearResolution.{LinearResol
 use Rattle.semantics.specs.declared.answer.Creation.{Creation}
 use Rattle.semantics.specs.declared.answer.Replacement.{Replacement}
 use Rattle.semantics.specs.declared.answer.Finding.{Finding}
-use Rattle.semantics.specs.Limits.{base}
+use Rattle.semantics.specs.Limits.{base, former}
 use Rattle.semantics.specs.Answer.{Answer}
 use Rattle.semantics.specs.Graph.{Graph}
 use Rattle.semantics.specs.Image.{symbolBytes, checkImage}
 use Rattle.semantics.specs.Database.{Part, knownOwners, lookupPart}
+use Rattle.semantics.specs.Database.Conversion.{Converted, convertCall}
 use Rattle.semantics.specs.Calls.{ReplayOutcome, Request, LinearRequest, FileRequest, Outcome, Change, Reply, checkCall, replayCall, completeCall, shadowsCall, directCall, linearCall, stitchedCall, aliasRequest, freshCall, replaceCall, aliasCall}
 use Rattle.semantics.specs.Finding.{FindRequest, findCall}
 use Rattle.semantics.specs.Rewriting.{Rewritten, widen, narrow}
@@ -88,6 +89,10 @@ freshDatabase im words = freshCall (graphIn im) words
 -- a file replaced: the limits on length and on expansions, the work area, the words of the database
 abbrev pub replaceFile : List ℕ → ℕ → SearchOrder → Limit → Limit → List ℕ → List ℕ → Change Replacement
 replaceFile im f order most expansions ws words = replaceCall base knownOwners (graphIn im) (fileRequestOf order most expansions ws f) words
+
+-- a database of the former bound rewritten for the present one in a lent area, of which only the length counts
+abbrev pub convertDatabase : List ℕ → List ℕ → Converted
+convertDatabase old new = convertCall former base knownOwners old (length new)
 
 -- the alias set replaced, lent the same
 abbrev pub replaceAliases : List ℕ → SearchOrder → Limit → Limit → List ℕ → List ℕ → Change Replacement

@@ -23,7 +23,11 @@ pub record Bounds : Type 0 where
   pub expansions : ℕ
 
 abbrev pub base : Bounds
-base = record { edges = 127; expansions = 16777216 }
+base = record { edges = 63; expansions = 16777216 }
+
+-- the bound that databases were made under before document 02, order 6
+abbrev pub former : Bounds
+former = record { edges = 127; expansions = 16777216 }
 
 -- THE NUMBERS THAT FOLLOW FROM THEM, each named once
 

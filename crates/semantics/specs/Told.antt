@@ -38,6 +38,8 @@ use Rattle.semantics.specs.declared.answer.Finding.{Finding}
 use Rattle.semantics.specs.declared.answer.Finding.the-variants as Finding
 use Rattle.semantics.specs.declared.answer.Rewriting.{Rewriting}
 use Rattle.semantics.specs.declared.answer.Rewriting.the-variants as Rewriting
+use Rattle.semantics.specs.declared.answer.Conversion.{Conversion}
+use Rattle.semantics.specs.declared.answer.Conversion.the-variants as Conversion
 pub mod Laws
 
 -- THE REFUSALS, row by row of document 01's table
@@ -155,3 +157,10 @@ toldRewriting (Rewriting.Done length) = 0 ∷ length ∷ []
 toldRewriting (Rewriting.Image r) = toldImage r
 toldRewriting (Rewriting.WideSymbol place) = 38 ∷ place ∷ []
 toldRewriting Rewriting.NoRoom = 32 ∷ []
+
+-- document 02, order 6
+abbrev pub toldConversion : Conversion → List ℕ
+toldConversion Conversion.Done = 0 ∷ []
+toldConversion Conversion.Malformed = 35 ∷ []
+toldConversion Conversion.Full = 33 ∷ []
+toldConversion Conversion.TooLong = 39 ∷ []

@@ -77,3 +77,11 @@ pub enum Rewriting {
     WideSymbol { place: u32 },
     NoRoom,
 }
+
+// A database of longer slots converted: 35, then 33 for too few words or slots, then 39 for a live path over the bound.
+pub enum Conversion {
+    Done,
+    Malformed,
+    Full,
+    TooLong,
+}

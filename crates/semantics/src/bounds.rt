@@ -1,7 +1,9 @@
-// The bounds of document 01, each in one place. specs/Limits.antt has the same numbers for the definitions.
+// The bounds of documents 01 and 02, each in one place. specs/Limits.antt has the same numbers for the definitions.
 
 // How many edges a path may hold.
-pub const MAX_EDGES: usize = 127;
+pub const MAX_EDGES: usize = 63;
+// How many it might hold when databases had longer slots: document 02, order 6.
+pub const FORMER_EDGES: usize = 127;
 // A result or waiting slot in words: the count and the edges.
 pub const SLOT_WORDS: usize = MAX_EDGES + 1;
 // A database slot in words: owner + 1, start, end, the count and the edges.

@@ -17,7 +17,7 @@ pub struct Step {
     pub scope: u32,
 }
 
-// "in a fixed array of 127 numbers": the edges. What both stacks hold stands in the steps, as inside the searches.
+// "in a fixed array": the edges. What both stacks hold stands in the steps, as inside the searches.
 pub struct Path {
     // the reference, the node where the path stands, and how many edges it has
     pub start: u32,

@@ -1,5 +1,5 @@
 -- The words of a slot cut to the first edges of a path, and more edges stored behind them. For every slot length.
--- Document 01, "Answer": "A result slot is 128 words of 32 bits: edge count, edges, zeros .. Waiting paths are held likewise".
+-- Document 01, "Answer": a slot has "edge count, edges, zeros .. Waiting paths are held likewise".
 use Prim.Native.Nat.{ℕ, zero, suc, _+_, _-_, _<_, _≤_}
 use native.Mathlib.Omega.{arith}
 use mathlib.Core.Path.{_≡_, refl, sym, ap, ap₂, _∙_}

@@ -70,7 +70,7 @@ pub record Linked (words links : List ℕ) : Type 0 where
   pub long : length links ≡ LINKS
   pub passes : (n : ℕ) → Passes links (firstLink links n) (startingAt n 0 (slotsIn base words))
 
--- a live record of such words: it lies in them and has 1 to 127 edges
+-- a live record of such words: it lies in them and has at least one edge, at most as many as a path
 pub record Tryable (words : List ℕ) (i : ℕ) : Type 0 where
   pub known : i < RECORDS
   pub inside : InWords base i words

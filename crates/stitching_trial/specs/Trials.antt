@@ -1,5 +1,5 @@
 -- A partial path tried on the path under expansion: its edges appended in order, and what a trial says of the judgement.
--- Document 01, "Answer": "per partial path in stitching: cycle, length, the 127 bound, append, completeness".
+-- Document 01, "Answer": per partial path in stitching cycle, length, the bound on edges, append, completeness.
 use Prim.Native.Nat.{ℕ, _+_, _≤_}
 use mathlib.Core.Path.{_≡_}
 use mathlib.Core.Bool.{true, false}

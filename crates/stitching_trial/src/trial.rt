@@ -1,5 +1,5 @@
-// What becomes of a partial path on the path under expansion. Document 01, "Answer": "per partial path in stitching: cycle, length, the 127
-// bound, append, completeness". The bound is tested on the whole before any edge is appended.
+// What becomes of a partial path on the path under expansion. Document 01, "Answer": per partial path in stitching cycle, length, the bound on
+// edges, append, completeness. The bound is tested on the whole before any edge is appended.
 ghost use mathlib.Core.Path.{_≡_};
 ghost use Rattle.semantics.specs.Lists.{shares};
 ghost use Rattle.stitching_trial.specs.Trials.{Appends, AppendsTo, endedBy, Judging, JudgedAs};

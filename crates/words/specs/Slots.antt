@@ -1,5 +1,5 @@
 -- Slots of L words in a word area: what the functions on slots do, as equations on words. For every slot length L.
--- Document 01, "Answer": "A result slot is 128 words of 32 bits .. Waiting paths are held likewise".
+-- Document 01, "Answer": a result slot has "edge count, edges, zeros .. Waiting paths are held likewise".
 use mathlib.Core.Path.{_≡_}
 use mathlib.Core.List.{List, _++_, flatten}
 use Prim.Native.Nat.{ℕ, _+_, _-_, _*_, _≤_, _<_}

@@ -1,5 +1,5 @@
 // Slots in a word area that the caller lends: cleared, written, read, copied, exchanged and turned round. The slot length is an argument.
-// Document 01, "Answer": "A result slot is 128 words of 32 bits: edge count, edges, zeros", "Waiting paths are held likewise".
+// Document 01, "Answer": a slot has "edge count, edges, zeros", "Waiting paths are held likewise".
 ghost use mathlib.Core.Path.{_≡_};
 ghost use mathlib.Core.List.{_++_, map};
 ghost use Prim.Native.Nat.{_+_, _≤_, _<_};

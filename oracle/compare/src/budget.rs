@@ -6,8 +6,8 @@ use crate::graph::Graph;
 use crate::path::{MOST_EDGES, Path};
 use std::collections::VecDeque;
 
-/// "Waiting paths are held likewise": slots of 128 words in both areas.
-pub const SLOT: usize = 128;
+/// "Result and waiting slots take 64 words": document 02, order 6.
+pub const SLOT: usize = 64;
 
 /// 36 is not tried: a search is given up long before its 16,777,217th expansion,
 /// and whatever answers 36 here is no case.
@@ -86,7 +86,7 @@ impl Budget {
         Ok(true)
     }
 
-    /// Cycle, length, the 127 bound: whether these edges may follow those of a path.
+    /// Cycle, length, the bound on edges: whether these edges may follow those of a path.
     pub fn admits_edges(&mut self, held: &[u32], added: &[u32]) -> Result<bool, Refusal> {
         if added.iter().any(|edge| held.contains(edge)) {
             self.cycles += 1;

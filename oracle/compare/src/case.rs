@@ -17,6 +17,7 @@ pub enum Call {
     Fresh,
     ReplaceFile,
     ReplaceAliases,
+    Convert,
     Lookup,
     Stitched,
     StitchedRecorded,
@@ -54,9 +55,10 @@ pub struct Case {
     pub right_edges: Vec<u32>,
     /// The order, then each limit as whether there is one and its value.
     pub asked: Vec<u64>,
+    /// The database; of a conversion the old area.
     pub words: Vec<u32>,
     pub work: Vec<u32>,
-    /// The result slots, or the words for a replayed path.
+    /// The result slots, the words for a replayed path, or the new area of a conversion.
     pub result: Vec<u32>,
     /// The bytes for a rewritten image.
     pub area: Vec<u8>,

@@ -1,5 +1,5 @@
 //! The database in words, written a second time from document 01, "Partial paths",
-//! and document 02, order 5. The Rust keeps its own in vectors that grow, without the
+//! and document 02, orders 5 and 6. The Rust keeps its own in vectors that grow, without the
 //! set of that order.
 
 use crate::budget::Asked;
@@ -8,13 +8,13 @@ use crate::graph::Graph;
 use crate::partials::{Computed, Owner, compute};
 use crate::path::MOST_EDGES;
 
-/// "Slots used, N, F; then slots of 131: file + 1 (0 means dead), start, end, edge
-/// count, 127 edges with zeros behind the last."
+/// "Slots used, N, F; then slots": "file + 1 (0 means dead), start, end, edge count",
+/// edges "with zeros behind the last"; "database slots 67" (document 02, order 6).
 pub const USED: usize = 0;
 pub const NODES: usize = 1;
 pub const FILES: usize = 2;
 pub const FIRST_SLOT: usize = 3;
-pub const DATABASE_SLOT: usize = 131;
+pub const DATABASE_SLOT: usize = 67;
 pub const OWNER: usize = 0;
 pub const START: usize = 1;
 pub const END: usize = 2;

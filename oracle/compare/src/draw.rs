@@ -56,7 +56,7 @@ fn narrow(random: &mut Random) -> Graph {
     if random.below(1_500) == 0 {
         return shapes::largest(random);
     }
-    match random.weighted(&[64, 13, 4, 6, 6, 1, 6, 6]) {
+    match random.weighted(&[64, 17, 5, 6, 6, 1, 6, 6]) {
         0 => mixed(random),
         1 => shapes::chain(random),
         2 => shapes::tower(random),

@@ -1,5 +1,5 @@
 //! A call answered by the given library cfglib, in the form of our answers.
-//! It has no image check, no bound of 127 edges, no areas and no words, so it is
+//! It has no image check, no bound of 63 edges, no areas and no words, so it is
 //! asked only where none of these has refused the call.
 
 use crate::case::{Call, Case, Outcome};
@@ -18,7 +18,7 @@ use cfglib::graph::stack::{
 /// Whether the given library has what led to an answer of this number.
 pub fn has(case: &Case, number: u64) -> bool {
     match case.call {
-        Call::FindName | Call::Widen | Call::Narrow | Call::ReplaceAliases => false,
+        Call::FindName | Call::Widen | Call::Narrow | Call::ReplaceAliases | Call::Convert => false,
         Call::Lookup => is_buildable(&case.words),
         Call::ReplaceFile | Call::Stitched | Call::StitchedRecorded => {
             is_answer(number) && is_buildable(&case.words)

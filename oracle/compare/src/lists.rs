@@ -2,7 +2,7 @@
 
 use crate::budget::{Asked, Slots};
 use crate::graph::Graph;
-use crate::path::{Path, replay};
+use crate::path::{MOST_EDGES, Path, replay};
 use crate::random::Random;
 use crate::search::direct;
 
@@ -74,7 +74,8 @@ fn number(random: &mut Random, graph: &Graph) -> u32 {
 }
 
 fn walk(random: &mut Random, graph: &Graph, reference: u32) -> Vec<u32> {
-    let most = *random.one_of(&[2, 4, 8, 8, 126, 127, 128, 129, 140]);
+    let about = [-1, 0, 1, 2, 13, 40].map(|more| MOST_EDGES.saturating_add_signed(more));
+    let most = *random.one_of(&[&[2, 4, 8, 8], &about[..]].concat());
     let Ok(mut path) = Path::from_reference(graph, reference) else {
         return vec![];
     };

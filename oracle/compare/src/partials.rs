@@ -62,7 +62,7 @@ impl Computed {
     }
 }
 
-/// "Each edge passes cycle, length and the 127 bound, is recorded if it reaches an
+/// "Each edge passes cycle, length and the 127 bound", 63 now, "is recorded if it reaches an
 /// endpoint, and is then pushed." The limit on complete paths has no meaning here.
 pub fn compute(
     graph: &Graph,

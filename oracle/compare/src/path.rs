@@ -4,8 +4,9 @@ use crate::check::Refusal;
 use crate::graph::{Graph, JUMP, Node};
 use crate::replayed::{Passage, Replayed};
 
-/// "A path holds at most 127 edges."
-pub const MOST_EDGES: usize = 127;
+/// "A path holds at most 127 edges", of which document 02, order 6, says: "the bound
+/// becomes 63 edges wherever 127 stood".
+pub const MOST_EDGES: usize = 63;
 
 /// A step: the node that it leaves, and its precedence.
 type Step = (u32, i32);

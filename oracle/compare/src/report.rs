@@ -4,7 +4,7 @@ use crate::budget::{Asked, Slots};
 use crate::case::{Call, Case, Outcome};
 use crate::check::check;
 use crate::comparison::{Compared, compare};
-use crate::database::{has_aliases, lookup};
+use crate::database::{has_aliases, lookup, partial_paths};
 use crate::graph::Version;
 use crate::names::{Named, find_name};
 use crate::path::replay;
@@ -36,6 +36,8 @@ pub struct Counts {
     /// over databases without the set that belongs to no file, and with it; those with
     /// recorded paths over its edges, likewise.
     agreements: [[u64; 2]; 2],
+    /// Conversions: live paths that stay, and areas with dead slots between them.
+    converted: [u64; 2],
     /// Replayed paths: all, and those with jumps, symbols, attached scopes, scopes.
     replayed: [u64; 5],
 }
@@ -47,7 +49,9 @@ impl Counts {
         self.given += u64::from(compared.given.is_some());
         self.wide += u64::from(is_wide(case));
         self.turned += u64::from(compared.turned.is_some());
-        self.aliases += u64::from(has_aliases(&case.words));
+        // an old area has slots of another size
+        let is_present = case.call != Call::Convert;
+        self.aliases += u64::from(is_present && has_aliases(&case.words));
         if let Some(found) = compared.agreement {
             let [all, over] = &mut self.agreements[usize::from(found.with_aliases)];
             *all += 1;
@@ -61,6 +65,10 @@ impl Counts {
             .or_default() += 1;
         let is_empty_part = case.call == Call::Lookup && lookup(&case.words, case.number).1 == 0;
         self.empty_parts += u64::from(is_empty_part);
+        if case.call == Call::Convert {
+            self.add_converted(&compared.second.result);
+            return;
+        }
         if case.call == Call::Replay && compared.number == 0 {
             self.add_replayed(case);
             return;
@@ -76,6 +84,17 @@ impl Counts {
                 *count += flag;
             }
         }
+    }
+
+    /// A refused one leaves no words.
+    fn add_converted(&mut self, new: &[u32]) {
+        if new.first().is_none_or(|&used| used == 0) {
+            return;
+        }
+        let paths = partial_paths(new);
+        let live = paths.iter().flatten().count();
+        self.converted[0] += live as u64;
+        self.converted[1] += u64::from(live < paths.len());
     }
 
     fn add_name(&mut self, case: &Case) {
@@ -151,6 +170,8 @@ impl Counts {
             "accepted images of version 2 {}, calls put to both versions {}",
             self.wide, self.turned
         );
+        let [live, areas] = self.converted;
+        println!("live paths converted {live}, areas with dead slots {areas}");
         self.print_agreements();
         println!("flags: length {length}, path count {count}, complete paths {complete}");
         println!(

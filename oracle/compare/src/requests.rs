@@ -7,7 +7,7 @@ use crate::check::check;
 use crate::graph::{Graph, Node};
 use crate::names::find_name;
 use crate::partials::{Owner, compute};
-use crate::path::replay;
+use crate::path::{MOST_EDGES, replay};
 use crate::random::Random;
 use crate::rewriting::bytes_of_other;
 use crate::second::found;
@@ -34,6 +34,9 @@ const GUESS: Needs = Needs {
 
 /// A refused replay leaves zeros: the end and three empty lists.
 const REFUSED_PATH: usize = 4;
+
+/// Limits are drawn about it.
+const MOST: u64 = MOST_EDGES as u64;
 
 /// Areas are seldom larger than so many slots: filling them would take the time.
 const MOST_DRAWN: usize = 400;
@@ -253,7 +256,7 @@ fn limit(random: &mut Random, limit: &mut Option<u64>, need: usize, chance: usiz
     let drawn = match random.below(8) {
         0 => 0,
         1 => random.below(need + 3) as u64,
-        2 => *random.one_of(&[u64::MAX, 1 << 32, 126, 127, 128]),
+        2 => *random.one_of(&[u64::MAX, 1 << 32, MOST - 1, MOST, MOST + 1]),
         3 => need as u64,
         4 => need as u64 + 1,
         _ => (need as u64).saturating_sub(1),

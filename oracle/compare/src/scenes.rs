@@ -5,6 +5,7 @@ use crate::check::check;
 use crate::damage;
 use crate::database::{ALIASES, DATABASE_SLOT, FIRST_SLOT, USED};
 use crate::draw;
+use crate::former;
 use crate::graph::{Graph, Node, Version};
 use crate::lists;
 use crate::partials::Owner;
@@ -25,7 +26,7 @@ const SEARCHES: [Call; 5] = [
 const STITCHED: [Call; 2] = [Call::Stitched, Call::StitchedRecorded];
 
 pub fn scene(random: &mut Random) -> Vec<Case> {
-    let kind = random.weighted(&[30, 30, 25, 15, 12, 15]);
+    let kind = random.weighted(&[30, 30, 25, 15, 12, 15, 8]);
     let graph = if kind == 5 && random.percent(80) {
         draw::aliased(random)
     } else {
@@ -37,7 +38,8 @@ pub fn scene(random: &mut Random) -> Vec<Case> {
         2 => any_slots(random, &graph),
         3 => damages(random, &graph),
         4 => rewritings(random, &graph),
-        _ => aliases(random, &graph),
+        5 => aliases(random, &graph),
+        _ => conversions(random, &graph),
     };
     cases.push(Case::new(Call::Check, &graph.image()));
     cases
@@ -299,6 +301,49 @@ fn any_slots(random: &mut Random, graph: &Graph) -> Vec<Case> {
         }
     }
     cases
+}
+
+/// Old areas of all kinds; then one with slots for this graph, with which lookups,
+/// stitched searches and a replacement go on.
+fn conversions(random: &mut Random, graph: &Graph) -> Vec<Case> {
+    let mut cases = Vec::new();
+    for _ in 0..10 {
+        let old = if random.below(60) == 0 {
+            former::many_slots(random)
+        } else {
+            former::any_area(random)
+        };
+        cases.push(conversion(random, old));
+    }
+    let words = slots::any_words(random, graph);
+    let old = former::as_before(random, &words);
+    let case = conversion(random, old);
+    let outcome = second::run(&case);
+    cases.push(case);
+    if outcome.number() == 0 {
+        cases.extend(behind_conversion(random, graph, &outcome.result));
+    }
+    cases
+}
+
+fn behind_conversion(random: &mut Random, graph: &Graph, words: &[u32]) -> Vec<Case> {
+    let image = graph.image();
+    let mut cases = vec![lookup(random, words)];
+    for call in STITCHED {
+        cases.extend(search(random, graph, &image, call, words));
+    }
+    let owner = any_owner(random, graph);
+    cases.extend(replacement(random, &image, owner, words));
+    cases
+}
+
+fn conversion(random: &mut Random, old: Vec<u32>) -> Case {
+    let mut case = Case::new(Call::Convert, &[]);
+    let room = former::room(random, &old);
+    case.result = random.rubbish(room);
+    case.words = old;
+    case.answer_length = requests::answer_length(random);
+    case
 }
 
 /// Damaged images, mostly for the check alone; every other call must refuse them alike.

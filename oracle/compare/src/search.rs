@@ -98,7 +98,7 @@ fn explore(
     Ok(Found::new(budget))
 }
 
-/// "Cycle, length, the 127 bound, append." An unknown edge ends the search, other
+/// "Cycle, length, the 127 bound", which is 63 now, "append." An unknown edge ends the search, other
 /// errors are rejections; an edge of the graph is never unknown.
 fn extended(
     graph: &Graph,

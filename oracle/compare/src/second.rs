@@ -3,6 +3,7 @@
 use crate::budget::{SLOT, Slots};
 use crate::case::{Call, Case, Outcome};
 use crate::check::{Refusal, check};
+use crate::conversion::convert;
 use crate::database::{check_database, fresh, lookup, partial_paths, replace};
 use crate::graph::Version;
 use crate::names::find_name;
@@ -32,6 +33,7 @@ fn answered(case: &Case) -> Result<Outcome, Refusal> {
         Call::Fresh => created(case),
         Call::ReplaceFile => replaced(case, Owner::File(case.number)),
         Call::ReplaceAliases => replaced(case, Owner::Nobody),
+        Call::Convert => converted(case),
         Call::Lookup => Ok(looked_up(case)),
         Call::Widen => rewritten(case, Version::Wide),
         Call::Narrow => rewritten(case, Version::Narrow),
@@ -141,6 +143,14 @@ fn rewritten(case: &Case, wanted: Version) -> Result<Outcome, Refusal> {
     let bytes = rewriting::rewritten(&case.image, wanted, case.area.len())?;
     let mut outcome = Outcome::new(case, vec![0, bytes.len() as u64]);
     outcome.area[..bytes.len()].copy_from_slice(&bytes);
+    Ok(outcome)
+}
+
+/// "Words behind the used slots are zero, and any refusal leaves the written area" so.
+fn converted(case: &Case) -> Result<Outcome, Refusal> {
+    let new = convert(&case.words, case.result.len())?;
+    let mut outcome = Outcome::new(case, vec![0]);
+    outcome.result[..new.len()].copy_from_slice(&new);
     Ok(outcome)
 }
 

@@ -1,10 +1,11 @@
 //! Graphs of a shape that blind draws hardly meet: long paths about the bound of
-//! 127 edges, deep stacks, long lists of scopes, many paths at once.
+//! 63 edges, deep stacks, long lists of scopes, many paths at once.
 
 use crate::draw::precedence;
 use crate::graph::{
     Edge, Graph, JUMP, MOST_FILES, MOST_GRAPH_EDGES, MOST_NODES, Node, ROOT, Version,
 };
+use crate::path::MOST_EDGES;
 use crate::random::Random;
 
 const SYMBOL: u64 = 7;
@@ -77,7 +78,7 @@ fn about_bound(random: &mut Random) -> usize {
     if random.percent(20) {
         return random.within(1, 40);
     }
-    random.within(124, 131)
+    random.within(MOST_EDGES - 3, MOST_EDGES + 4)
 }
 
 /// Reference, scopes in a row, definition; a few edges beside the row double its
@@ -134,7 +135,7 @@ pub fn tower(random: &mut Random) -> Graph {
     let height = if is_low {
         random.within(1, 20)
     } else {
-        random.within(60, 65)
+        random.within(28, 33)
     };
     let attached = add(&mut graph, scope(0, true));
     add(&mut graph, push(0, true));
@@ -168,7 +169,7 @@ pub fn tower(random: &mut Random) -> Graph {
 /// Each rung attaches one scope more; then jump takes them off one by one.
 pub fn ladder(random: &mut Random) -> Graph {
     let mut graph = start(1);
-    let (least, most) = *random.one_of(&[(1, 12), (36, 63)]);
+    let (least, most) = *random.one_of(&[(1, 8), (18, 31)]);
     let rungs = random.within(least, most);
     let scopes: Vec<u32> = (0..rungs)
         .map(|_| add(&mut graph, scope(0, true)))

@@ -1,9 +1,10 @@
 //! A case that differs made smaller, as long as it still differs.
 
 use crate::budget::SLOT;
-use crate::case::Case;
+use crate::case::{Call, Case};
 use crate::check::check;
 use crate::comparison::compare;
+use crate::conversion::{FORMER_SLOT, former_place};
 use crate::database::{
     COUNT, DATABASE_SLOT, EDGES, FIRST_SLOT, NODES, OWNER, START, USED, is_sound, place,
 };
@@ -50,9 +51,14 @@ fn smaller(case: &Case) -> Cases<'_> {
         ),
         Err(_) => shorter_image(case),
     };
+    let words = if case.call == Call::Convert {
+        fewer_former_slots(case)
+    } else {
+        shorter_words(case)
+    };
     Box::new(
         graphs
-            .chain(shorter_words(case))
+            .chain(words)
             .chain(shorter_areas(case))
             .chain(simpler(case)),
     )
@@ -214,6 +220,31 @@ fn shorter_words(case: &Case) -> Cases<'_> {
     let behind = (FIRST_SLOT + DATABASE_SLOT * used).min(case.words.len());
     let zero = zeroed(case, |case| &mut case.words[behind..]);
     Box::new(slots.chain(lengths).chain(tails).chain(zero))
+}
+
+/// An old area without one slot, with one more word zero, or shorter.
+fn fewer_former_slots(case: &Case) -> Cases<'_> {
+    let lent = case.words.len().saturating_sub(FIRST_SLOT) / FORMER_SLOT;
+    let slots = (0..lent).rev().map(move |number| {
+        let mut less = case.clone();
+        less.words
+            .drain(former_place(number)..former_place(number + 1));
+        less.words[USED] = less.words[USED].saturating_sub(1);
+        less
+    });
+    let cut = lengths(case.words.len(), FORMER_SLOT)
+        .into_iter()
+        .map(move |length| {
+            let mut less = case.clone();
+            less.words.truncate(length);
+            less
+        });
+    let zeros = (0..case.words.len()).map(move |at| {
+        let mut less = case.clone();
+        less.words[at] = 0;
+        less
+    });
+    Box::new(slots.chain(cut).chain(zeros))
 }
 
 /// Shorter lengths to try.

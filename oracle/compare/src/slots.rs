@@ -1,5 +1,6 @@
 //! Database words that no replacement makes: any slots, and malformed words.
 
+use crate::conversion::FORMER_EDGES;
 use crate::database::{
     ALIASES, COUNT, DATABASE_SLOT, EDGES, END, FILES, MOST_SLOTS, NODES, OWNER, PartialPath, START,
     USED, capacity, place,
@@ -8,6 +9,8 @@ use crate::graph::Graph;
 use crate::path::MOST_EDGES;
 use crate::random::Random;
 use crate::requests::number_about;
+
+const MOST: u32 = MOST_EDGES as u32;
 
 /// Sound words with any slots for the graph: walks, wrong sources, unknown and
 /// repeated edges, dead slots with rubbish, rubbish behind the slots in use.
@@ -81,13 +84,13 @@ fn first_edge(random: &mut Random, graph: &Graph, from: &[u32]) -> u32 {
     *random.one_of(&leaving)
 }
 
-/// 1 to 127 edges that follow one another, mostly.
+/// 1 to 63 edges that follow one another, mostly.
 fn edges(random: &mut Random, graph: &Graph, from: &[u32]) -> Vec<u32> {
     let bound = graph.edges.len();
     let short = [1, 1, 2, 3, 3, 5, 8];
     // Long rows in two or three pieces, about the bound together.
-    let long = [42, 63, 64, 65, 126, MOST_EDGES];
-    let is_long = bound > 100 && random.percent(70);
+    let long = [21, 31, 32, 33, MOST_EDGES - 1, MOST_EDGES];
+    let is_long = bound > 50 && random.percent(70);
     let most = *if is_long {
         random.one_of(&long)
     } else {
@@ -154,7 +157,7 @@ fn spoil_slot(random: &mut Random, words: &mut [u32], field: usize) {
             ALIASES - 1,
         ]),
         START => *random.one_of(&[bounds[2], bounds[3], u32::MAX]),
-        _ => *random.one_of(&[0, 1, 127, 128, u32::MAX]),
+        _ => *random.one_of(&[0, 1, MOST, MOST + 1, FORMER_EDGES as u32, u32::MAX]),
     };
     if used > 0 {
         words[place(random.below(used)) + field] = drawn;

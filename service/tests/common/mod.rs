@@ -153,13 +153,13 @@ pub fn is_zero(words: &[u32]) -> bool {
 }
 
 /// A result area of so many words: for each path its edge count, its edges and
-/// zeros up to 128 words; zeros behind the last.
+/// zeros up to the end of its slot; zeros behind the last.
 pub fn area<P: AsRef<[u32]>>(paths: &[P], words: usize) -> Vec<u32> {
     let mut area = Vec::new();
     for (number, path) in paths.iter().enumerate() {
         area.push(path.as_ref().len() as u32);
         area.extend(path.as_ref());
-        area.resize(128 * (number + 1), 0);
+        area.resize(SLOT_WORDS * (number + 1), 0);
     }
     area.resize(words, 0);
     area
@@ -174,23 +174,33 @@ pub type Slot<'a> = Option<(u32, u32, u32, &'a [u32])>;
 
 /// The words of a database of this N and F with room for so many slots: slots
 /// used, N, F; each slot's file + 1, start, end, edge count, edges and zeros up
-/// to 131 words; zeros behind the last.
+/// to its end; zeros behind the last.
 pub fn database(nodes: u32, files: u32, slots: &[Slot], room: usize) -> Vec<u32> {
+    database_of(RECORD_WORDS, nodes, files, slots, room)
+}
+
+/// The same with slots of so many words.
+pub fn database_of(size: usize, nodes: u32, files: u32, slots: &[Slot], room: usize) -> Vec<u32> {
     let mut words = vec![slots.len() as u32, nodes, files];
     for (number, slot) in slots.iter().enumerate() {
         if let &Some((file, start, end, edges)) = slot {
             words.extend([file + 1, start, end, edges.len() as u32]);
             words.extend(edges);
         }
-        words.resize(3 + 131 * (number + 1), 0);
+        words.resize(DATABASE_HEAD + size * (number + 1), 0);
     }
-    words.resize(3 + 131 * room, 0);
+    words.resize(DATABASE_HEAD + size * room, 0);
     words
+}
+
+/// Where a slot of a database begins.
+pub fn place(number: usize) -> usize {
+    DATABASE_HEAD + RECORD_WORDS * number
 }
 
 /// Words for so many slots, none of them 0.
 pub fn blank(room: usize) -> Vec<u32> {
-    vec![7; DATABASE_HEAD + room * RECORD_WORDS]
+    vec![7; place(room)]
 }
 
 /// A database with room for 16 slots in which file 0 was replaced.

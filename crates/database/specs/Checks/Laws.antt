@@ -171,7 +171,7 @@ module _ (bd : Bounds) (known : ℕ → ℕ → Bool) (ws : List ℕ) where
         subst (λ (r : List ℕ). sound bd known (nodesIn ws) (filesIn ws) r ≡ true) (record-is bd i ws h)
         (every-at (sound bd known (nodesIn ws) (filesIn ws)) (records bd ws) i (parts .2) (omega (arith, count-records bd ws)))
 
-    -- a live record has a known owner, starts at a node below N and has 1 to 127 edges
+    -- a live record has a known owner, starts at a node below N and has 1 to as many edges as the bound says
     pub formed-live : (i f : ℕ) → i < usedIn ws → ownerWord bd i ws ≡ suc f → Live bd known (nodesIn ws) (filesIn ws) f (startWord bd i ws) (countWord bd i ws)
     formed-live i f h e =
         let n = countWord bd i ws in

@@ -1,6 +1,6 @@
 -- The judgement in code is that of the definitions, and so is a trial.
 -- Serves document 01, "Answer", and document 02, order 4.
-use Prim.Native.Nat.{ℕ, suc, _+_, _*_, _<_, _≤_}
+use Prim.Native.Nat.{ℕ, suc, _+_, _<_, _≤_}
 use native.Mathlib.Omega.{arith}
 use mathlib.Core.Path.{_≡_, refl, sym, ap, subst, _∙_}
 use mathlib.Core.Bool.{Bool, true, false}
@@ -10,7 +10,7 @@ use lib.ListN.{length}
 use Rattle.semantics.specs.declared.graph.Node.{Node}
 use Rattle.semantics.specs.declared.search.Limit.{Limit}
 use Rattle.semantics.specs.Lists.{has}
-use Rattle.semantics.specs.Limits.{base, within, maxEdges, stepsLength, stepLength}
+use Rattle.semantics.specs.Limits.{base, within, maxEdges, stepsLength}
 use Rattle.semantics.specs.declared.judgement.EdgeJudgement.{EdgeJudgement}
 use Rattle.semantics.specs.declared.judgement.EdgeJudgement.the-variants as Judgement
 use Rattle.semantics.specs.Answer.{ok}

@@ -33,7 +33,7 @@ use Rattle.semantics.specs.Words.{zeros}
 use Rattle.semantics.specs.Words.Laws.{whole-fits}
 use Rattle.semantics.specs.Database.{usedIn, capacity, recordPlace, knownOwners, slotsIn, wellFormed, checkDatabase, hasRoom, replaceWords}
 use Rattle.semantics.specs.Calls.{FileRequest, fileSettingOf, filingOutcome, computationOutcome, replacementOutcome, aliasOutcome, replaceCall, aliasCall}
-use Rattle.storage.specs.Index.{Loaded, Sized}
+use Rattle.storage.specs.Index.{Loaded}
 use Rattle.path_frontier.specs.Frontier.Stands.{stands-blank}
 use Rattle.database.specs.declared.check.Inspected.{Inspected}
 use Rattle.database.specs.declared.check.Inspected.the-variants as Inspected

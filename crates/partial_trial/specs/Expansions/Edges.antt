@@ -10,7 +10,6 @@ use Rattle.semantics.specs.declared.refusal.PartialPathRefusal.{PartialPathRefu
 use Rattle.semantics.specs.Lists.{pick, select}
 use Rattle.semantics.specs.Answer.{Answer, ok, refuse}
 use Rattle.semantics.specs.Answer.Laws.{ok-inj, refuse-ok}
-use Rattle.semantics.specs.declared.graph.Node.{Node}
 use Rattle.semantics.specs.Graph.{View, viewOf}
 use Rattle.semantics.specs.Enumeration.{State, Setting, Try, one, each}
 use Rattle.semantics.specs.Enumeration.Statistics.{one-moved}

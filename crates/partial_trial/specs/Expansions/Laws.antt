@@ -17,7 +17,7 @@ use Rattle.semantics.specs.declared.graph.Edge.the-variants as E
 use Rattle.semantics.specs.declared.search.Limit.{Limit}
 use Rattle.semantics.specs.declared.search.SearchStats.{SearchStats}
 use Rattle.semantics.specs.declared.refusal.PartialPathRefusal.the-variants.{TooLong}
-use Rattle.semantics.specs.Lists.{or, and, pick, has}
+use Rattle.semantics.specs.Lists.{and, pick, has}
 use Rattle.semantics.specs.Lists.Laws.{length-snoc}
 use Rattle.semantics.specs.Limits.{base, within, maxEdges, slotLength, nobody}
 use Rattle.semantics.specs.Graph.{nodeId, View, viewOf, fileOf, isFile, lacksFile, isEndpoint}

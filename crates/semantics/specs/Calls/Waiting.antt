@@ -2,7 +2,7 @@
 -- figure are enough: the same answer and the same words. With fewer the call is 31. So an operator lends exactly the figure. Document 02, order 2.
 use Prim.Native.Nat.{ℕ, _≤_, _<_}
 use native.Mathlib.Omega.{arith}
-use mathlib.Core.Path.{_≡_, refl, sym, _∙_, ap, subst}
+use mathlib.Core.Path.{_≡_, refl, sym, subst}
 use mathlib.Core.Logic.{_⊎_, ⊎-elim}
 use mathlib.Core.Bool.{Bool, true, false, true≢false}
 use mathlib.Core.List.{List, [], _∷_}
@@ -22,7 +22,7 @@ use Rattle.semantics.specs.declared.answer.Replacement.{Replacement}
 use Rattle.semantics.specs.declared.answer.Replacement.the-variants as Replacement
 use Rattle.semantics.specs.Limits.{Bounds, slotWords, nobody}
 use Rattle.semantics.specs.Answer.{Answer, ok, refuse, andThen, wrap}
-use Rattle.semantics.specs.Answer.Laws.{refuse-ok, andThen-ok}
+use Rattle.semantics.specs.Answer.Laws.{refuse-ok}
 use Rattle.semantics.specs.Graph.{Graph, View, viewOf}
 use Rattle.semantics.specs.Path.{Path, fromReference}
 use Rattle.semantics.specs.Enumeration.{Setting, State, Try, slots, enumerate, reportOf}

@@ -91,7 +91,7 @@ lent : List ℕ → List ℕ
 unfolding filing
 lent words = toldReplacement ((filing base (fileRequest base BreadthFirst Absent Absent 8 9) imageA words) .answer)
 
--- the stored N and F, and one slot: the first word, start, end, edge count, and 127 words 8
+-- the stored N and F, and one slot: the first word, start, end, edge count, and a word 8 for each edge that it may have
 abbrev oneSlot : ℕ → ℕ → ℕ → ℕ → ℕ → ℕ → List ℕ
 oneSlot nodes files first start end count = 1 ∷ nodes ∷ files ∷ first ∷ start ∷ end ∷ count ∷ replicate maxEdges 8
 
@@ -109,7 +109,7 @@ lendings =
     ∷ (lent (oneSlot 6 65535 65536 0 0 1) gives 35 ∷ [])
     ∷ (lent (oneSlot 6 65536 65536 0 0 1) gives 34 ∷ [])
     ∷ (lent (oneSlot 6 65535 65535 0 0 1) gives 34 ∷ [])
-    -- the edge count still is 1 to 127
+    -- the edge count still is 1 to 63
     ∷ (lent (oneSlot 6 1 65535 0 0 0) gives 35 ∷ [])
     ∷ (lent (oneSlot 6 1 65535 0 0 maxEdges) gives 21 ∷ 9 ∷ [])
     ∷ (lent (oneSlot 6 1 65535 0 0 slotLength) gives 35 ∷ [])
@@ -173,16 +173,16 @@ small = imageOf 3 (reference 0 7 ∷ definition 0 7 ∷ reference 1 7 ∷ defini
 
 -- slots of file 0, of none, of the set and of file 1, each with words 8 behind what it holds
 abbrev old0 : List ℕ
-old0 = 1 ∷ 2 ∷ 3 ∷ 1 ∷ 0 ∷ replicate 126 8
+old0 = 1 ∷ 2 ∷ 3 ∷ 1 ∷ 0 ∷ replicate (maxEdges - 1) 8
 
 abbrev oldDead : List ℕ
 oldDead = 0 ∷ 5 ∷ 6 ∷ 7 ∷ replicate maxEdges 8
 
 abbrev oldSet : List ℕ
-oldSet = 65535 ∷ 3 ∷ 9 ∷ 2 ∷ 4 ∷ 5 ∷ replicate 125 8
+oldSet = 65535 ∷ 3 ∷ 9 ∷ 2 ∷ 4 ∷ 5 ∷ replicate (maxEdges - 2) 8
 
 abbrev old1 : List ℕ
-old1 = 2 ∷ 3 ∷ 9 ∷ 2 ∷ 4 ∷ 5 ∷ replicate 125 8
+old1 = 2 ∷ 3 ∷ 9 ∷ 2 ∷ 4 ∷ 5 ∷ replicate (maxEdges - 2) 8
 
 abbrev newSet : List ℕ
 newSet = 65535 ∷ 0 ∷ 1 ∷ 1 ∷ 2 ∷ zeros (maxEdges - 1)
@@ -200,9 +200,9 @@ pub replacements : List (Row (List (List ℕ)))
 unfolding afterSet afterFile
 replacements =
     -- among words 9: used, N and F; 65,535, root, the end, edge count, edges and zeros; the words behind stay
-    (afterSet 1 small (0 ∷ 4 ∷ 2 ∷ replicate 133 9) gives (0 ∷ 2 ∷ 1 ∷ 0 ∷ 0 ∷ 0 ∷ 1 ∷ []) ∷ zeros slotLength ∷ databaseOf 1 7 3 (newSet ∷ (9 ∷ 9 ∷ []) ∷ []) ∷ [])
-    -- the set's slot becomes zeros, all 131; the files' keep their words, the dead one too; the new slot is the next; N and F are the graph's
-    ∷ (afterSet 1 small (databaseOf 4 4 2 (old0 ∷ oldDead ∷ oldSet ∷ old1 ∷ replicate 133 8 ∷ [])) gives
+    (afterSet 1 small (0 ∷ 4 ∷ 2 ∷ replicate (recordLength + 2) 9) gives (0 ∷ 2 ∷ 1 ∷ 0 ∷ 0 ∷ 0 ∷ 1 ∷ []) ∷ zeros slotLength ∷ databaseOf 1 7 3 (newSet ∷ (9 ∷ 9 ∷ []) ∷ []) ∷ [])
+    -- the set's slot becomes zeros, all its words; the files' keep their words, the dead one too; the new slot is the next; N and F are the graph's
+    ∷ (afterSet 1 small (databaseOf 4 4 2 (old0 ∷ oldDead ∷ oldSet ∷ old1 ∷ replicate (recordLength + 2) 8 ∷ [])) gives
     (0 ∷ 2 ∷ 1 ∷ 0 ∷ 0 ∷ 0 ∷ 1 ∷ []) ∷ zeros slotLength ∷ databaseOf 5 7 3 (old0 ∷ oldDead ∷ zeros recordLength ∷ old1 ∷ newSet ∷ (8 ∷ 8 ∷ []) ∷ []) ∷ [])
     -- every one of them does, and the words beyond use stay, whatever they are
     ∷ (afterSet 1 small (databaseOf 2 4 2 (oldSet ∷ newSet ∷ replicate recordLength 8 ∷ oldSet ∷ [])) gives
@@ -213,7 +213,7 @@ replacements =
     ∷ (afterFile 0 (databaseOf 3 4 2 (old0 ∷ oldDead ∷ oldSet ∷ replicate recordLength 8 ∷ [])) gives
     (0 ∷ 3 ∷ 1 ∷ 0 ∷ 0 ∷ 0 ∷ 2 ∷ []) ∷ zeros (2 * slotLength) ∷ databaseOf 4 7 3 (zeros recordLength ∷ oldDead ∷ oldSet ∷ (1 ∷ 2 ∷ 3 ∷ 1 ∷ 0 ∷ zeros (maxEdges - 1)) ∷ []) ∷ [])
     -- refused, every word stays, and the work area is zero: 33, 31, 34, 35, the image
-    ∷ (afterSet 1 small (databaseOf 2 7 3 (oldSet ∷ old0 ∷ replicate 130 8 ∷ [])) gives (33 ∷ []) ∷ zeros slotLength ∷ databaseOf 2 7 3 (oldSet ∷ old0 ∷ replicate 130 8 ∷ []) ∷ [])
+    ∷ (afterSet 1 small (databaseOf 2 7 3 (oldSet ∷ old0 ∷ replicate (recordLength - 1) 8 ∷ [])) gives (33 ∷ []) ∷ zeros slotLength ∷ databaseOf 2 7 3 (oldSet ∷ old0 ∷ replicate (recordLength - 1) 8 ∷ []) ∷ [])
     ∷ (afterSet 0 small (databaseOf 1 7 3 (oldSet ∷ replicate recordLength 8 ∷ [])) gives (31 ∷ []) ∷ [] ∷ databaseOf 1 7 3 (oldSet ∷ replicate recordLength 8 ∷ []) ∷ [])
     ∷ (afterSet 1 small (databaseOf 1 8 3 (oldSet ∷ [])) gives (34 ∷ []) ∷ zeros slotLength ∷ databaseOf 1 8 3 (oldSet ∷ []) ∷ [])
     ∷ (afterSet 1 small (databaseOf 2 7 3 (oldSet ∷ [])) gives (35 ∷ []) ∷ zeros slotLength ∷ databaseOf 2 7 3 (oldSet ∷ []) ∷ [])

@@ -20,7 +20,7 @@ lent : Bounds → List ℕ → List ℕ
 unfolding filing
 lent bd words = toldReplacement ((filing bd (fileRequest bd BreadthFirst Absent Absent 8 9) imageA words) .answer)
 
--- the stored N and F, and one slot: file + 1, start, end, edge count, and 127 words 8
+-- the stored N and F, and one slot: file + 1, start, end, edge count, and a word 8 for each edge that it may have
 abbrev oneSlot : ℕ → ℕ → ℕ → ℕ → ℕ → ℕ → List ℕ
 oneSlot nodes files owner start end count = 1 ∷ nodes ∷ files ∷ owner ∷ start ∷ end ∷ count ∷ replicate maxEdges 8
 
@@ -32,11 +32,11 @@ lendings =
     ∷ (lent base (0 ∷ []) gives 35 ∷ [])
     ∷ (lent base (0 ∷ 6 ∷ []) gives 35 ∷ [])
     ∷ (lent base (0 ∷ 6 ∷ 1 ∷ []) gives 21 ∷ 9 ∷ [])
-    -- slots used above the whole slots lent: 130 words are none, 131 are one
-    ∷ (lent base (1 ∷ 6 ∷ 1 ∷ zeros 130) gives 35 ∷ [])
+    -- slots used above the whole slots lent: 66 words are none, 67 are one
+    ∷ (lent base (1 ∷ 6 ∷ 1 ∷ zeros (recordLength - 1)) gives 35 ∷ [])
     ∷ (lent base (1 ∷ 6 ∷ 1 ∷ zeros recordLength) gives 21 ∷ 9 ∷ [])
-    ∷ (lent base (2 ∷ 6 ∷ 1 ∷ zeros 261) gives 35 ∷ [])
-    ∷ (lent base (2 ∷ 6 ∷ 1 ∷ zeros 262) gives 21 ∷ 9 ∷ [])
+    ∷ (lent base (2 ∷ 6 ∷ 1 ∷ zeros (2 * recordLength - 1)) gives 35 ∷ [])
+    ∷ (lent base (2 ∷ 6 ∷ 1 ∷ zeros (2 * recordLength)) gives 21 ∷ 9 ∷ [])
     -- capacity 4,096, whatever is lent: with slots of 5 words, so that few are needed
     ∷ (lent (bounded 1 9) (4096 ∷ 6 ∷ 1 ∷ zeros 20480) gives 21 ∷ 9 ∷ [])
     ∷ (lent (bounded 1 9) (4096 ∷ 6 ∷ 1 ∷ zeros 20485) gives 21 ∷ 9 ∷ [])
@@ -47,7 +47,7 @@ lendings =
     -- start 5 is one, start 6 is N
     ∷ (lent base (oneSlot 6 1 1 5 3 1) gives 21 ∷ 9 ∷ [])
     ∷ (lent base (oneSlot 6 1 1 6 3 1) gives 35 ∷ [])
-    -- edge counts 0, 127, 128
+    -- edge counts 0, 63, 64
     ∷ (lent base (oneSlot 6 1 1 2 3 0) gives 35 ∷ [])
     ∷ (lent base (oneSlot 6 1 1 2 3 maxEdges) gives 21 ∷ 9 ∷ [])
     ∷ (lent base (oneSlot 6 1 1 2 3 slotLength) gives 35 ∷ [])
@@ -118,13 +118,13 @@ small = imageOf 3 (reference 0 7 ∷ definition 0 7 ∷ reference 1 7 ∷ defini
 
 -- slots of file 0 and of file 1, and between them a dead one, each with words 8 behind what it holds; then words 8
 abbrev old0 : List ℕ
-old0 = 1 ∷ 2 ∷ 3 ∷ 1 ∷ 0 ∷ replicate 126 8
+old0 = 1 ∷ 2 ∷ 3 ∷ 1 ∷ 0 ∷ replicate (maxEdges - 1) 8
 
 abbrev oldDead : List ℕ
 oldDead = 0 ∷ 5 ∷ 6 ∷ 7 ∷ replicate maxEdges 8
 
 abbrev old1 : List ℕ
-old1 = 2 ∷ 3 ∷ 9 ∷ 2 ∷ 4 ∷ 5 ∷ replicate 125 8
+old1 = 2 ∷ 3 ∷ 9 ∷ 2 ∷ 4 ∷ 5 ∷ replicate (maxEdges - 2) 8
 
 -- the partial paths of A's file
 abbrev filedA : List (List ℕ)
@@ -132,8 +132,8 @@ filedA =
     (1 ∷ 2 ∷ 3 ∷ 1 ∷ 0 ∷ zeros (maxEdges - 1))
     ∷ (1 ∷ 3 ∷ 4 ∷ 1 ∷ 1 ∷ zeros (maxEdges - 1))
     ∷ (1 ∷ 3 ∷ 5 ∷ 1 ∷ 2 ∷ zeros (maxEdges - 1))
-    ∷ (1 ∷ 2 ∷ 4 ∷ 2 ∷ 0 ∷ 1 ∷ zeros 125)
-    ∷ (1 ∷ 2 ∷ 5 ∷ 2 ∷ 0 ∷ 2 ∷ zeros 125)
+    ∷ (1 ∷ 2 ∷ 4 ∷ 2 ∷ 0 ∷ 1 ∷ zeros (maxEdges - 2))
+    ∷ (1 ∷ 2 ∷ 5 ∷ 2 ∷ 0 ∷ 2 ∷ zeros (maxEdges - 2))
     ∷ []
 
 refiled : ℕ → ℕ → List ℕ → List (List ℕ)
@@ -144,11 +144,11 @@ pub replacements : List (Row (List (List ℕ)))
 unfolding refiled filing
 replacements =
     -- A's file among words 9, with room for just its 5 slots: used, N and F; file + 1, start, end, edge count, edges and zeros; the words behind stay
-    (changedWords (filing base (fileRequest base BreadthFirst Absent Absent 4 0) imageA (0 ∷ 6 ∷ 1 ∷ replicate 657 9)) gives (0 ∷ 8 ∷ 5 ∷ 0 ∷ 0 ∷ 0 ∷ 4 ∷ []) ∷ zeros 512 ∷ databaseOf 5 6 1 (filedA ++ ((9 ∷ 9 ∷ []) ∷ [])) ∷ [])
-    -- the file's slot becomes zeros, all 131; the dead one keeps its words, the other file's too; the new slot is the next; N and F are the graph's
-    ∷ (refiled 2 0 (databaseOf 3 4 2 (old0 ∷ oldDead ∷ old1 ∷ replicate 133 8 ∷ [])) gives
+    (changedWords (filing base (fileRequest base BreadthFirst Absent Absent 4 0) imageA (0 ∷ 6 ∷ 1 ∷ replicate (5 * recordLength + 2) 9)) gives (0 ∷ 8 ∷ 5 ∷ 0 ∷ 0 ∷ 0 ∷ 4 ∷ []) ∷ zeros (4 * slotLength) ∷ databaseOf 5 6 1 (filedA ++ ((9 ∷ 9 ∷ []) ∷ [])) ∷ [])
+    -- the file's slot becomes zeros, all its words; the dead one keeps its words, the other file's too; the new slot is the next; N and F are the graph's
+    ∷ (refiled 2 0 (databaseOf 3 4 2 (old0 ∷ oldDead ∷ old1 ∷ replicate (recordLength + 2) 8 ∷ [])) gives
     (0 ∷ 3 ∷ 1 ∷ 0 ∷ 0 ∷ 0 ∷ 2 ∷ []) ∷ zeros (2 * slotLength) ∷ databaseOf 4 7 3 (zeros recordLength ∷ oldDead ∷ old1 ∷ (1 ∷ 2 ∷ 3 ∷ 1 ∷ 0 ∷ zeros (maxEdges - 1)) ∷ (8 ∷ 8 ∷ []) ∷ []) ∷ [])
-    ∷ (refiled 2 1 (databaseOf 3 4 2 (old0 ∷ oldDead ∷ old1 ∷ replicate 133 8 ∷ [])) gives
+    ∷ (refiled 2 1 (databaseOf 3 4 2 (old0 ∷ oldDead ∷ old1 ∷ replicate (recordLength + 2) 8 ∷ [])) gives
     (0 ∷ 3 ∷ 1 ∷ 0 ∷ 0 ∷ 0 ∷ 2 ∷ []) ∷ zeros (2 * slotLength) ∷ databaseOf 4 7 3 (old0 ∷ oldDead ∷ zeros recordLength ∷ (2 ∷ 4 ∷ 5 ∷ 1 ∷ 1 ∷ zeros (maxEdges - 1)) ∷ (8 ∷ 8 ∷ []) ∷ []) ∷ [])
     -- a file without partial paths needs no slot
     ∷ (refiled 2 2 (databaseOf 3 4 2 (old0 ∷ oldDead ∷ old1 ∷ [])) gives (0 ∷ 1 ∷ 0 ∷ 0 ∷ 0 ∷ 0 ∷ 1 ∷ []) ∷ zeros (2 * slotLength) ∷ databaseOf 3 7 3 (old0 ∷ oldDead ∷ old1 ∷ []) ∷ [])
@@ -179,7 +179,7 @@ lookups =
     ∷ (lookingUp 4 (firstFiled imageA) gives ((7 + 4 * recordLength) ∷ (9 + 4 * recordLength) ∷ []) ∷ (0 ∷ 2 ∷ []) ∷ [])
     ∷ (lookingUp 5 (firstFiled imageA) gives (0 ∷ 0 ∷ []) ∷ [] ∷ [])
     ∷ (lookingUp 1 (databaseOf 1 6 1 (held 1 2 3 (0 ∷ []) ∷ held 1 3 4 (1 ∷ []) ∷ [])) gives (0 ∷ 0 ∷ []) ∷ [] ∷ [])
-    -- a dead slot; all 127 edges; words that meet 35; words that only 34 would refuse
+    -- a dead slot; all 63 edges; words that meet 35; words that only 34 would refuse
     ∷ (lookingUp 1 (databaseOf 3 6 2 (held 1 2 3 (0 ∷ []) ∷ oldDead ∷ held 2 4 5 (6 ∷ 7 ∷ []) ∷ [])) gives (0 ∷ 0 ∷ []) ∷ [] ∷ [])
     ∷ (lookingUp 0 (oneSlot 6 1 1 2 3 maxEdges) gives (7 ∷ (7 + maxEdges) ∷ []) ∷ replicate maxEdges 8 ∷ [])
     ∷ (lookingUp 0 (oneSlot 6 1 1 2 3 slotLength) gives (0 ∷ 0 ∷ []) ∷ [] ∷ [])

@@ -12,12 +12,12 @@ use Rattle.semantics.specs.declared.search.SearchLimits.{SearchLimits}
 use Rattle.semantics.specs.declared.search.SearchOrder.{SearchOrder}
 use Rattle.semantics.specs.declared.search.SearchOrder.the-variants.{BreadthFirst, DepthFirst}
 use Rattle.semantics.specs.declared.replayed.Path.{Path}
-use Rattle.semantics.specs.Limits.{base, maxEdges, slotLength, recordLength}
+use Rattle.semantics.specs.Limits.{maxEdges, slotLength, recordLength}
 use Rattle.semantics.specs.Words.{zeros}
 use Rattle.semantics.specs.Recorded.{returned, recorded}
-use Rattle.semantics.specs.Image.{symbolBytes, checkImage}
+use Rattle.semantics.specs.Image.{checkImage}
 use Rattle.semantics.specs.Told.{toldChecked, toldReplayed, toldJudgement, toldResolution, toldLinearResolution, toldCreation, toldReplacement, toldFinding, toldRewriting, toldPart}
-use Rattle.semantics.specs.Database.{knownOwners, lookupPart}
+use Rattle.semantics.specs.Database.{lookupPart}
 use Rattle.semantics.specs.Calls.{edge, jump, noPath, checkCall, replayCall, completeCall, shadowsCall, directCall, linearCall, stitchedCall, freshCall, replaceCall, aliasCall}
 use Rattle.semantics.specs.Finding.{findCall}
 use Rattle.semantics.specs.Rewriting.{rewriteCall}
@@ -148,8 +148,8 @@ entered =
     ∷ (toldReplacement (aliasesAsked aliasesAll (0 ∷ 1 ∷ 1 ∷ []) (zeros (8 * slotLength)) (freshDatabase aliasesAll (zeros (3 + 9 * recordLength)) .database) .answer) gives 0 ∷ 4 ∷ 3 ∷ 2 ∷ 1 ∷ 0 ∷ 3 ∷ [])
     ∷ (toldReplacement (aliasesAsked aliasesAll [] (zeros (3 * slotLength)) (freshDatabase aliasesAll (zeros (3 + 9 * recordLength)) .database) .answer) gives 31 ∷ [])
     ∷ (toldReplacement (aliasesAsked aliasesAll [] (zeros (8 * slotLength)) (freshDatabase aliasesAll (zeros (3 + 8 * recordLength)) .database) .answer) gives 33 ∷ [])
-    ∷ (aliasesAsked imageA [] (9 ∷ replicate 128 9) (0 ∷ 4 ∷ 0 ∷ 7 ∷ []) .work gives zeros 129)
-    ∷ (aliasesAsked imageA [] (9 ∷ replicate 128 9) (0 ∷ 4 ∷ 0 ∷ 7 ∷ []) .database gives 0 ∷ 6 ∷ 1 ∷ 7 ∷ [])
+    ∷ (aliasesAsked imageA [] (9 ∷ replicate slotLength 9) (0 ∷ 4 ∷ 0 ∷ 7 ∷ []) .work gives zeros (1 + slotLength))
+    ∷ (aliasesAsked imageA [] (9 ∷ replicate slotLength 9) (0 ∷ 4 ∷ 0 ∷ 7 ∷ []) .database gives 0 ∷ 6 ∷ 1 ∷ 7 ∷ [])
     ∷ (toldPart (lookupOf 4 (firstFiled imageA)) gives (7 + 4 * recordLength) ∷ 2 ∷ [])
     ∷ (toldPart (lookupOf 5 (firstFiled imageA)) gives 0 ∷ 0 ∷ [])
     ∷ []

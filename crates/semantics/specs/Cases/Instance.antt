@@ -1,6 +1,6 @@
 -- An instance of demand 3: all its premises hold of graph C and a database that was filed by the public calls.
--- So the demand is not empty, and its conclusion there is what document 01 says of C. Likewise what is said of names (document 02, order 1) and of the
--- alias set (order 5).
+-- So the demand is not empty, and its conclusion there is what document 01 says of C. Likewise what is said of names (document 02, order 1), of the
+-- alias set (order 5) and of a converted database (order 6).
 use Prim.Native.Nat.{ℕ, _+_, _*_, _<_}
 use native.Mathlib.Omega.{arith}
 use mathlib.Core.Path.{_≡_, refl}
@@ -8,9 +8,11 @@ use mathlib.Core.Bool.{true, false}
 use mathlib.Core.Logic.{⊎-elim}
 use mathlib.Core.List.{List, [], _∷_, List·Memᴰ, List·Memᴰ·head, List·Memᴰ·tail, List·Memᴰ·not-nil, List·Memᴰ·cases-cons}
 use Rattle.semantics.specs.declared.graph.Node.the-variants as N
+use Rattle.semantics.specs.declared.answer.Conversion.the-variants as Conversion
 use Rattle.semantics.specs.declared.search.Limit.the-variants.{Absent}
 use Rattle.semantics.specs.declared.search.SearchOrder.the-variants.{BreadthFirst}
-use Rattle.semantics.specs.Limits.{base, slotLength, recordLength, nobody}
+use lib.ListN.{length, replicate}
+use Rattle.semantics.specs.Limits.{base, former, slotWords, recordWords, slotLength, recordLength, nobody}
 use Rattle.semantics.specs.Answer.{ok}
 use Rattle.semantics.specs.Graph.{nodeId, fileId, Graph, viewOf, isReference}
 use Rattle.semantics.specs.Path.{Path}
@@ -18,11 +20,14 @@ use Rattle.semantics.specs.Enumeration.{State}
 use Rattle.semantics.specs.Recorded.{recorded}
 use Rattle.semantics.specs.Image.{symbolBytes, checkImage}
 use Rattle.semantics.specs.Image.Laws.{image-accepted}
-use Rattle.semantics.specs.Database.{slotsIn}
-use Rattle.semantics.specs.Demand.{NoAliases}
+use Rattle.semantics.specs.Database.{slotsIn, knownOwners}
+use Rattle.semantics.specs.Database.Conversion.{convertCall}
+use Rattle.semantics.specs.Database.Conversion.Laws.{converted-holds}
+use Rattle.semantics.specs.Entries.{convertDatabase}
+use Rattle.semantics.specs.Demand.{NoAliases, Holds, fileOwners}
 use Rattle.semantics.specs.Words.{zeros, listsIn}
 use Rattle.semantics.specs.Calls.{Request, directCall, stitchedCall, freshCall, replaceCall, aliasCall}
-use Rattle.semantics.specs.Calls.Filing.{Refiled, Filed, begun, refiled, aliased, still-none, filed-none}
+use Rattle.semantics.specs.Calls.Filing.{Refiled, Filed, unlimited, begun, refiled, aliased, still-none, filed-none, filed-holds}
 use Rattle.semantics.specs.Calls.Whole.{recordedSet, directRecorded, stitchedRecorded, Premises, filed-premise, Refiling, AliasPremises, refiled-aliases, AliasRefiling}
 use Rattle.semantics.specs.Finding.{Name, FindRequest, findCall}
 use Rattle.semantics.specs.Finding.Laws.{Unnamed, Lowest, searchBy, nothing-answered, found-answered}
@@ -33,7 +38,7 @@ use Rattle.semantics.specs.Cases.Asked.{request, nameRequest, firstFiled
 abbrev pub askedC : Request
 askedC = request base BreadthFirst Absent Absent Absent 128 128
 
-graphC : Graph
+pub graphC : Graph
 graphC =
     record {
       files = 1;
@@ -61,6 +66,53 @@ premises-c = record {
   same-reference = refl;
   same-length-limit = refl;
   database-holds = filed-premise symbolBytes base imageC graphC refl (firstFiled imageC) (0 ∷ []) filedC (λ f h. List·Memᴰ·head (omega (arith, h))) just-file;
+  direct-finished = record { paths = 2; stats = record { expanded = 5; complete = 2; rejected = 0; cycles = 1; lengthLimited = false; countLimited = false; completeLimited = false; waited = 2 }; answered = refl; uncounted = refl; uncut = refl };
+  stitched-finished = record { paths = 1; stats = record { expanded = 4; complete = 2; rejected = 0; cycles = 0; lengthLimited = false; countLimited = false; completeLimited = false; waited = 2 }; answered = refl; uncounted = refl; uncut = refl };
+}
+
+-- ORDER 6 HAS AN INSTANCE: C's file filed under the former bound, and what the converter wrote of it into dirty words for 4 slots
+abbrev formerly : List ℕ
+formerly = (freshCall (ok graphC) (zeros (3 + 4 * recordWords former))) .database
+
+abbrev filedBefore : List ℕ
+filedBefore = (replaceCall former knownOwners (ok graphC) (unlimited BreadthFirst (8 * slotWords former) 0) formerly) .database
+
+abbrev dirty : List ℕ
+dirty = replicate (3 + 4 * recordLength) 9
+
+abbrev filedAfter : List ℕ
+filedAfter = (convertDatabase filedBefore dirty) .written
+
+filedFormerly : Filed former (ok graphC) filedBefore (0 ∷ [])
+unfolding graphC freshCall replaceCall
+filedFormerly = record {
+  lent = zeros (3 + 4 * recordWords former);
+  created = refl;
+  replaced = refiled BreadthFirst (8 * slotWords former) 0 (record { expanded = 5; found = 3; cycles = 0; lengthLimited = false; countLimited = false; waited = 2 }) begun refl;
+}
+
+only-file : (f : ℕ) → f < graphC .files → f ≡ 0
+unfolding graphC
+only-file f h = omega (arith, h)
+
+held-before : Holds (fileOwners graphC) former (viewOf graphC) (slotsIn former filedBefore)
+held-before = filed-holds former graphC (image-accepted symbolBytes imageC graphC (unfold checkImage graphC in refl)) filedBefore (0 ∷ []) filedFormerly (λ f h. List·Memᴰ·head (only-file f h)) just-file
+
+converted-c : (convertDatabase filedBefore dirty) .answer ≡ Conversion.Done
+unfolding graphC freshCall replaceCall convertCall
+converted-c = refl
+
+held-after : Holds (fileOwners graphC) base (viewOf graphC) (slotsIn base filedAfter)
+held-after = converted-holds former base knownOwners filedBefore (length dirty) (fileOwners graphC) (viewOf graphC) (omega arith) converted-c held-before
+
+pub premises-converted : Premises symbolBytes base imageC filedAfter askedC askedC
+unfolding checkImage graphC freshCall replaceCall convertCall directCall stitchedCall recorded
+premises-converted = record {
+  graph = graphC;
+  accepted = refl;
+  same-reference = refl;
+  same-length-limit = refl;
+  database-holds = held-after;
   direct-finished = record { paths = 2; stats = record { expanded = 5; complete = 2; rejected = 0; cycles = 1; lengthLimited = false; countLimited = false; completeLimited = false; waited = 2 }; answered = refl; uncounted = refl; uncut = refl };
   stitched-finished = record { paths = 1; stats = record { expanded = 4; complete = 2; rejected = 0; cycles = 0; lengthLimited = false; countLimited = false; completeLimited = false; waited = 2 }; answered = refl; uncounted = refl; uncut = refl };
 }

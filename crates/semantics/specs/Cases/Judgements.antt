@@ -14,7 +14,7 @@ use Rattle.semantics.specs.Limits.{base}
 use Rattle.semantics.specs.Told.{toldPath, toldFlag}
 use Rattle.semantics.specs.Answer.{Answer, ok, refuse}
 use Rattle.semantics.specs.Graph.{nodeId, fileId, Graph, viewOf}
-use Rattle.semantics.specs.Path.{Symbol, Stacks, Path, replay}
+use Rattle.semantics.specs.Path.{Path, replay}
 use Rattle.semantics.specs.Judgement.{judgement}
 use Rattle.semantics.specs.Image.{symbolBytes, checkImage}
 use Rattle.semantics.specs.Cases.Rows.{Row, _gives_, Agreed}

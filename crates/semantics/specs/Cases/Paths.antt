@@ -1,6 +1,6 @@
 -- Paths: what replay answers and refuses, completeness, shadowing.
 -- Document 01, "Path", and the rows 10 to 19 and 30 of "Turned back".
-use Prim.Native.Nat.{ℕ}
+use Prim.Native.Nat.{ℕ, _-_}
 use mathlib.Core.Path.{refl}
 use mathlib.Core.Bool.{Bool, true, false}
 use mathlib.Core.Option.{none, some}
@@ -107,14 +107,14 @@ refusals =
     ∷ (onGraph attaching 4 (0 ∷ []) gives 10 ∷ 5 ∷ [])
     -- the first of several edges that is refused
     ∷ (replaying imageF 2 (1 ∷ 10 ∷ []) gives 15 ∷ 5 ∷ [])
-    -- edges may be repeated; 127 edges are no refusal, a 128th is 30, before anything else is said of it
-    ∷ (replaying imageE 2 (0 ∷ replicate 126 1) gives 0 ∷ [])
+    -- edges may be repeated; 63 edges are no refusal, a 64th is 30, before anything else is said of it
+    ∷ (replaying imageE 2 (0 ∷ replicate (maxEdges - 1) 1) gives 0 ∷ [])
     ∷ (replaying imageE 2 (0 ∷ replicate maxEdges 1) gives 30 ∷ [])
-    ∷ (replaying imageE 2 (0 ∷ (replicate 126 1 ++ (9 ∷ []))) gives 30 ∷ [])
-    ∷ (replaying imageE 2 (0 ∷ (replicate 125 1 ++ (9 ∷ 1 ∷ []))) gives 12 ∷ 9 ∷ [])
+    ∷ (replaying imageE 2 (0 ∷ (replicate (maxEdges - 1) 1 ++ (9 ∷ []))) gives 30 ∷ [])
+    ∷ (replaying imageE 2 (0 ∷ (replicate (maxEdges - 2) 1 ++ (9 ∷ 1 ∷ []))) gives 12 ∷ 9 ∷ [])
     -- jumps are not counted
-    ∷ (replaying jumpThenLoop 2 (0 ∷ 1 ∷ replicate 125 2) gives 0 ∷ [])
-    ∷ (replaying jumpThenLoop 2 (0 ∷ 1 ∷ replicate 126 2) gives 30 ∷ [])
+    ∷ (replaying jumpThenLoop 2 (0 ∷ 1 ∷ replicate (maxEdges - 2) 2) gives 0 ∷ [])
+    ∷ (replaying jumpThenLoop 2 (0 ∷ 1 ∷ replicate (maxEdges - 1) 2) gives 30 ∷ [])
     -- the image before the node
     ∷ (replaying (take 10 imageA) 9 [] gives 2 ∷ [])
     ∷ []

@@ -10,7 +10,7 @@ use Rattle.semantics.specs.declared.search.SearchOrder.{SearchOrder}
 use Rattle.semantics.specs.declared.search.SearchOrder.the-variants.{BreadthFirst, DepthFirst}
 use Rattle.semantics.specs.declared.refusal.ImageRefusal.{ImageRefusal}
 use Rattle.semantics.specs.declared.refusal.SearchRefusal.{SearchRefusal}
-use Rattle.semantics.specs.Limits.{Bounds, base, slotWords, recordWords, maxEdges, slotLength}
+use Rattle.semantics.specs.Limits.{Bounds, base, former, slotWords, recordWords, maxEdges, slotLength}
 use Rattle.semantics.specs.Answer.{Answer, ok, refuse}
 use Rattle.semantics.specs.Graph.{Graph, viewOf}
 use Rattle.semantics.specs.Path.{Path}
@@ -154,7 +154,7 @@ areas =
     (areasAfter (requestIn (128 * slotLength) (2 * slotLength + 4)) imageA gives (0 ∷ 1 ∷ 3 ∷ 1 ∷ 1 ∷ 0 ∷ 0 ∷ 0 ∷ 0 ∷ 1 ∷ []) ∷ (zeros (128 * slotLength)) ∷ (2 ∷ 0 ∷ 1 ∷ zeros (2 * slotLength + 1)) ∷ [])
     -- two paths, one behind the other
     ∷ (areasAfter (requestIn 513 (3 * slotLength)) branching gives (0 ∷ 2 ∷ 5 ∷ 2 ∷ 4 ∷ 1 ∷ 0 ∷ 0 ∷ 0 ∷ 2 ∷ []) ∷ (zeros 513) ∷ (2 ∷ 0 ∷ 2 ∷ (zeros (slotLength - 3) ++ (3 ∷ 0 ∷ 1 ∷ 2 ∷ zeros (2 * slotLength - 4)))) ∷ [])
-    -- 127 words are no slot, 128 are one
+    -- 63 words are no slot, 64 are one
     ∷ (areasAfter (requestIn slotLength maxEdges) imageA gives (32 ∷ []) ∷ (zeros slotLength) ∷ (zeros maxEdges) ∷ [])
     ∷ (areasAfter (requestIn slotLength slotLength) imageA gives (0 ∷ 1 ∷ 3 ∷ 1 ∷ 1 ∷ 0 ∷ 0 ∷ 0 ∷ 0 ∷ 1 ∷ []) ∷ (zeros slotLength) ∷ (2 ∷ 0 ∷ 1 ∷ zeros (slotLength - 3)) ∷ [])
     ∷ (areasAfter (requestIn maxEdges slotLength) imageA gives (31 ∷ []) ∷ (zeros maxEdges) ∷ (zeros slotLength) ∷ [])
@@ -169,13 +169,15 @@ pub area-cases : Agreed areas
 unfolding areas
 area-cases = refl
 
--- THE NUMBERS: at most 127 edges, 16,777,216 expansions, 128 words a slot, 131 words a database slot
+-- THE NUMBERS: at most 63 edges, 16,777,216 expansions, 64 words a slot, 67 words a database slot; before document 02, order 6, 127 edges
 pub numbers : List (Row ℕ)
 numbers =
-    (base .edges gives 127)
+    (base .edges gives 63)
     ∷ (base .expansions gives 16777216)
-    ∷ (slotWords base gives 128)
-    ∷ (recordWords base gives 131)
+    ∷ (slotWords base gives 64)
+    ∷ (recordWords base gives 67)
+    ∷ (former .edges gives 127)
+    ∷ (recordWords former gives 131)
     ∷ []
 
 pub number-cases : Agreed numbers

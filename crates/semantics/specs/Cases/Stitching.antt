@@ -125,7 +125,7 @@ pub areas : List (Row (List (List ℕ)))
 unfolding stitchedAreas firstFiled
 areas =
     (stitchedAreas (requestIn 300 (2 * slotLength + 4)) imageA (firstFiled imageA) gives (0 ∷ 1 ∷ 4 ∷ 2 ∷ 2 ∷ 0 ∷ 0 ∷ 0 ∷ 0 ∷ 2 ∷ []) ∷ (zeros 300) ∷ (2 ∷ 0 ∷ 1 ∷ zeros (2 * slotLength + 1)) ∷ [])
-    ∷ (stitchedAreas (requestIn 300 130) imageA (firstFiled imageA) gives (32 ∷ []) ∷ (zeros 300) ∷ (zeros 130) ∷ [])
+    ∷ (stitchedAreas (requestIn (2 * slotLength + 44) (slotLength + 2)) imageA (firstFiled imageA) gives (32 ∷ []) ∷ (zeros (2 * slotLength + 44)) ∷ (zeros (slotLength + 2)) ∷ [])
     ∷ (stitchedAreas (requestIn 3 5) imageA (9 ∷ 8 ∷ 1 ∷ 0 ∷ []) gives (35 ∷ []) ∷ (0 ∷ 0 ∷ 0 ∷ []) ∷ (0 ∷ 0 ∷ 0 ∷ 0 ∷ 0 ∷ []) ∷ [])
     ∷ (stitchedAreas (requestIn 3 5) (take 76 imageA) [] gives (2 ∷ []) ∷ (0 ∷ 0 ∷ 0 ∷ []) ∷ (0 ∷ 0 ∷ 0 ∷ 0 ∷ 0 ∷ []) ∷ [])
     ∷ []

@@ -26,7 +26,7 @@ abbrev pub AllLong : ℕ → List (List ℕ) → Type 0
 AllLong L [] = Unit {0}
 AllLong L (x ∷ xs) = (length x ≡ L) × AllLong L xs
 
-slots-flatten : (L n : ℕ) (xs : List (List ℕ)) (rest : List ℕ) → AllLong L xs → slotsOf L (length xs + n) (flatten xs ++ rest) ≡ xs ++ slotsOf L n rest
+pub slots-flatten : (L n : ℕ) (xs : List (List ℕ)) (rest : List ℕ) → AllLong L xs → slotsOf L (length xs + n) (flatten xs ++ rest) ≡ xs ++ slotsOf L n rest
 unfolding slotsOf flatten
 slots-flatten L n [] rest h = ap (λ k. slotsOf L k rest) (zero-add n)
 slots-flatten L n (x ∷ xs) rest h =
@@ -43,7 +43,7 @@ unfolding slotsOf
 slots-long L zero ws h = tt
 slots-long L (suc n) ws h = (length-take-le L ws (omega (arith, mul-suc L n)), slots-long L n (drop L ws) (simp length-drop (omega (arith, mul-suc L n))))
 
-length-map : {A B : Type 0} (f : A → B) (l : List A) → length (map f l) ≡ length l
+pub length-map : {A B : Type 0} (f : A → B) (l : List A) → length (map f l) ≡ length l
 length-map f [] = refl
 length-map f (x ∷ l) = ap suc (length-map f l)
 
@@ -71,7 +71,7 @@ decode-encode m f s t es h =
     ap (λ k. decode (take k (suc f ∷ s ∷ t ∷ length es ∷ (es ++ zeros (m + 4))))) q
     ∙ ap (slot f s t) (take-take (length es) m (es ++ zeros (m + 4)) h ∙ take-append-seam es (zeros (m + 4)))
 
-decode-zeros : (n : ℕ) → decode (zeros n) ≡ dead
+pub decode-zeros : (n : ℕ) → decode (zeros n) ≡ dead
 unfolding decode
 decode-zeros zero = refl
 decode-zeros (suc n) = refl
@@ -97,7 +97,7 @@ decode-new m f (r ∷ rs) h =
     let b = decode-new m f rs (λ x k. h x (List·Memᴰ·tail k)) in
     ap (λ (w : Slot). w ∷ map decode (map (λ y. encodeSlot (m + 4) (slotOf f y)) rs)) a ∙ ap (λ (w : List Slot). slotOf f r ∷ w) b
 
-slots-none : (L : ℕ) (ws : List ℕ) → slotsOf L 0 ws ≡ []
+pub slots-none : (L : ℕ) (ws : List ℕ) → slotsOf L 0 ws ≡ []
 unfolding slotsOf
 slots-none L ws = refl
 

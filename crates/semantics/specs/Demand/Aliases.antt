@@ -199,7 +199,7 @@ module _ (g : Graph) (good : accepts g ≡ true) where
     computed-whole (of-file {u = u} f c l h n k) r p = file-unlimited bd Absent c g f u h n k r (all-to-file bd Absent f r l p)
     computed-whole (of-aliases {u = u} c h n k) r p = alias-unlimited bd Absent c u h n k r p
 
-  -- NOBODY'S PARTIAL PATHS are all lists of 1 to 127 distinct edges of this kind, each going on from the last one's target (document 02): that they
+  -- NOBODY'S PARTIAL PATHS are all lists of 1 to as many distinct edges of this kind as the bound says, each going on from the last one's target (document 02): that they
   -- start at root and reach an endpoint needs no saying
   fileless-ends : (n e : ℕ) (t : NodeId) (p : ℤ) → (viewOf g) .edge e ≡ E.Live (nodeId n) t p → ownedBy (viewOf g) nobody e ≡ true → (n ≡ 0) × (isEndpoint ((viewOf g) .node (t .0)) ≡ true)
   unfolding ownedBy isFileless

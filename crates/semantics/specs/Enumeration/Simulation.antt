@@ -12,7 +12,7 @@ use Rattle.semantics.specs.declared.search.SearchStats.{SearchStats}
 use Rattle.semantics.specs.Limits.{below}
 use Rattle.semantics.specs.Answer.{Answer, ok, refuse, andThen, okIf}
 use Rattle.semantics.specs.Enumeration.{Try, cut, overlong, reject, stop, go, Area, unlimited, slots, Setting, State, Tally, Turn, over, expand, one, each, merge, turn, run, enumerate, blank, withStats}
-use Rattle.semantics.specs.Enumeration.{withTally, withPending, withKept, judged, addLooked, addOverlong, addPushed, place, pushItem, keepIf, keep, addCycle, addRejected, addExpanded, addComplete, flagLength, flagCount, flagComplete, admit, popped, final, follow, seed}
+use Rattle.semantics.specs.Enumeration.{withTally, withPending, withKept, judged, addLooked, addOverlong, place, pushItem, keepIf, keep, addCycle, addRejected, addExpanded, addComplete, flagLength, flagCount, flagComplete, admit, popped, final, follow, seed}
 
 module _ {W X : Type 0} (L : W → X → Type 0) where
   pub data All2 : List W → List X → Type 0 where

@@ -1,5 +1,5 @@
 -- What the scopes on the two stacks keep along a path: on an accepted graph they are exported, so 19 never arises; and attached lists stay short.
--- Document 01, "Path": "hence attached lists have at most 64 scopes"; 19 of "Turned back".
+-- Document 01, "Path": "hence attached lists have at most" half the edges and one more, which document 02, order 6, makes 32; 19 of "Turned back".
 use Prim.Native.Nat.{ℕ, _+_, _*_, _≤_}
 use native.Mathlib.Omega.{arith}
 use mathlib.Core.Path.{_≡_, refl, sym, _∙_, ap, subst}
@@ -126,8 +126,8 @@ module _ (bd : Bounds) (g : View) where
       each [] l k = absurd (List·Memᴰ·not-nil k)
       each (y ∷ X) l k = ⊎-elim (λ (i : x ≡ y). l .0 Z (ap (λ (v : Symbol). v .scopes) (sym i) ∙ e)) (λ j. each X (l .1) j) (List·Memᴰ·cases-cons k)
 
--- with 127 edges, at most 64 scopes
-pub attached-base : (g : View) (r : ℕ) (es : List ℕ) (q : Path) → replay base g r es ≡ ok q → (x : Symbol) → List·Memᴰ x (q .stacks .symbols) → (Z : List ℕ) → x .scopes ≡ some Z → length Z ≤ 64
+-- with 63 edges, at most 32 scopes
+pub attached-base : (g : View) (r : ℕ) (es : List ℕ) (q : Path) → replay base g r es ≡ ok q → (x : Symbol) → List·Memᴰ x (q .stacks .symbols) → (Z : List ℕ) → x .scopes ≡ some Z → length Z ≤ 32
 attached-base g r es q h x m Z e = omega (arith, attached-short base g r es q h x m Z e)
 
 -- 19 NEVER ARISES: on an accepted graph every scope on the stacks is exported

@@ -40,9 +40,11 @@ use Rattle.semantics.specs.declared.answer.Finding.{Finding}
 use Rattle.semantics.specs.declared.answer.Finding.the-variants as Finding
 use Rattle.semantics.specs.Lists.{or, pick}
 use Rattle.semantics.specs.Graph.{nodeId, edgeId, fileId}
-use Rattle.semantics.specs.Told.{toldFlag, toldImage, toldPath, toldReplayRefusal, toldSearch, toldLinear, toldPartial, toldDatabase, toldStats, toldPartialStats, toldChecked, toldReplayed, toldJudgement, toldResolution, toldLinearResolution, toldCreation, toldReplacement, toldFinding, toldRewriting}
+use Rattle.semantics.specs.Told.{toldFlag, toldImage, toldPath, toldReplayRefusal, toldSearch, toldLinear, toldPartial, toldDatabase, toldStats, toldPartialStats, toldChecked, toldReplayed, toldJudgement, toldResolution, toldLinearResolution, toldCreation, toldReplacement, toldFinding, toldRewriting, toldConversion}
 use Rattle.semantics.specs.declared.answer.Rewriting.{Rewriting}
 use Rattle.semantics.specs.declared.answer.Rewriting.the-variants as Rewriting
+use Rattle.semantics.specs.declared.answer.Conversion.{Conversion}
+use Rattle.semantics.specs.declared.answer.Conversion.the-variants as Conversion
 
 -- what can be read back is told without loss
 told-alike : {A : Type 0} (told : A → List ℕ) (read : List ℕ → A) → ((a : A) → read (told a) ≡ a) → (a b : A) → told a ≡ told b → a ≡ b
@@ -373,3 +375,15 @@ rewriting-back Rewriting.NoRoom = refl
 
 pub rewriting-alike : (a b : Rewriting) → toldRewriting a ≡ toldRewriting b → a ≡ b
 rewriting-alike = told-alike toldRewriting readRewriting rewriting-back
+
+abbrev readConversion : List ℕ → Conversion
+readConversion t = pick (eqb (number t) 0) Conversion.Done (pick (eqb (number t) 35) Conversion.Malformed (pick (eqb (number t) 33) Conversion.Full Conversion.TooLong))
+
+conversion-back : (a : Conversion) → readConversion (toldConversion a) ≡ a
+conversion-back Conversion.Done = refl
+conversion-back Conversion.Malformed = refl
+conversion-back Conversion.Full = refl
+conversion-back Conversion.TooLong = refl
+
+pub conversion-alike : (a b : Conversion) → toldConversion a ≡ toldConversion b → a ≡ b
+conversion-alike = told-alike toldConversion readConversion conversion-back

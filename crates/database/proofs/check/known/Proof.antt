@@ -5,7 +5,6 @@ use borrow.Author.Tests.{lt-ltb, le-ltb}
 use lib.Dec.{eqb}
 use Rattle.semantics.specs.Lists.{or}
 use Rattle.semantics.specs.Limits.{nobody}
-use borrow.Author.Needs.{needs}
 use Rattle.database.proofs.check.known.Statement.{statement}
 use Rattle.database.proofs.check.known.Tie as tie
 

@@ -1,10 +1,10 @@
 -- `demand::filing::refile_with_aliases`: the alias set behind the files, or what the refused call left.
-use mathlib.Core.Path.{_≡_, sym, ap, subst, _∙_}
+use mathlib.Core.Path.{sym, ap, subst, _∙_}
 use mathlib.Core.Bool.{true≢false}
 use mathlib.Core.List.{List}
 use Prim.Native.Nat.{ℕ}
 use borrow.Author.Needs.{needs}
-use Rattle.demand.specs.Filings.{Filings, aliasing, filedBy, refilings, RefillsAll, all-refilings-on, all-refilings-off, all-refilings-fill}
+use Rattle.demand.specs.Filings.{Filings, aliasing, filedBy, RefillsAll, all-refilings-on, all-refilings-off, all-refilings-fill}
 use Rattle.demand.proofs.filing.refile_with_aliases.Statement.{statement}
 use Rattle.demand.proofs.filing.refile_with_aliases.Tie as tie
 

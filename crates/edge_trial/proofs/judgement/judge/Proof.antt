@@ -1,6 +1,5 @@
-use mathlib.Core.Path.{_≡_, sym, ap, _∙_}
+use mathlib.Core.Path.{sym, ap, _∙_}
 use mathlib.Core.Bool.{Bool}
-use Rattle.semantics.specs.declared.judgement.EdgeJudgement.{EdgeJudgement}
 use Rattle.semantics.specs.declared.judgement.EdgeJudgement.the-variants.{Extends}
 use Rattle.storage.specs.Index.{nodeRow}
 use Rattle.edge_trial.specs.Trials.{judgementBy}

@@ -2,7 +2,7 @@
 use borrow.Author.Needs.{needs}
 use Prim.Native.Nat.{ℕ, _+_}
 use native.Mathlib.Omega.{arith}
-use mathlib.Core.Path.{_≡_, sym, ap, _∙_}
+use mathlib.Core.Path.{_≡_, ap, _∙_}
 use Rattle.semantics.specs.Answer.{ok}
 use Rattle.semantics.specs.Bytes.{byteAt}
 use Rattle.semantics.specs.Image.{nextPlace}

@@ -1,11 +1,12 @@
 -- `printing::paths::print_paths` is safe and ends: no slot behind the area is read. The measure is how many paths are left.
 use Prim.Native.Nat.{_-_, _≤_}
 use borrow.Author.Needs.{needs}
+use Rattle.printing.specs.Areas.{slots}
 use Rattle.printing.proofs.paths.print_paths.Statement.{statement}
 use Rattle.printing.proofs.paths.print_paths.Tie as tie
 
 abbrev Inv-loop : tie.InvT-loop
-Inv-loop name result paths i₀ i-end i = (i ≤ i-end) × (i-end ≤ 128)
+Inv-loop name result paths i₀ i-end i = (i ≤ i-end) × (i-end ≤ slots)
 
 abbrev μ-loop : tie.MeasureT-loop
 μ-loop name result paths i₀ i-end i = i-end - i

@@ -1,5 +1,5 @@
 use Prim.Native.Nat.{ℕ}
-use mathlib.Core.Path.{_≡_, ap, _∙_}
+use mathlib.Core.Path.{ap, _∙_}
 use Rattle.semantics.specs.declared.search.PartialPathStats.{PartialPathStats}
 use Rattle.path_frontier.specs.Frontier.{greatestIn}
 use Rattle.partial_state.specs.declared.extraction.Extraction.{Extraction}
