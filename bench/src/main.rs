@@ -2,11 +2,13 @@
 //! every reference, and the replacement of every file, by the proved library
 //! and by the given Rust. bench --names IMAGE ..: names for definitions, against
 //! the recorded searches that they make. bench --convert: an old database converted,
-//! against a plain copy. README.md says what a line holds.
+//! against a plain copy. bench --compact: a database compacted, against two copies.
+//! README.md says what a line holds.
 
 use settings::Settings;
 use std::process::exit;
 
+mod compaction;
 mod conversion;
 #[path = "../../oracle/src/load.rs"]
 mod load;
@@ -35,6 +37,9 @@ fn main() {
     let mut words: Vec<String> = std::env::args().skip(1).collect();
     if words.first().is_some_and(|word| word == "--convert") {
         return conversion::compare();
+    }
+    if words.first().is_some_and(|word| word == "--compact") {
+        return compaction::compare();
     }
     let only = (words.first().is_some_and(|word| word == "--only") && words.len() >= 4)
         .then(|| words.drain(..4).collect::<Vec<String>>());

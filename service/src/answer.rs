@@ -111,6 +111,11 @@ pub(crate) fn length(answer: &[u64; ANSWER]) -> Result<usize, Refusal> {
     refused(answer).map_or(Ok(answer[1] as usize), Err)
 }
 
+/// How many records of a compacted database are live: at most 4,096.
+pub(crate) fn live(answer: &[u64; ANSWER]) -> Result<u32, Refusal> {
+    refused(answer).map_or(Ok(answer[1] as u32), Err)
+}
+
 pub(crate) fn replacement(answer: &[u64; ANSWER]) -> Result<PartialStatistics, Refusal> {
     let &[_, expanded, found, cycles, length, count, waited, ..] = answer;
     let statistics = PartialStatistics {

@@ -435,6 +435,43 @@ pub fn convert(old: &[u32], new: &mut [u32]) -> Result<(), Refusal> {
     answer::done(&told)
 }
 
+/// Drops the dead records of the database in place and answers how many are live. The
+/// live ones, of files and of the alias set, move down in their old order, each with
+/// all its words; the records used become as many as are live, and the freed ones zero.
+/// N, F and the words behind the used records stay as they were. In `list` stand the
+/// old and the new number of each live record, ascending, `PAIR_WORDS` words each, and
+/// zeros behind; as many words for each used record are always enough.
+///
+/// Refused by 35 if the words are no database, then by 32 if `list` has fewer words
+/// than two for each live record; each alters no word of the database and leaves all of
+/// `list` zero, whatever it held. No image is read, so there is no 34.
+///
+/// Every stitched search answers the same, word for word, before and after. Numbers of
+/// partial paths that were handed out earlier lapse, and nothing tells so: an old number
+/// may name another record. Put the new ones of `list` in their place.
+///
+/// Daily replacements end at 33, as records are not used again; so compact at a 33 and
+/// replace again. A 33 directly after it means that the live records and the new ones
+/// together are more than the database has room for. The records that are being
+/// replaced are live until they are replaced and count, so it can come though the new
+/// ones would fit in the place of the old ones, and compacting again does not help:
+/// lend room for all live records and beside them for the new ones of the largest file.
+pub fn compact(words: &mut [u32], list: &mut [u32]) -> Result<u32, Refusal> {
+    let mut told = EMPTY;
+    // SAFETY: each pointer and length is that of a slice held here.
+    unsafe {
+        link::pozhdaghi_compact(
+            words.as_mut_ptr(),
+            words.len(),
+            list.as_mut_ptr(),
+            list.len(),
+            told.as_mut_ptr(),
+            told.len(),
+        );
+    }
+    answer::live(&told)
+}
+
 /// The edges of a partial path, as a part of the words; empty if it is dead,
 /// beyond use, or the words are no database.
 pub fn lookup(words: &[u32], number: u32) -> &[u32] {

@@ -33,7 +33,7 @@ mod request;
 
 pub use answer::{Counts, PartialStatistics, Refusal, Resolution, Statistics};
 pub use calls::{
-    check, convert, direct, direct_recorded, find_name, fresh, is_complete, linear,
+    check, compact, convert, direct, direct_recorded, find_name, fresh, is_complete, linear,
     linear_recorded, lookup, narrow, replace_aliases, replace_file, replay, shadows, stitched,
     stitched_recorded, widen,
 };
@@ -50,6 +50,9 @@ pub const SLOT_WORDS: usize = 1 + MOST_EDGES;
 /// end, edge count and edges.
 pub const DATABASE_HEAD: usize = 3;
 pub const RECORD_WORDS: usize = 4 + MOST_EDGES;
+
+/// Words of the list of `compact` for each live record: its old and its new number.
+pub const PAIR_WORDS: usize = 2;
 
 /// Words of a record when a path might have 127 edges: what `convert` reads.
 pub const FORMER_RECORD_WORDS: usize = 131;

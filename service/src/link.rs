@@ -78,6 +78,14 @@ unsafe extern "C" {
         answer: *mut u64,
         answer_len: usize,
     );
+    pub fn pozhdaghi_compact(
+        words: *mut u32,
+        words_len: usize,
+        list: *mut u32,
+        list_len: usize,
+        answer: *mut u64,
+        answer_len: usize,
+    );
     pub fn pozhdaghi_lookup(
         words: *const u32,
         words_len: usize,

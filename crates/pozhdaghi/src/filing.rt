@@ -3,9 +3,9 @@ ghost use mathlib.Core.Path.{_≡_};
 ghost use Prim.Native.Nat.{_+_, _*_, _≤_};
 ghost use lib.ListN.{length};
 ghost use Rattle.semantics.specs.Limits.{recordLength};
-ghost use Rattle.semantics.specs.Entries.{convertDatabase, freshDatabase, lookupOf, replaceAsked, aliasesAsked};
+ghost use Rattle.semantics.specs.Entries.{compactDatabase, convertDatabase, freshDatabase, lookupOf, replaceAsked, aliasesAsked};
 ghost use Rattle.semantics.specs.Written.{written};
-ghost use Rattle.semantics.specs.Told.{toldCreation, toldReplacement, toldConversion, toldPart};
+ghost use Rattle.semantics.specs.Told.{toldCreation, toldReplacement, toldCompaction, toldConversion, toldPart};
 ghost use Rattle.semantics.specs.Image.{nodesOf, edgesOf};
 ghost use Rattle.storage.specs.Index.{FEW};
 ghost use Rattle.pozhdaghi.specs.Replaced.{askedFor};
@@ -13,6 +13,7 @@ ghost use Rattle.pozhdaghi.specs.Written.{numbersIn};
 use crate::asked;
 use crate::numbers;
 use crate::numbers::Numbers;
+use compaction::compact;
 use conversion::convert;
 use database::fresh;
 use database::layout;
@@ -134,6 +135,17 @@ pub extern "C" fn pozhdaghi_convert(old: &[u32], new: &mut [u32], answer: &mut [
 {
     let converted = convert::convert(old, new);
     numbers::write(numbers::of_conversion(converted), answer);
+}
+
+// 0 and the number of live slots; or the refusal. The list has the old and the new number of each.
+#[no_mangle]
+pub extern "C" fn pozhdaghi_compact(words: &mut [u32], list: &mut [u32], answer: &mut [u64])
+    ensures { λ _. ⌜ now (answer .exit) ≡ written (length (now (answer .entry))) (toldCompaction (compactDatabase (now (words .entry)) (now (list .entry)) .answer)) ⌝ }
+    ensures { λ _. ⌜ now (words .exit) ≡ compactDatabase (now (words .entry)) (now (list .entry)) .database ⌝ }
+    ensures { λ _. ⌜ now (list .exit) ≡ compactDatabase (now (words .entry)) (now (list .entry)) .list ⌝ }
+{
+    let compacted = compact::compact(words, list);
+    numbers::write(numbers::of_compaction(compacted), answer);
 }
 
 // Where the edges of a record stand in the words.

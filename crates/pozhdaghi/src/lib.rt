@@ -11,6 +11,7 @@ pub mod searching;
 pub mod versions;
 
 // The calls.
+pub use compaction::compact::compact;
 pub use conversion::convert::convert;
 pub use database::fresh::fresh;
 pub use database::lookup::lookup;
@@ -34,6 +35,7 @@ pub use storage::check::check;
 // What they take and answer.
 pub use path::replay::ReplayOutcome;
 pub use semantics::answer::Checked;
+pub use semantics::answer::Compaction;
 pub use semantics::answer::Conversion;
 pub use semantics::answer::Creation;
 pub use semantics::answer::Finding;

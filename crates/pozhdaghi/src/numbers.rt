@@ -4,10 +4,11 @@ ghost use mathlib.Core.List.{[], _∷_};
 ghost use lib.ListN.{length, getD};
 ghost use Rattle.semantics.specs.Written.{written};
 ghost use Rattle.semantics.specs.Told.{toldFlag, toldStats, toldPartialStats};
-ghost use Rattle.semantics.specs.Told.{toldChecked, toldReplayed, toldJudgement, toldResolution, toldLinearResolution, toldConversion, toldCreation, toldReplacement, toldFinding, toldRewriting};
+ghost use Rattle.semantics.specs.Told.{toldChecked, toldReplayed, toldJudgement, toldResolution, toldLinearResolution, toldCompaction, toldConversion, toldCreation, toldReplacement, toldFinding, toldRewriting};
 ghost use Rattle.told.specs.Numbers.{numbersOf};
 ghost use Rattle.pozhdaghi.specs.Written.{numbersIn};
 use semantics::answer::Checked;
+use semantics::answer::Compaction;
 use semantics::answer::Conversion;
 use semantics::answer::Creation;
 use semantics::answer::Finding;
@@ -209,6 +210,16 @@ pub(crate) fn of_conversion(answer: Conversion) -> Numbers
         Conversion::Malformed => bare(35),
         Conversion::Full => bare(33),
         Conversion::TooLong => bare(39),
+    }
+}
+
+pub(crate) fn of_compaction(answer: Compaction) -> Numbers
+    ensures { λ r. ⌜ numbersIn r ≡ toldCompaction answer ⌝ }
+{
+    match answer {
+        Compaction::Done { live } => pair(0, live as u64),
+        Compaction::Malformed => bare(35),
+        Compaction::ListTooShort => bare(32),
     }
 }
 

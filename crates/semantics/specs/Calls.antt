@@ -46,6 +46,7 @@ pub mod Waiting
 pub mod Filing
 pub mod Whole
 pub mod Refused
+pub mod Compacted
 
 -- THE CHECK OF AN IMAGE
 unfoldable pub checkCall : Answer ImageRefusal Graph → Checked

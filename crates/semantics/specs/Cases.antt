@@ -28,6 +28,7 @@ pub mod Aliases
 pub mod Instance
 pub mod Entries
 pub mod Versions
+pub mod Compaction
 
 pub starred : List (Row (List (List ℕ)))
 unfolding directly partialsIn stitching firstFiled replaying linearly

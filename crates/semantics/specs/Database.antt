@@ -19,6 +19,7 @@ pub mod Laws
 pub mod Checked
 pub mod Lookup
 pub mod Conversion
+pub mod Compaction
 
 abbrev pub usedIn : List ℕ → ℕ
 usedIn ws = getD ws 0 0

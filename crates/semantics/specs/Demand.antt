@@ -20,7 +20,7 @@ use Rattle.semantics.specs.Answer.{ok}
 use Rattle.semantics.specs.Graph.{nodeId, Graph, View, viewOf, fileOf, isStart, isEndpoint}
 use Rattle.semantics.specs.Path.{Path, replay, isComplete}
 use Rattle.semantics.specs.Enumeration.{Setting, State}
-use Rattle.semantics.specs.PartialPaths.{Route, Slot, slot, belongs, isFileless, ownedBy, fileRoutes, aliasRoutes, replaced}
+use Rattle.semantics.specs.PartialPaths.{Route, Slot, slot, belongs, isFileless, ownedBy, fileRoutes, aliasRoutes, replaced, SameLive}
 pub mod Laws
 pub mod Rules
 pub mod Aliases
@@ -105,10 +105,12 @@ pub data Computed (bd : Bounds) (g : Graph) : ℕ → State Route → Type 0 whe
   of-aliases : {u : State Route} (c : Setting PartialPathRefusal) → aliasRoutes bd Absent c g ≡ ok u → c .maxCount ≡ Absent → c .maxComplete ≡ Absent → Computed bd g nobody u
 
 -- a database in which files and the alias set were then replaced on this graph, without limits and unrefused, in any order; the owners replaced so far.
+-- Between these, dead slots may have been dropped.
 -- It began with any slots that name these: a fresh one has none, and those of an earlier graph are such as long as the words meet neither 35 nor 34
 pub data Built (bd : Bounds) (g : Graph) : List Slot → List ℕ → Type 0 where
   given : {db : List Slot} → OwnersIn g db → Built bd g db []
   after : {db : List Slot} {done : List ℕ} (f : ℕ) (u : State Route) → Built bd g db done → Computed bd g f u → Built bd g (replaced f db u) (f ∷ done)
+  closed : {db db′ : List Slot} {done : List ℕ} → Built bd g db done → SameLive db db′ → Built bd g db′ done
 
 -- what stitching relies on; Acceptance/Laws shows it of every accepted graph and its files, Demand/Aliases of these and nobody
 pub record Suited (g : View) (O : Owners) : Type 0 where

@@ -21,6 +21,7 @@ use Rattle.semantics.specs.Graph.{Graph}
 use Rattle.semantics.specs.Image.{symbolBytes, checkImage}
 use Rattle.semantics.specs.Database.{Part, knownOwners, lookupPart}
 use Rattle.semantics.specs.Database.Conversion.{Converted, convertCall}
+use Rattle.semantics.specs.Database.Compaction.{Compacted, compactCall}
 use Rattle.semantics.specs.Calls.{ReplayOutcome, Request, LinearRequest, FileRequest, Outcome, Change, Reply, checkCall, replayCall, completeCall, shadowsCall, directCall, linearCall, stitchedCall, aliasRequest, freshCall, replaceCall, aliasCall}
 use Rattle.semantics.specs.Finding.{FindRequest, findCall}
 use Rattle.semantics.specs.Rewriting.{Rewritten, widen, narrow}
@@ -93,6 +94,10 @@ replaceFile im f order most expansions ws words = replaceCall base knownOwners (
 -- a database of the former bound rewritten for the present one in a lent area, of which only the length counts
 abbrev pub convertDatabase : List ℕ → List ℕ → Converted
 convertDatabase old new = convertCall former base knownOwners old (length new)
+
+-- the dead slots of a database dropped: its words, and the lent list, of which only the length counts
+abbrev pub compactDatabase : List ℕ → List ℕ → Compacted
+compactDatabase words list = compactCall base knownOwners words (length list)
 
 -- the alias set replaced, lent the same
 abbrev pub replaceAliases : List ℕ → SearchOrder → Limit → Limit → List ℕ → List ℕ → Change Replacement

@@ -1,6 +1,7 @@
 -- The partial paths of a file and those of the alias set, and the slots of a database that hold them.
 -- Document 01, "Partial paths": `StackPartialPathSet::compute`, `replace_file`; document 02, order 5.
 use Prim.Native.Nat.{ℕ, suc}
+use mathlib.Core.Path.{_≡_}
 use mathlib.Core.Bool.{Bool, true, false}
 use mathlib.Core.List.{List, [], _∷_, _++_, map}
 use lib.Dec.{eqb, ltb}
@@ -31,6 +32,16 @@ pub record Route : Type 0 where
 pub data Slot : Type 0 where
   dead : Slot
   slot : (owner start end : ℕ) (edges : List ℕ) → Slot
+
+-- the live slots in their order
+unfoldable pub onlyLive : List Slot → List Slot
+onlyLive [] = []
+onlyLive (dead ∷ ss) = onlyLive ss
+onlyLive (slot f s e es ∷ ss) = slot f s e es ∷ onlyLive ss
+
+-- slots among which the same are live, in the same order
+abbrev pub SameLive : List Slot → List Slot → Type 0
+SameLive db db′ = onlyLive db ≡ onlyLive db′
 
 -- an edge belongs to a file if either end does
 unfoldable pub isOfFile : View → ℕ → Edge → Bool

@@ -40,6 +40,8 @@ use Rattle.semantics.specs.declared.answer.Rewriting.{Rewriting}
 use Rattle.semantics.specs.declared.answer.Rewriting.the-variants as Rewriting
 use Rattle.semantics.specs.declared.answer.Conversion.{Conversion}
 use Rattle.semantics.specs.declared.answer.Conversion.the-variants as Conversion
+use Rattle.semantics.specs.declared.answer.Compaction.{Compaction}
+use Rattle.semantics.specs.declared.answer.Compaction.the-variants as Compaction
 pub mod Laws
 
 -- THE REFUSALS, row by row of document 01's table
@@ -164,3 +166,9 @@ toldConversion Conversion.Done = 0 ∷ []
 toldConversion Conversion.Malformed = 35 ∷ []
 toldConversion Conversion.Full = 33 ∷ []
 toldConversion Conversion.TooLong = 39 ∷ []
+
+-- document 02, order 7: the number of live slots
+abbrev pub toldCompaction : Compaction → List ℕ
+toldCompaction (Compaction.Done live) = 0 ∷ live ∷ []
+toldCompaction Compaction.Malformed = 35 ∷ []
+toldCompaction Compaction.ListTooShort = 32 ∷ []

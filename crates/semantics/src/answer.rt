@@ -85,3 +85,10 @@ pub enum Conversion {
     Full,
     TooLong,
 }
+
+// A database compacted: how many slots are live. 35, then 32 for a list of under two words a live slot.
+pub enum Compaction {
+    Done { live: u32 },
+    Malformed,
+    ListTooShort,
+}

@@ -18,6 +18,7 @@ pub enum Call {
     ReplaceFile,
     ReplaceAliases,
     Convert,
+    Compact,
     Lookup,
     Stitched,
     StitchedRecorded,
@@ -58,7 +59,8 @@ pub struct Case {
     /// The database; of a conversion the old area.
     pub words: Vec<u32>,
     pub work: Vec<u32>,
-    /// The result slots, the words for a replayed path, or the new area of a conversion.
+    /// The result slots, the words for a replayed path, the new area of a conversion, or
+    /// the list of a compaction.
     pub result: Vec<u32>,
     /// The bytes for a rewritten image.
     pub area: Vec<u8>,

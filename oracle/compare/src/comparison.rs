@@ -2,7 +2,7 @@
 
 use crate::agreement::Agreement;
 use crate::case::{Call, Case, Outcome};
-use crate::{agreement, given, ours, second, turned};
+use crate::{agreement, compaction, given, ours, second, turned};
 use std::panic::{AssertUnwindSafe, catch_unwind, set_hook, take_hook};
 
 /// What the three left behind; the given library only where it has the answer.
@@ -22,6 +22,8 @@ pub struct Compared {
     /// Whether a stitched search records what direct search does, where it must; and
     /// which edges its database takes in.
     pub agreement: Option<Agreement>,
+    /// Whether a stitched search answers as before when its database is compacted first.
+    pub is_kept: Option<bool>,
 }
 
 impl Compared {
@@ -35,7 +37,9 @@ impl Compared {
             .as_ref()
             .is_some_and(|turned| *turned != self.ours);
         let disagrees = self.agreement.is_some_and(|found| !found.holds);
-        self.ours != self.second || from_given || from_turned || !self.is_undone || disagrees
+        let is_lost = self.is_kept == Some(false);
+        let is_other = self.ours != self.second || from_given || from_turned;
+        is_other || !self.is_undone || disagrees || is_lost
     }
 }
 
@@ -58,6 +62,7 @@ pub fn compare(case: &Case) -> Option<Compared> {
         turned: turned::run(case),
         is_undone: !case.call.is_rewriting() || turned::is_undone(case, &whole, &ours),
         agreement: agreement::found(case, &whole, &ours),
+        is_kept: compaction::is_kept(case, &ours),
         ours,
         second: whole.cut(case),
         given,

@@ -18,7 +18,12 @@ use cfglib::graph::stack::{
 /// Whether the given library has what led to an answer of this number.
 pub fn has(case: &Case, number: u64) -> bool {
     match case.call {
-        Call::FindName | Call::Widen | Call::Narrow | Call::ReplaceAliases | Call::Convert => false,
+        Call::FindName
+        | Call::Widen
+        | Call::Narrow
+        | Call::ReplaceAliases
+        | Call::Convert
+        | Call::Compact => false,
         Call::Lookup => is_buildable(&case.words),
         Call::ReplaceFile | Call::Stitched | Call::StitchedRecorded => {
             is_answer(number) && is_buildable(&case.words)

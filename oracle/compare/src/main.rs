@@ -6,6 +6,7 @@ mod agreement;
 mod budget;
 mod case;
 mod check;
+mod compaction;
 mod comparison;
 mod conversion;
 mod damage;
@@ -31,6 +32,7 @@ mod second;
 mod shapes;
 mod shrink;
 mod slots;
+mod sparse;
 mod turned;
 
 use comparison::compare;

@@ -39,6 +39,8 @@ unsafe extern "C" {
         words: *mut u32, words_len: usize, answer: *mut u64, answer_len: usize);
     fn pozhdaghi_convert(old: *const u32, old_len: usize, new: *mut u32, new_len: usize,
         answer: *mut u64, answer_len: usize);
+    fn pozhdaghi_compact(words: *mut u32, words_len: usize, list: *mut u32, list_len: usize,
+        answer: *mut u64, answer_len: usize);
     fn pozhdaghi_lookup(words: *const u32, words_len: usize, number: u32,
         answer: *mut u64, answer_len: usize);
     fn pozhdaghi_stitched(image: *const u8, image_len: usize, words: *const u32, words_len: usize,
@@ -103,6 +105,7 @@ fn call(c: &Case, o: &mut Outcome) {
             Call::ReplaceAliases => pozhdaghi_replace_aliases(image, n, asked, asked_n,
                 work, work_n, words, words_n, answer, answer_n),
             Call::Convert => pozhdaghi_convert(words, words_n, result, result_n, answer, answer_n),
+            Call::Compact => pozhdaghi_compact(words, words_n, result, result_n, answer, answer_n),
             Call::Lookup => pozhdaghi_lookup(words, words_n, c.number, answer, answer_n),
             Call::Stitched => pozhdaghi_stitched(image, n, words, words_n, c.number,
                 asked, asked_n, work, work_n, result, result_n, answer, answer_n),

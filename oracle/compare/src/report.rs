@@ -38,6 +38,10 @@ pub struct Counts {
     agreements: [[u64; 2]; 2],
     /// Conversions: live paths that stay, and areas with dead slots between them.
     converted: [u64; 2],
+    /// Compactions that drop slots: live ones that stay, dead ones that go; stitched
+    /// searches put to the compacted words as well.
+    compacted: [u64; 2],
+    kept: u64,
     /// Replayed paths: all, and those with jumps, symbols, attached scopes, scopes.
     replayed: [u64; 5],
 }
@@ -65,20 +69,24 @@ impl Counts {
             .or_default() += 1;
         let is_empty_part = case.call == Call::Lookup && lookup(&case.words, case.number).1 == 0;
         self.empty_parts += u64::from(is_empty_part);
-        if case.call == Call::Convert {
-            self.add_converted(&compared.second.result);
-            return;
+        self.kept += u64::from(compared.is_kept.is_some());
+        self.add_what_was_made(case, compared);
+    }
+
+    /// Paths, names and words that the call handed back.
+    fn add_what_was_made(&mut self, case: &Case, compared: &Compared) {
+        match (case.call, compared.number) {
+            (Call::Compact, _) => self.add_compacted(case, &compared.second.words),
+            (Call::Convert, _) => self.add_converted(&compared.second.result),
+            (Call::Replay, 0) => self.add_replayed(case),
+            (Call::FindName, 0) => self.add_name(case),
+            (_, 0) if !case.result.is_empty() => self.add_found(compared),
+            _ => {}
         }
-        if case.call == Call::Replay && compared.number == 0 {
-            self.add_replayed(case);
-            return;
-        }
-        if case.call == Call::FindName && compared.number == 0 {
-            self.add_name(case);
-            return;
-        }
-        let is_search = !case.result.is_empty() && compared.number == 0;
-        if is_search && let [_, paths, _, _, _, _, flags @ ..] = &compared.second.answer[..] {
+    }
+
+    fn add_found(&mut self, compared: &Compared) {
+        if let [_, paths, _, _, _, _, flags @ ..] = &compared.second.answer[..] {
             self.paths += paths;
             for (count, flag) in self.flags.iter_mut().zip(flags) {
                 *count += flag;
@@ -95,6 +103,16 @@ impl Counts {
         let live = paths.iter().flatten().count();
         self.converted[0] += live as u64;
         self.converted[1] += u64::from(live < paths.len());
+    }
+
+    /// A refused one drops nothing.
+    fn add_compacted(&mut self, case: &Case, new: &[u32]) {
+        if let (Some(&used), Some(&live)) = (case.words.first(), new.first())
+            && live < used
+        {
+            self.compacted[0] += u64::from(live);
+            self.compacted[1] += u64::from(used - live);
+        }
     }
 
     fn add_name(&mut self, case: &Case) {
@@ -154,7 +172,18 @@ impl Counts {
                 told.join(", ")
             );
         }
+        self.print_made();
+        self.print_agreements();
         let [length, count, complete] = self.flags;
+        println!("flags: length {length}, path count {count}, complete paths {complete}");
+        println!(
+            "cases {}, of these also put to the given Rust {}",
+            self.cases, self.given
+        );
+        println!("differences {}", self.differences);
+    }
+
+    fn print_made(&self) {
         println!("lookups with an empty part {}", self.empty_parts);
         println!("paths in result slots {}", self.paths);
         let [names, behind, shadowed] = self.names;
@@ -172,13 +201,12 @@ impl Counts {
         );
         let [live, areas] = self.converted;
         println!("live paths converted {live}, areas with dead slots {areas}");
-        self.print_agreements();
-        println!("flags: length {length}, path count {count}, complete paths {complete}");
+        let [live, dead] = self.compacted;
         println!(
-            "cases {}, of these also put to the given Rust {}",
-            self.cases, self.given
+            "live slots compacted {live}, dead ones dropped {dead}; stitched searches also put to \
+             compacted words {}",
+            self.kept
         );
-        println!("differences {}", self.differences);
     }
 
     fn print_agreements(&self) {
@@ -243,6 +271,9 @@ fn show_answers(case: &Case) {
     }
     if compared.agreement.is_some_and(|found| !found.holds) {
         println!("direct and stitched search record other sets");
+    }
+    if compared.is_kept == Some(false) {
+        println!("another answer on the compacted words");
     }
     if !compared.is_undone {
         println!("rewritten back it is not the image given");

@@ -14,6 +14,7 @@ use crate::requests::{self, number_about};
 use crate::second;
 use crate::shapes;
 use crate::slots;
+use crate::sparse;
 use crate::turned::rewriting_of;
 
 const SEARCHES: [Call; 5] = [
@@ -23,10 +24,12 @@ const SEARCHES: [Call; 5] = [
     Call::Linear,
     Call::LinearRecorded,
 ];
+/// No room for the new slots.
+const FULL: u64 = 33;
 const STITCHED: [Call; 2] = [Call::Stitched, Call::StitchedRecorded];
 
 pub fn scene(random: &mut Random) -> Vec<Case> {
-    let kind = random.weighted(&[30, 30, 25, 15, 12, 15, 8]);
+    let kind = random.weighted(&[30, 30, 25, 15, 12, 15, 8, 10]);
     let graph = if kind == 5 && random.percent(80) {
         draw::aliased(random)
     } else {
@@ -39,7 +42,8 @@ pub fn scene(random: &mut Random) -> Vec<Case> {
         3 => damages(random, &graph),
         4 => rewritings(random, &graph),
         5 => aliases(random, &graph),
-        _ => conversions(random, &graph),
+        6 => conversions(random, &graph),
+        _ => compactions(random, &graph),
     };
     cases.push(Case::new(Call::Check, &graph.image()));
     cases
@@ -134,8 +138,7 @@ fn filing(random: &mut Random, graph: &Graph) -> Vec<Case> {
             any_owner(random, graph)
         };
         if let Some(case) = replacement(random, &image, owner, &words) {
-            words = second::run(&case).words;
-            cases.push(case);
+            cases.extend(refiling(random, case, &mut words));
         }
         if random.percent(50) {
             cases.push(lookup(random, &words));
@@ -146,6 +149,20 @@ fn filing(random: &mut Random, graph: &Graph) -> Vec<Case> {
         }
     }
     cases
+}
+
+/// A replacement; at a 33 the words are compacted, and it is made again.
+fn refiling(random: &mut Random, case: Case, words: &mut Vec<u32>) -> Vec<Case> {
+    let outcome = second::run(&case);
+    *words = outcome.words.clone();
+    if outcome.number() != FULL {
+        return vec![case];
+    }
+    let compacted = compaction(random, words.clone());
+    let mut again = case.clone();
+    again.words = second::run(&compacted).words;
+    *words = second::run(&again).words;
+    vec![case, compacted, again]
 }
 
 fn fresh(random: &mut Random, image: &[u8], length: usize) -> Case {
@@ -321,12 +338,12 @@ fn conversions(random: &mut Random, graph: &Graph) -> Vec<Case> {
     let outcome = second::run(&case);
     cases.push(case);
     if outcome.number() == 0 {
-        cases.extend(behind_conversion(random, graph, &outcome.result));
+        cases.extend(behind_rewritten(random, graph, &outcome.result));
     }
     cases
 }
 
-fn behind_conversion(random: &mut Random, graph: &Graph, words: &[u32]) -> Vec<Case> {
+fn behind_rewritten(random: &mut Random, graph: &Graph, words: &[u32]) -> Vec<Case> {
     let image = graph.image();
     let mut cases = vec![lookup(random, words)];
     for call in STITCHED {
@@ -342,6 +359,39 @@ fn conversion(random: &mut Random, old: Vec<u32>) -> Case {
     let room = former::room(random, &old);
     case.result = random.rubbish(room);
     case.words = old;
+    case.answer_length = requests::answer_length(random);
+    case
+}
+
+/// Databases of all kinds; then one with slots for this graph, with which lookups,
+/// stitched searches and replacements go on.
+fn compactions(random: &mut Random, graph: &Graph) -> Vec<Case> {
+    let mut cases = Vec::new();
+    for _ in 0..10 {
+        let words = if random.below(60) == 0 {
+            sparse::many_slots(random)
+        } else {
+            sparse::any_area(random)
+        };
+        cases.push(compaction(random, words));
+    }
+    let mut words = slots::any_words(random, graph);
+    sparse::kill(random, &mut words);
+    let case = compaction(random, words);
+    let words = second::run(&case).words;
+    cases.push(case);
+    cases.extend(behind_rewritten(random, graph, &words));
+    for owner in [Owner::Nobody, any_owner(random, graph)] {
+        cases.extend(replacement(random, &graph.image(), owner, &words));
+    }
+    cases
+}
+
+fn compaction(random: &mut Random, words: Vec<u32>) -> Case {
+    let mut case = Case::new(Call::Compact, &[]);
+    let length = sparse::list(random, &words);
+    case.result = random.rubbish(length);
+    case.words = words;
     case.answer_length = requests::answer_length(random);
     case
 }

@@ -3,6 +3,7 @@
 use crate::budget::{SLOT, Slots};
 use crate::case::{Call, Case, Outcome};
 use crate::check::{Refusal, check};
+use crate::compaction::{PAIR, compact};
 use crate::conversion::convert;
 use crate::database::{check_database, fresh, lookup, partial_paths, replace};
 use crate::graph::Version;
@@ -34,6 +35,7 @@ fn answered(case: &Case) -> Result<Outcome, Refusal> {
         Call::ReplaceFile => replaced(case, Owner::File(case.number)),
         Call::ReplaceAliases => replaced(case, Owner::Nobody),
         Call::Convert => converted(case),
+        Call::Compact => compacted(case),
         Call::Lookup => Ok(looked_up(case)),
         Call::Widen => rewritten(case, Version::Wide),
         Call::Narrow => rewritten(case, Version::Narrow),
@@ -151,6 +153,21 @@ fn converted(case: &Case) -> Result<Outcome, Refusal> {
     let new = convert(&case.words, case.result.len())?;
     let mut outcome = Outcome::new(case, vec![0]);
     outcome.result[..new.len()].copy_from_slice(&new);
+    Ok(outcome)
+}
+
+/// "Unused list words become zero"; a refused call leaves the whole list so.
+fn compacted(case: &Case) -> Result<Outcome, Refusal> {
+    let done = compact(&case.words, case.result.len())?;
+    let mut outcome = Outcome::new(case, vec![0, done.renumbered.len() as u64]);
+    for (pair, place) in done
+        .renumbered
+        .iter()
+        .zip(outcome.result.chunks_exact_mut(PAIR))
+    {
+        place.copy_from_slice(pair);
+    }
+    outcome.words = done.words;
     Ok(outcome)
 }
 

@@ -21,14 +21,16 @@ use Rattle.semantics.specs.Answer.{Answer, ok, refuse}
 use Rattle.semantics.specs.Graph.{Graph, viewOf}
 use Rattle.semantics.specs.Enumeration.{State}
 use Rattle.semantics.specs.PartialPaths.{Route, Slot, slot, filePartials, aliasRoutes, replaced}
-use Rattle.semantics.specs.PartialPaths.Laws.{file-partials}
-use Rattle.semantics.specs.Demand.{fileOwners, allOwners, OwnersIn, NoAliases, Computed, of-file, of-aliases, Built, given, after, Holds}
+use Rattle.semantics.specs.PartialPaths.Laws.{file-partials, same-none}
+use Rattle.semantics.specs.Demand.{fileOwners, allOwners, OwnersIn, NoAliases, Computed, of-file, of-aliases, Built, given, after, closed, Holds}
 use Rattle.semantics.specs.Demand.Aliases.{computed-sound}
 use Rattle.semantics.specs.Demand.Filled.{kept-aliases, built-holds, built-holds-all}
 use Rattle.semantics.specs.Acceptance.{accepts}
 use Rattle.semantics.specs.Database.{slotsIn, checkDatabase, freshWords, hasRoom, replaceWords, knownOwners}
 use Rattle.semantics.specs.Database.Laws.{fresh-slots, slots-replaced, whole-records}
 use Rattle.semantics.specs.Database.Checked.{Checked, checked-words, checked-owners}
+use Rattle.semantics.specs.Database.Compaction.{compactCall}
+use Rattle.semantics.specs.Database.Compaction.Laws.{compact-live, compact-checked}
 use Rattle.semantics.specs.Calls.{FileRequest, fileSettingOf, aliasRequest, creationOutcome, filingOutcome, computationOutcome, replacementOutcome, aliasOutcome, freshCall, replaceCall, aliasCall}
 
 -- a replacement without limits
@@ -36,7 +38,7 @@ abbrev pub unlimited : SearchOrder → ℕ → ℕ → FileRequest
 unlimited order work f = record { order = order; length = Absent; expansions = Absent; work = work; file = f }
 
 -- the words after some replace calls without limits on this image, of files and of the alias set in any order, all answered with Done, that began with
--- any words at all; the owners replaced so far
+-- any words at all; the owners replaced so far. Between them the words may have been compacted, with any list and whatever that answered
 pub data Refiled (bd : Bounds) (image : Answer ImageRefusal Graph) (before : List ℕ) : List ℕ → List ℕ → Type 0 where
   begun : Refiled bd image before before []
   refiled : {words done : List ℕ} (order : SearchOrder) (work f : ℕ) (t : PartialPathStats) → Refiled bd image before words done
@@ -45,6 +47,7 @@ pub data Refiled (bd : Bounds) (image : Answer ImageRefusal Graph) (before : Lis
   aliased : {words done : List ℕ} (order : SearchOrder) (work : ℕ) (t : PartialPathStats) → Refiled bd image before words done
       → (aliasCall bd knownOwners image (aliasRequest order Absent Absent work) words) .answer ≡ Replacement.Done t
       → Refiled bd image before ((aliasCall bd knownOwners image (aliasRequest order Absent Absent work) words) .database) (nobody ∷ done)
+  compacted : {words done : List ℕ} (len : ℕ) → Refiled bd image before words done → Refiled bd image before ((compactCall bd knownOwners words len) .database) done
 
 -- such words that began as a fresh database of this image
 pub record Filed (bd : Bounds) (image : Answer ImageRefusal Graph) (words done : List ℕ) : Type 0 where
@@ -135,18 +138,21 @@ module _ (bd : Bounds) (g : Graph) (good : accepts g ≡ true) where
   refiled-built known begun = given known
   refiled-built known (refiled {words = words} order work f t b e) = then-built (file-onward order work f words t e) (refiled-built known b)
   refiled-built known (aliased {words = words} order work t b e) = then-built (alias-onward order work words t e) (refiled-built known b)
+  refiled-built known (compacted {words = words} len b) = closed (refiled-built known b) (compact-live bd knownOwners words len)
 
   -- words that this graph takes, before or after any of the replacements, show that those at the beginning named only its files and nobody
   refiled-owners : {before words done : List ℕ} → Refiled bd (ok g) before words done → Checked bd knownOwners g words → OwnersIn g (slotsIn bd before)
   refiled-owners {before = before} begun k = checked-owners bd g before k
   refiled-owners (refiled {words = words} order work f t b e) k = refiled-owners b ((file-onward order work f words t e) .checked)
   refiled-owners (aliased {words = words} order work t b e) k = refiled-owners b ((alias-onward order work words t e) .checked)
+  refiled-owners (compacted {words = words} len b) k = refiled-owners b (compact-checked bd knownOwners g words len k)
 
   -- so does the first replacement
   first-owners : {before words done : List ℕ} → Refiled bd (ok g) before words done → (f : ℕ) → List·Memᴰ f done → OwnersIn g (slotsIn bd before)
   first-owners begun f m = absurd (List·Memᴰ·not-nil m)
   first-owners (refiled {words = words} order work f t b e) f′ m = refiled-owners b ((file-onward order work f words t e) .checked)
   first-owners (aliased {words = words} order work t b e) f′ m = refiled-owners b ((alias-onward order work words t e) .checked)
+  first-owners (compacted len b) f′ m = first-owners b f′ m
 
   -- replacements of files alone bring no slot of the alias set
   pub still-none : {before words done : List ℕ} → Refiled bd (ok g) before words done → NoAliases (slotsIn bd before) → (List·Memᴰ nobody done → ⊥) → NoAliases (slotsIn bd words)
@@ -156,6 +162,7 @@ module _ (bd : Bounds) (g : Graph) (good : accepts g ≡ true) where
       let ih = still-none b none (λ i. out (List·Memᴰ·tail i)) in
       ih s u es (kept-aliases f s u es (slotsIn bd words) (o .state) (λ z. out (List·Memᴰ·head z)) (subst (λ (db : List Slot). List·Memᴰ (slot nobody s u es) db) (sym (o .slots)) m))
   still-none (aliased order work t b e) none out = absurd (out (List·Memᴰ·head refl))
+  still-none (compacted {words = words} len b) none out = same-none (compact-live bd knownOwners words len) (still-none b none out)
 
   fresh-none : (lent : List ℕ) → (freshCall (ok g) lent) .answer ≡ Creation.Done → slotsIn bd ((freshCall (ok g) lent) .database) ≡ []
   unfolding freshCall

@@ -15,7 +15,7 @@ use Rattle.semantics.specs.declared.answer.Replacement.{Replacement}
 use Rattle.semantics.specs.declared.answer.Finding.{Finding}
 use Rattle.semantics.specs.Lists.{pick}
 use Rattle.semantics.specs.Limits.{Bounds, base, slotWords, recordWords}
-use Rattle.semantics.specs.Told.{toldChecked, toldReplayed, toldJudgement, toldResolution, toldLinearResolution, toldCreation, toldReplacement, toldFinding}
+use Rattle.semantics.specs.Told.{toldChecked, toldReplayed, toldJudgement, toldResolution, toldLinearResolution, toldCreation, toldReplacement, toldFinding, toldCompaction}
 use Rattle.semantics.specs.Path.{Path}
 use Rattle.semantics.specs.Enumeration.{State}
 use Rattle.semantics.specs.PartialPaths.{Slot, dead, slot}
@@ -23,6 +23,7 @@ use Rattle.semantics.specs.Recorded.{recorded, returned}
 use Rattle.semantics.specs.Image.{symbolBytes, checkImage}
 use Rattle.semantics.specs.Words.{zeros, listsIn}
 use Rattle.semantics.specs.Database.{slotsIn, knownOwners, lookupPart, wordsOf}
+use Rattle.semantics.specs.Database.Compaction.{Compacted, compactCall}
 use Rattle.semantics.specs.Calls.{Request, LinearRequest, FileRequest, Outcome, Change, ReplayedPath, checkCall, replayCall, completeCall, shadowsCall, directCall, stitchedCall, linearCall, freshCall, replaceCall, aliasRequest, aliasCall}
 use Rattle.semantics.specs.Finding.{FindRequest, findCall}
 use Rattle.semantics.specs.Cases.Graphs.{joined}
@@ -282,6 +283,14 @@ slotsHeld words = map slotWhole (slotsIn base words)
 unfoldable pub lookingUp : ℕ → List ℕ → List (List ℕ)
 unfolding lookupPart
 lookingUp i words = ((lookupPart base knownOwners i words) .from ∷ (lookupPart base knownOwners i words) .upTo ∷ []) ∷ wordsOf (lookupPart base knownOwners i words) words ∷ []
+
+-- every word that a compaction leaves: the database, and the list of so many words
+abbrev pub compactedWords : Compacted → List (List ℕ)
+compactedWords c = toldCompaction (c .answer) ∷ c .database ∷ c .list ∷ []
+
+unfoldable pub compacting : Bounds → List ℕ → ℕ → List (List ℕ)
+unfolding compactCall
+compacting bd words len = compactedWords (compactCall bd knownOwners words len)
 
 -- THE WAITING FIGURE
 

@@ -1,6 +1,6 @@
 -- An instance of demand 3: all its premises hold of graph C and a database that was filed by the public calls.
 -- So the demand is not empty, and its conclusion there is what document 01 says of C. Likewise what is said of names (document 02, order 1), of the
--- alias set (order 5) and of a converted database (order 6).
+-- alias set (order 5), of a converted database (order 6) and of compaction (order 7).
 use Prim.Native.Nat.{ℕ, _+_, _*_, _<_}
 use native.Mathlib.Omega.{arith}
 use mathlib.Core.Path.{_≡_, refl}
@@ -11,8 +11,9 @@ use Rattle.semantics.specs.declared.graph.Node.the-variants as N
 use Rattle.semantics.specs.declared.answer.Conversion.the-variants as Conversion
 use Rattle.semantics.specs.declared.search.Limit.the-variants.{Absent}
 use Rattle.semantics.specs.declared.search.SearchOrder.the-variants.{BreadthFirst}
+use Rattle.semantics.specs.declared.search.PartialPathStats.{PartialPathStats}
 use lib.ListN.{length, replicate}
-use Rattle.semantics.specs.Limits.{base, former, slotWords, recordWords, slotLength, recordLength, nobody}
+use Rattle.semantics.specs.Limits.{Bounds, base, former, slotWords, recordWords, slotLength, recordLength, nobody}
 use Rattle.semantics.specs.Answer.{ok}
 use Rattle.semantics.specs.Graph.{nodeId, fileId, Graph, viewOf, isReference}
 use Rattle.semantics.specs.Path.{Path}
@@ -20,14 +21,17 @@ use Rattle.semantics.specs.Enumeration.{State}
 use Rattle.semantics.specs.Recorded.{recorded}
 use Rattle.semantics.specs.Image.{symbolBytes, checkImage}
 use Rattle.semantics.specs.Image.Laws.{image-accepted}
-use Rattle.semantics.specs.Database.{slotsIn, knownOwners}
+use Rattle.semantics.specs.Database.{slotsIn, knownOwners, lookupPart, wordsOf}
 use Rattle.semantics.specs.Database.Conversion.{convertCall}
 use Rattle.semantics.specs.Database.Conversion.Laws.{converted-holds}
+use Rattle.semantics.specs.Database.Compaction.{newNumber, compactCall}
+use Rattle.semantics.specs.Database.Compaction.Laws.{LiveAt, compact-edges}
 use Rattle.semantics.specs.Entries.{convertDatabase}
 use Rattle.semantics.specs.Demand.{NoAliases, Holds, fileOwners}
 use Rattle.semantics.specs.Words.{zeros, listsIn}
-use Rattle.semantics.specs.Calls.{Request, directCall, stitchedCall, freshCall, replaceCall, aliasCall}
-use Rattle.semantics.specs.Calls.Filing.{Refiled, Filed, unlimited, begun, refiled, aliased, still-none, filed-none, filed-holds}
+use Rattle.semantics.specs.Calls.{Request, FileRequest, directCall, stitchedCall, freshCall, replaceCall, aliasCall}
+use Rattle.semantics.specs.Calls.Filing.{Refiled, Filed, unlimited, begun, refiled, aliased, compacted, still-none, filed-none, filed-holds}
+use Rattle.semantics.specs.Calls.Compacted.{Overfull, ofFile, compact-premises, compact-alias-premises, file-full}
 use Rattle.semantics.specs.Calls.Whole.{recordedSet, directRecorded, stitchedRecorded, Premises, filed-premise, Refiling, AliasPremises, refiled-aliases, AliasRefiling}
 use Rattle.semantics.specs.Finding.{Name, FindRequest, findCall}
 use Rattle.semantics.specs.Finding.Laws.{Unnamed, Lowest, searchBy, nothing-answered, found-answered}
@@ -219,6 +223,57 @@ alias-refiling-a = record {
   direct-finished = record { paths = 1; stats = record { expanded = 3; complete = 1; rejected = 1; cycles = 0; lengthLimited = false; countLimited = false; completeLimited = false; waited = 1 }; answered = refl; uncounted = refl; uncut = refl };
   stitched-finished = record { paths = 1; stats = record { expanded = 4; complete = 2; rejected = 2; cycles = 0; lengthLimited = false; countLimited = false; completeLimited = false; waited = 2 }; answered = refl; uncounted = refl; uncut = refl };
 }
+
+-- WHAT IS SAID OF COMPACTION HAS INSTANCES
+
+-- demand 3's premises hold of C after one, and those of order 5
+pub premises-compacted : Premises symbolBytes base imageC ((compactCall base knownOwners (firstFiled imageC) 6) .database) askedC askedC
+premises-compacted = compact-premises symbolBytes base imageC (firstFiled imageC) askedC askedC 6 premises-c
+
+pub alias-premises-compacted : AliasPremises symbolBytes base imageC ((compactCall base knownOwners allC 8) .database) askedC askedC
+alias-premises-compacted = compact-alias-premises symbolBytes base imageC allC askedC askedC 8 alias-premises-c
+
+-- the file of C is filed twice in 8 slots, its dead slots are dropped, and it is filed again: a database that was filed
+abbrev twiceC : List ℕ
+twiceC = (replacing imageC 0 (firstFiled imageC)) .database
+
+abbrev closedC : List ℕ
+closedC = (compactCall base knownOwners twiceC 6) .database
+
+abbrev statsC : PartialPathStats
+statsC = record { expanded = 5; found = 3; cycles = 0; lengthLimited = false; countLimited = false; waited = 2 }
+
+pub cycleC : Filed base (checkImage symbolBytes imageC) ((replacing imageC 0 closedC) .database) (0 ∷ 0 ∷ 0 ∷ [])
+unfolding firstFiled replacing freshly checkImage freshCall replaceCall compactCall
+cycleC = record {
+  lent = zeros (3 + 8 * recordLength);
+  created = refl;
+  replaced = refiled BreadthFirst (128 * slotLength) 0 statsC
+      (compacted 6 (refiled BreadthFirst (128 * slotLength) 0 statsC (refiled BreadthFirst (128 * slotLength) 0 statsC begun refl) refl)) refl;
+}
+
+-- on A, 33 directly after a compaction: 5 live slots and 5 new ones in 8
+abbrev againA : FileRequest
+againA = unlimited BreadthFirst (128 * slotLength) 0
+
+pub full-a : Overfull base (ok graphA) (ofFile base againA) (firstFiled imageA) 5
+unfolding firstFiled replacing freshly checkImage freshCall replaceCall compactCall
+full-a = file-full base knownOwners (firstFiled imageA) 10 5 refl againA (ok graphA) refl
+
+-- slot 1 of these words, the first of which is dead, has the new number 0, and a lookup gives its edges 8 and 5
+abbrev short : Bounds
+short = record { edges = 2; expansions = 9 }
+
+abbrev holed : List ℕ
+holed = 2 ∷ 4 ∷ 2 ∷ 0 ∷ 9 ∷ 9 ∷ 9 ∷ 9 ∷ 9 ∷ 1 ∷ 3 ∷ 7 ∷ 2 ∷ 8 ∷ 5 ∷ []
+
+alive : LiveAt short holed 1
+unfolding compactCall
+alive = record { used = omega arith; alive = refl }
+
+pub moved-one : wordsOf (lookupPart short knownOwners (newNumber short 1 holed) ((compactCall short knownOwners holed 2) .database)) ((compactCall short knownOwners holed 2) .database) ≡ wordsOf (lookupPart short knownOwners 1 holed) holed
+unfolding compactCall
+moved-one = compact-edges short knownOwners holed 2 1 refl 1 alive
 
 -- WHAT IS SAID OF NAMES HAS INSTANCES: on A node 5 has no name, and node 4 has one
 abbrev onA : ℕ → FindRequest

@@ -1,7 +1,7 @@
 -- The words of a database after a file is replaced decode to the slots with that file replaced.
 -- Links the words of document 01, "Partial paths", to the slots of which demand 3 speaks.
 use Prim.Native.Nat.{ℕ, zero, suc, _+_, _≤_, _-_, _*_}
-use native.Mathlib.Nat.{add-zero, zero-add, suc-add, mul-suc, mul-le-mul-left, le-trans}
+use native.Mathlib.Nat.{add-zero, zero-add, suc-add, mul-zero, mul-suc, mul-le-mul-left, le-trans}
 use native.Mathlib.Omega.{arith}
 use mathlib.Core.Path.{_≡_, refl, sym, _∙_, ap}
 use mathlib.Core.Bool.{Bool, true, false, not}
@@ -46,6 +46,11 @@ slots-long L (suc n) ws h = (length-take-le L ws (omega (arith, mul-suc L n)), s
 pub length-map : {A B : Type 0} (f : A → B) (l : List A) → length (map f l) ≡ length l
 length-map f [] = refl
 length-map f (x ∷ l) = ap suc (length-map f l)
+
+pub length-packed : (L : ℕ) (xs : List (List ℕ)) → AllLong L xs → length (flatten xs) ≡ L * length xs
+unfolding flatten
+length-packed L [] h = sym (mul-zero L)
+length-packed L (x ∷ xs) h = omega (arith, length-append x (flatten xs), h .0, length-packed L xs (h .1), mul-suc L (length xs))
 
 clear-long : (L f : ℕ) (xs : List (List ℕ)) → AllLong L xs → AllLong L (map (clearRecord f) xs)
 unfolding clearRecord zeroIf
@@ -121,6 +126,11 @@ slots-replaced bd g f s ws h k =
     ∙ map-append decode xs ys
     ∙ ap (λ (w : List Slot). w ++ map decode ys) (decode-clear f old)
     ∙ ap (λ (w : List Slot). clear f (map decode old) ++ w) (decode-new (bd .edges) f (s .kept) k)
+
+-- the capacity of an area depends on its length alone
+pub same-capacity : (bd : Bounds) (xs ys : List ℕ) → length xs ≡ length ys → capacity bd xs ≡ capacity bd ys
+unfolding capacity
+same-capacity bd xs ys e = ap (λ n. pick (ltb (wholeSlots (recordWords bd) (n - 3)) 4096) (wholeSlots (recordWords bd) (n - 3)) 4096) e
 
 -- a database within its capacity has all its records whole
 pub whole-records : (bd : Bounds) (ws : List ℕ) → usedIn ws ≤ capacity bd ws → recordWords bd * usedIn ws ≤ length (drop 3 ws)

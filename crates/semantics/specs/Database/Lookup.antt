@@ -67,6 +67,13 @@ module _ (bd : Bounds) (known : ℕ → ℕ → Bool) (i : ℕ) (ws : List ℕ) 
       let s : getD (map decode (records bd ws)) i dead ≡ decode record-at = List·getD-map decode (records bd ws) i [] ∙ ap decode (record-is h) in
       rw (w, b) (edges-at record-at refl (sound-at w h) ∙ ap slotEdges (sym s))
 
+  -- the whole answer: where the edges of record i stand
+  pub lookup-at : wellFormed bd known ws ≡ true → i < usedIn ws → lookupPart bd known i ws ≡ edgesPart (recordPlace bd i) (getD (records bd ws) i [])
+  unfolding lookupPart partIf record-at
+  lookup-at w h =
+      let b : ltb i (usedIn ws) ≡ true = T→eq (ltb i (usedIn ws)) (lt→ltb i (usedIn ws) h) in
+      rw (w, b) (ap (edgesPart (recordPlace bd i)) (sym (record-is h)))
+
   -- words that meet 35, or a number beyond use: an empty part
   pub lookup-none : and (wellFormed bd known ws) (ltb i (usedIn ws)) ≡ false → lookupPart bd known i ws ≡ emptyPart
   unfolding lookupPart partIf

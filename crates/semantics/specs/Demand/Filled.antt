@@ -12,8 +12,8 @@ use Rattle.semantics.specs.Limits.{Bounds, nobody}
 use Rattle.semantics.specs.Graph.{Graph, viewOf}
 use Rattle.semantics.specs.Enumeration.{State}
 use Rattle.semantics.specs.PartialPaths.{Route, Slot, slot, clear, slotOf, replaced}
-use Rattle.semantics.specs.PartialPaths.Laws.{clear-from, clear-keeps}
-use Rattle.semantics.specs.Demand.{fileOwners, allOwners, Partial, Built, given, after, NoAliases, Holds}
+use Rattle.semantics.specs.PartialPaths.Laws.{clear-from, clear-keeps, same-mem, same-back}
+use Rattle.semantics.specs.Demand.{fileOwners, allOwners, Partial, Built, given, after, closed, NoAliases, Holds}
 use Rattle.semantics.specs.Demand.Aliases.{file-to-all, all-to-file, computed-known, computed-sound, computed-whole}
 use Rattle.semantics.specs.Acceptance.{accepts}
 
@@ -58,6 +58,7 @@ module _ (bd : Bounds) (g : Graph) (good : accepts g ≡ true) where
           let ee : es ≡ x .0 .edges = cc in
           let r : record { start = s; current = t; edges = es } ≡ x .0 = λ j. record { start = ss j; current = t₁ j; edges = ee j } in
           (subst (allOwners g .Known) (sym ff) (computed-known g good bd h), λ j. rw (ff, r) p)
+  built-only (closed b e) f s t es m = built-only b f s t es (same-back e f s t es m)
 
   built-every : {db : List Slot} {done : List ℕ} → Built bd g db done → (f : ℕ) (r : Route) → List·Memᴰ f done → Partial bd Absent (viewOf g) (allOwners g) f r → List·Memᴰ (slot f (r .start) (r .current) (r .edges)) db
   unfolding replaced
@@ -73,6 +74,7 @@ module _ (bd : Bounds) (g : Graph) (good : accepts g ≡ true) where
           older : (f ≡ f′) ⊎ List·Memᴰ f done → List·Memᴰ f done
           older (inl q) = absurd (true≢false (sym (eqb-same f) ∙ ap (eqb f) q ∙ e))
           older (inr q) = q
+  built-every (closed b e) f r m p = same-mem e f (r .start) (r .current) (r .edges) (built-every b f r m p)
 
   module _ (db : List Slot) (done : List ℕ) (b : Built bd g db done) (all : (f : ℕ) → f < g .files → List·Memᴰ f done) where
     -- every file was replaced, and no slot is of the alias set

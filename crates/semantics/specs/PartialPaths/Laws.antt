@@ -22,7 +22,7 @@ use Rattle.semantics.specs.declared.refusal.PartialPathRefusal.{PartialP
 use Rattle.semantics.specs.declared.refusal.PartialPathRefusal.the-variants.{UnknownFile, TooLong}
 use Rattle.semantics.specs.Lists.{has, or, and, select, Distinct}
 use Rattle.semantics.specs.Lists.Laws.{T→eq, eq→T, eqb-true, eqb-same, or-true, and-true, distinct-snoc, distinct-split, map-mem, mem-map, consIf-tail, consIf-cases, select-in, in-select, length-snoc}
-use Rattle.semantics.specs.Limits.{Bounds, within}
+use Rattle.semantics.specs.Limits.{Bounds, within, nobody}
 use Rattle.semantics.specs.Limits.Laws.{within-le, within-zero}
 use Rattle.semantics.specs.Answer.{ok}
 use Rattle.semantics.specs.Answer.Laws.{refuse-ok}
@@ -30,8 +30,8 @@ use Rattle.semantics.specs.Graph.{nodeId, fileId, Graph, View, viewOf, f
 use Rattle.semantics.specs.Graph.Laws.{viewOf-lawful}
 use Rattle.semantics.specs.Enumeration.{go, Setting, State, tested}
 use Rattle.semantics.specs.Enumeration.Laws.{Leads, here, on, enumerate-full, enumerate-sound, enumerate-unlimited, tested-go}
-use Rattle.semantics.specs.PartialPaths.{Route, Slot, dead, slot, isOfFile, belongs, targetOf, longer, reached, judgeRoute, routeTries, startsFrom, routeAt, startRoutes, partials, fileRoutes, ifKnown, filePartials, clear, deadIf}
-use Rattle.semantics.specs.Demand.{Owners, fileOwners, Walk, stay, step, Partial}
+use Rattle.semantics.specs.PartialPaths.{Route, Slot, dead, slot, isOfFile, belongs, targetOf, longer, reached, judgeRoute, routeTries, startsFrom, routeAt, startRoutes, partials, fileRoutes, ifKnown, filePartials, clear, deadIf, onlyLive, SameLive}
+use Rattle.semantics.specs.Demand.{Owners, fileOwners, Walk, stay, step, Partial, Holds, NoAliases}
 
 pub walk-snoc : (g : View) (mine : ℕ → Bool) (e : ℕ) (t : NodeId) (p : ℤ) {n m : ℕ} {es : List ℕ} → Walk g mine n es m → g .edge e ≡ E.Live (nodeId m) t p → mine e ≡ true → Walk g mine n (es ++ (e ∷ [])) (t .0)
 walk-snoc g mine e t p stay h b = step p h b stay
@@ -258,3 +258,39 @@ clear-keeps f f′ s t es (slot x s′ t′ es′ ∷ db) n m = ⊎-elim (λ e. 
   where
     stays : slot f′ s t es ≡ slot x s′ t′ es′ → slot f′ s t es ≡ deadIf (eqb x f) (slot x s′ t′ es′)
     stays e = let z : f′ ≡ x = cc in let y : eqb x f ≡ false = ap (λ q. eqb q f) (sym z) ∙ n in e ∙ ap (λ b. deadIf b (slot x s′ t′ es′)) (sym y)
+
+-- THE LIVE SLOTS are what can be found in a database
+pub live-in : (f s t : ℕ) (es : List ℕ) (db : List Slot) → List·Memᴰ (slot f s t es) db → List·Memᴰ (slot f s t es) (onlyLive db)
+unfolding onlyLive
+live-in f s t es [] m = absurd (List·Memᴰ·not-nil m)
+live-in f s t es (dead ∷ db) m = ⊎-elim (λ e. absurd (let z : _≡_ {A = Bool} true false = cc in true≢false z)) (λ k. live-in f s t es db k) (List·Memᴰ·cases-cons m)
+live-in f s t es (slot x s′ t′ es′ ∷ db) m = ⊎-elim (λ (e : slot f s t es ≡ slot x s′ t′ es′). List·Memᴰ·head e) (λ k. List·Memᴰ·tail (live-in f s t es db k)) (List·Memᴰ·cases-cons m)
+
+pub live-from : (f s t : ℕ) (es : List ℕ) (db : List Slot) → List·Memᴰ (slot f s t es) (onlyLive db) → List·Memᴰ (slot f s t es) db
+unfolding onlyLive
+live-from f s t es [] m = absurd (List·Memᴰ·not-nil m)
+live-from f s t es (dead ∷ db) m = List·Memᴰ·tail (live-from f s t es db m)
+live-from f s t es (slot x s′ t′ es′ ∷ db) m = ⊎-elim (λ (e : slot f s t es ≡ slot x s′ t′ es′). List·Memᴰ·head e) (λ k. List·Memᴰ·tail (live-from f s t es db k)) (List·Memᴰ·cases-cons m)
+
+pub live-again : (db : List Slot) → onlyLive (onlyLive db) ≡ onlyLive db
+unfolding onlyLive
+live-again [] = refl
+live-again (dead ∷ db) = live-again db
+live-again (slot f s t es ∷ db) = ap (λ (l : List Slot). slot f s t es ∷ l) (live-again db)
+
+module _ {db db′ : List Slot} (e : SameLive db db′) where
+  pub same-mem : (f s t : ℕ) (es : List ℕ) → List·Memᴰ (slot f s t es) db → List·Memᴰ (slot f s t es) db′
+  same-mem f s t es m = live-from f s t es db′ (subst (λ (l : List Slot). List·Memᴰ (slot f s t es) l) e (live-in f s t es db m))
+
+  pub same-back : (f s t : ℕ) (es : List ℕ) → List·Memᴰ (slot f s t es) db′ → List·Memᴰ (slot f s t es) db
+  same-back f s t es m = live-from f s t es db (subst (λ (l : List Slot). List·Memᴰ (slot f s t es) l) (sym e) (live-in f s t es db′ m))
+
+  -- so the premise of demand 3 does not depend on dead slots
+  pub same-holds : (O : Owners) (bd : Bounds) (g : View) → Holds O bd g db → Holds O bd g db′
+  same-holds O bd g h = record {
+    every = λ f r k p. same-mem f (r .start) (r .current) (r .edges) (h .every f r k p);
+    only = λ f s t es m. h .only f s t es (same-back f s t es m);
+  }
+
+  pub same-none : NoAliases db → NoAliases db′
+  same-none out = λ s t es m. out s t es (same-back nobody s t es m)

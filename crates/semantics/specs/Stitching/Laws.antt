@@ -24,7 +24,7 @@ use Rattle.semantics.specs.Lists.{consIf, shares, Distinct}
 use Rattle.semantics.specs.Lists.Laws.{T→eq, eqb-true, eqb-same, and-true, distinct-left, distinct-right, distinct-join, shares-none, consIf-tail, consIf-cases, length-snoc}
 use Rattle.semantics.specs.Limits.{Bounds, within}
 use Rattle.semantics.specs.Limits.Laws.{within-le, within-zero}
-use Rattle.semantics.specs.Answer.{Answer, ok, refuse, wrap}
+use Rattle.semantics.specs.Answer.{Answer, ok, refuse, andThen, wrap}
 use Rattle.semantics.specs.Answer.Laws.{ok-inj, andThen-ok, wrap-ok}
 use Rattle.semantics.specs.Graph.{nodeId, View, fileOf, isReference, isDefinition, isStart, isEndpoint}
 use Rattle.semantics.specs.Graph.Laws.{exported-start, reference-start, definition-endpoint}
@@ -34,7 +34,7 @@ use Rattle.semantics.specs.Enumeration.{Try, go, Setting, State, enumera
 use Rattle.semantics.specs.Enumeration.Laws.{Leads, here, on, enumerate-full, enumerate-sound, tested-go}
 use Rattle.semantics.specs.Recorded.{edgeLists, distinct, recorded}
 use Rattle.semantics.specs.Recorded.Laws.{Deduped, distinct-is, mem-lists}
-use Rattle.semantics.specs.PartialPaths.{Slot, dead, slot}
+use Rattle.semantics.specs.PartialPaths.{Slot, dead, slot, onlyLive, SameLive}
 use Rattle.semantics.specs.PartialPaths.Laws.{walk-snoc, walk-cons}
 use Rattle.semantics.specs.Stitching.{ended, extended, joined, judgeSlot, slotTries, stitched}
 use Rattle.semantics.specs.Demand.{Owners, Owned, Suited, Once, Taken, Valid, Walk, stay, step, Partial, Holds}
@@ -328,3 +328,17 @@ module _ (O : Owners) (bd : Bounds) (lim : Limit) (c : Setting SearchRefusal) (g
 
       d : Deduped [] (u .kept) (distinct [] (u .kept))
       d = distinct-is (u .kept) []
+
+-- DEAD SLOTS ARE NOT TRIED, so that a search sees only the live ones and their order
+tries-live : (bd : Bounds) (lim : Limit) (g : View) (db : List Slot) (p : Path) → slotTries bd lim g (onlyLive db) p ≡ slotTries bd lim g db p
+unfolding slotTries onlyLive
+tries-live bd lim g [] p = refl
+tries-live bd lim g (dead ∷ db) p = tries-live bd lim g db p
+tries-live bd lim g (slot f s e es ∷ db) p = ap (λ l. consIf (eqb s (p .end)) (judgeSlot bd lim g p es) l) (tries-live bd lim g db p)
+
+stitched-live : (bd : Bounds) (lim : Limit) (c : Setting SearchRefusal) (g : View) (db : List Slot) (r : ℕ) → stitched bd lim c g (onlyLive db) r ≡ stitched bd lim c g db r
+unfolding stitched
+stitched-live bd lim c g db r = λ i. andThen (wrap Search.Path (fromReference g r)) (λ p. enumerate c (λ q. tries-live bd lim g db q i) (bd .expansions) (p ∷ []))
+
+pub same-stitched : (bd : Bounds) (lim : Limit) (c : Setting SearchRefusal) (g : View) (db db′ : List Slot) (r : ℕ) → SameLive db db′ → stitched bd lim c g db r ≡ stitched bd lim c g db′ r
+same-stitched bd lim c g db db′ r e = sym (stitched-live bd lim c g db r) ∙ ap (λ (l : List Slot). stitched bd lim c g l r) e ∙ stitched-live bd lim c g db′ r

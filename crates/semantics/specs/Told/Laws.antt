@@ -40,11 +40,13 @@ use Rattle.semantics.specs.declared.answer.Finding.{Finding}
 use Rattle.semantics.specs.declared.answer.Finding.the-variants as Finding
 use Rattle.semantics.specs.Lists.{or, pick}
 use Rattle.semantics.specs.Graph.{nodeId, edgeId, fileId}
-use Rattle.semantics.specs.Told.{toldFlag, toldImage, toldPath, toldReplayRefusal, toldSearch, toldLinear, toldPartial, toldDatabase, toldStats, toldPartialStats, toldChecked, toldReplayed, toldJudgement, toldResolution, toldLinearResolution, toldCreation, toldReplacement, toldFinding, toldRewriting, toldConversion}
+use Rattle.semantics.specs.Told.{toldFlag, toldImage, toldPath, toldReplayRefusal, toldSearch, toldLinear, toldPartial, toldDatabase, toldStats, toldPartialStats, toldChecked, toldReplayed, toldJudgement, toldResolution, toldLinearResolution, toldCreation, toldReplacement, toldFinding, toldRewriting, toldConversion, toldCompaction}
 use Rattle.semantics.specs.declared.answer.Rewriting.{Rewriting}
 use Rattle.semantics.specs.declared.answer.Rewriting.the-variants as Rewriting
 use Rattle.semantics.specs.declared.answer.Conversion.{Conversion}
 use Rattle.semantics.specs.declared.answer.Conversion.the-variants as Conversion
+use Rattle.semantics.specs.declared.answer.Compaction.{Compaction}
+use Rattle.semantics.specs.declared.answer.Compaction.the-variants as Compaction
 
 -- what can be read back is told without loss
 told-alike : {A : Type 0} (told : A → List ℕ) (read : List ℕ → A) → ((a : A) → read (told a) ≡ a) → (a b : A) → told a ≡ told b → a ≡ b
@@ -387,3 +389,14 @@ conversion-back Conversion.TooLong = refl
 
 pub conversion-alike : (a b : Conversion) → toldConversion a ≡ toldConversion b → a ≡ b
 conversion-alike = told-alike toldConversion readConversion conversion-back
+
+abbrev readCompaction : List ℕ → Compaction
+readCompaction t = pick (eqb (number t) 0) (Compaction.Done (value 0 t)) (pick (eqb (number t) 35) Compaction.Malformed Compaction.ListTooShort)
+
+compaction-back : (a : Compaction) → readCompaction (toldCompaction a) ≡ a
+compaction-back (Compaction.Done live) = refl
+compaction-back Compaction.Malformed = refl
+compaction-back Compaction.ListTooShort = refl
+
+pub compaction-alike : (a b : Compaction) → toldCompaction a ≡ toldCompaction b → a ≡ b
+compaction-alike = told-alike toldCompaction readCompaction compaction-back

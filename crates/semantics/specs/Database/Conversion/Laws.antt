@@ -2,7 +2,7 @@
 -- Document 02, order 6.
 use Prim.Native.Nat.{ℕ, zero, suc, _+_, _-_, _*_, _≤_}
 use native.Mathlib.Omega.{arith}
-use native.Mathlib.Nat.{add-zero, mul-zero, mul-suc}
+use native.Mathlib.Nat.{add-zero}
 use mathlib.Core.Path.{_≡_, refl, sym, _∙_, ap, subst}
 use mathlib.Core.Logic.{⊎-elim}
 use mathlib.Core.Bool.{Bool, true, false, true≢false, not}
@@ -17,10 +17,10 @@ use Rattle.semantics.specs.Lists.Laws.{and-true, eq→T, T→eq}
 use Rattle.semantics.specs.Limits.{Bounds, recordWords}
 use Rattle.semantics.specs.Graph.{View}
 use Rattle.semantics.specs.PartialPaths.{Slot, dead, slot}
-use Rattle.semantics.specs.Words.{zeros, wholeSlots, slotsOf}
+use Rattle.semantics.specs.Words.{zeros, slotsOf}
 use Rattle.semantics.specs.Words.Laws.{length-slots}
 use Rattle.semantics.specs.Database.{usedIn, nodesIn, filesIn, capacity, decode, encodeSlot, records, slotsIn, sound, every, wellFormed}
-use Rattle.semantics.specs.Database.Laws.{AllLong, slots-flatten, slots-long, slots-none, decode-encode, decode-zeros, length-map, whole-records}
+use Rattle.semantics.specs.Database.Laws.{AllLong, slots-flatten, slots-long, slots-none, decode-encode, decode-zeros, length-map, length-packed, same-capacity, whole-records}
 use Rattle.semantics.specs.Database.Conversion.{Converted, turnedBack, fitsIn, allFit, convertWords, convertCall}
 use Rattle.semantics.specs.Demand.{Owners, Holds}
 
@@ -125,16 +125,6 @@ convert-records old new ws len =
     let n : length xs ≡ usedIn ws = length-map (encodeSlot L) ss ∙ length-map decode (slotsOf (recordWords old) (usedIn ws) (drop 3 ws)) ∙ length-slots (recordWords old) (usedIn ws) (drop 3 ws) in
     ap (λ i. slotsOf L i (flatten xs ++ rest)) (sym n ∙ sym (add-zero (length xs)))
     ∙ slots-flatten L 0 xs rest (encode-all-long L ss) ∙ ap (λ (w : List (List ℕ)). xs ++ w) (slots-none L rest) ∙ append-nil xs
-
-length-packed : (L : ℕ) (xs : List (List ℕ)) → AllLong L xs → length (flatten xs) ≡ L * length xs
-unfolding flatten
-length-packed L [] h = sym (mul-zero L)
-length-packed L (x ∷ xs) h = omega (arith, length-append x (flatten xs), h .0, length-packed L xs (h .1), mul-suc L (length xs))
-
--- the capacity of an area depends on its length alone
-same-capacity : (bd : Bounds) (xs ys : List ℕ) → length xs ≡ length ys → capacity bd xs ≡ capacity bd ys
-unfolding capacity
-same-capacity bd xs ys e = ap (λ n. pick (ltb (wholeSlots (recordWords bd) (n - 3)) 4096) (wholeSlots (recordWords bd) (n - 3)) 4096) e
 
 module _ (old new : Bounds) (known : ℕ → ℕ → Bool) (ws : List ℕ) (len : ℕ) (good : wellFormed old known ws ≡ true) (three : 3 ≤ len) (room : usedIn ws ≤ capacity new (zeros len)) (fit : allFit new (slotsIn old ws) ≡ true) where
   parts : (usedIn ws ≤ capacity old ws) × (every (sound old known (nodesIn ws) (filesIn ws)) (records old ws) ≡ true)
