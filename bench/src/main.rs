@@ -3,13 +3,15 @@
 //! and by the given Rust. bench --names IMAGE ..: names for definitions, against
 //! the recorded searches that they make. bench --convert: an old database converted,
 //! against a plain copy. bench --compact: a database compacted, against two copies.
-//! README.md says what a line holds.
+//! bench --desks IMAGE ..: direct searches with half of the files hidden, against those
+//! where their records are removed. README.md says what a line holds.
 
 use settings::Settings;
 use std::process::exit;
 
 mod compaction;
 mod conversion;
+mod desks;
 #[path = "../../oracle/src/load.rs"]
 mod load;
 mod names;
@@ -44,7 +46,8 @@ fn main() {
     let only = (words.first().is_some_and(|word| word == "--only") && words.len() >= 4)
         .then(|| words.drain(..4).collect::<Vec<String>>());
     let of_names = words.first().is_some_and(|word| word == "--names");
-    words.drain(..usize::from(of_names));
+    let of_desks = words.first().is_some_and(|word| word == "--desks");
+    words.drain(..usize::from(of_names || of_desks));
     let mut agreed = true;
     for name in words {
         let bytes = std::fs::read(&name).expect("the image can be read");
@@ -52,6 +55,8 @@ fn main() {
         match &only {
             Some(words) => run_only(&words[1..], &bytes, &settings),
             None if of_names => agreed &= names::compare(&name, &bytes, &settings),
+            None if of_desks && settings.files < 2 => {}
+            None if of_desks => agreed &= desks::compare(&name, &bytes, &settings),
             None => agreed &= report::compare(&name, &bytes, &settings),
         }
     }

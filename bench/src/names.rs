@@ -5,7 +5,7 @@
 use crate::ours;
 use crate::report::{best_of, timed};
 use crate::settings::Settings;
-use pozhdaghi::{Limits, Request, SLOT_WORDS, find_name};
+use pozhdaghi::{Limits, Request, SLOT_WORDS, Visible, find_name};
 use std::cell::RefCell;
 
 /// So many definitions of an image are named, spread over all of them.
@@ -112,13 +112,21 @@ impl<'a> Names<'a> {
 
     fn name(&mut self, node: u32) -> Result<Option<u32>, pozhdaghi::Refusal> {
         let length = self.settings.search.length;
-        find_name(self.bytes, node, length, &mut self.work, &mut self.result)
+        find_name(
+            self.bytes,
+            Visible::All,
+            node,
+            length,
+            &mut self.work,
+            &mut self.result,
+        )
     }
 
     fn record(&mut self, reference: u32) -> bool {
         let request = self.request();
         let (work, result) = (&mut self.work, &mut self.result);
-        pozhdaghi::direct_recorded(self.bytes, reference, &request, work, result).is_ok()
+        pozhdaghi::direct_recorded(self.bytes, Visible::All, reference, &request, work, result)
+            .is_ok()
     }
 
     /// For each definition the references that are searched for its name.

@@ -4,7 +4,7 @@
 
 use crate::settings::Settings;
 use crate::{Job, Told};
-use pozhdaghi::{DATABASE_HEAD, RECORD_WORDS, Refusal, SLOT_WORDS};
+use pozhdaghi::{DATABASE_HEAD, RECORD_WORDS, Refusal, SLOT_WORDS, Visible};
 use std::time::{Duration, Instant};
 
 const MAX_RECORDS: usize = 4_096;
@@ -136,10 +136,21 @@ impl<'a> Ours<'a> {
             let at = self.settings.references.get(call).copied().unwrap_or(0);
             let (work, result) = (&mut self.work[..lent], &mut self.result[..lent]);
             told.push(match job {
-                Job::Direct => {
-                    resolution(pozhdaghi::direct(self.bytes, at, &request, work, result))
-                }
-                Job::Linear => resolution(pozhdaghi::linear(self.bytes, at, &request, result)),
+                Job::Direct => resolution(pozhdaghi::direct(
+                    self.bytes,
+                    Visible::All,
+                    at,
+                    &request,
+                    work,
+                    result,
+                )),
+                Job::Linear => resolution(pozhdaghi::linear(
+                    self.bytes,
+                    Visible::All,
+                    at,
+                    &request,
+                    result,
+                )),
                 Job::Replace => replacement(pozhdaghi::replace_file(
                     self.bytes,
                     call as u32,
@@ -149,6 +160,7 @@ impl<'a> Ours<'a> {
                 )),
                 Job::Stitched => resolution(pozhdaghi::stitched(
                     self.bytes,
+                    Visible::All,
                     &self.words,
                     at,
                     &request,

@@ -1,7 +1,7 @@
 //! Resolves every reference of graph A of document 01, directly and by
 //! stitching, and prints the paths.
 
-use pozhdaghi::{Refusal, Request, RECORD_WORDS, SLOT_WORDS};
+use pozhdaghi::{Refusal, Request, Visible, RECORD_WORDS, SLOT_WORDS};
 
 /// One file, six nodes and three edges: node 2 pushes 7, 4 pops it, 5 pops 8.
 const GRAPH_A: [u8; 77] = [
@@ -32,7 +32,14 @@ fn resolve(image: &[u8]) -> Result<(), Refusal> {
 
     let counts = pozhdaghi::check(image)?;
     println!("{counts:?}");
-    let found = pozhdaghi::direct(image, REFERENCE, &request, &mut work, &mut result)?;
+    let found = pozhdaghi::direct(
+        image,
+        Visible::All,
+        REFERENCE,
+        &request,
+        &mut work,
+        &mut result,
+    )?;
     println!("direct {found:?}");
     pozhdaghi::paths(&result).for_each(|edges| println!("path {edges:?}"));
     let replayed = pozhdaghi::replay(image, REFERENCE, &[0])?;
@@ -42,7 +49,15 @@ fn resolve(image: &[u8]) -> Result<(), Refusal> {
     let filed = pozhdaghi::replace_file(image, 0, &request, &mut work, &mut words)?;
     println!("file 0 {filed:?}");
     println!("partial path 3 {:?}", pozhdaghi::lookup(&words, 3));
-    let joined = pozhdaghi::stitched(image, &words, REFERENCE, &request, &mut work, &mut result)?;
+    let joined = pozhdaghi::stitched(
+        image,
+        Visible::All,
+        &words,
+        REFERENCE,
+        &request,
+        &mut work,
+        &mut result,
+    )?;
     println!("stitched {joined:?}");
     pozhdaghi::paths(&result).for_each(|edges| println!("path {edges:?}"));
     Ok(())

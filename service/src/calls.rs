@@ -4,12 +4,13 @@
 use crate::answer::{self, Counts, PartialStatistics, Refusal, Resolution};
 use crate::link::{self, Answer, Direct, Linear, Rewriting, Stitched};
 use crate::replayed::{self, Replayed};
-use crate::request::{Limits, Request};
+use crate::request::{Limits, Request, Visible};
 use crate::PATH_WORDS;
 
 const EMPTY: Answer = [0; answer::ANSWER];
 
-/// Whether the bytes are an image, and what it counts. Refused by 1 to 5.
+/// Whether the bytes are an image, and what it counts, all files together. Refused by 1
+/// to 5.
 pub fn check(image: &[u8]) -> Result<Counts, Refusal> {
     let mut told = EMPTY;
     // SAFETY: each pointer and length is that of a slice held here.
@@ -19,7 +20,8 @@ pub fn check(image: &[u8]) -> Result<Counts, Refusal> {
     answer::counts(&told)
 }
 
-/// The path of a reference and its edges.
+/// The path of a reference and its edges. It takes no set of visible files and shows any
+/// record.
 pub fn replay(image: &[u8], reference: u32, edges: &[u32]) -> Result<Replayed, Refusal> {
     let mut path = [0; PATH_WORDS];
     let mut told = EMPTY;
@@ -84,8 +86,12 @@ pub fn shadows(
 }
 
 /// Direct search from a reference; the returned paths stand in `result`.
+///
+/// What belongs to a hidden file is passed over and not counted. A reference in a
+/// hidden file is 10 whatever its kind, as a removed one is, before 11.
 pub fn direct(
     image: &[u8],
+    visible: Visible,
     reference: u32,
     request: &Request,
     work: &mut [u32],
@@ -94,6 +100,7 @@ pub fn direct(
     search_directly(
         link::pozhdaghi_direct,
         image,
+        visible,
         reference,
         request,
         work,
@@ -104,6 +111,7 @@ pub fn direct(
 /// The same search; the recorded paths stand in `result`.
 pub fn direct_recorded(
     image: &[u8],
+    visible: Visible,
     reference: u32,
     request: &Request,
     work: &mut [u32],
@@ -112,6 +120,7 @@ pub fn direct_recorded(
     search_directly(
         link::pozhdaghi_direct_recorded,
         image,
+        visible,
         reference,
         request,
         work,
@@ -122,18 +131,22 @@ pub fn direct_recorded(
 fn search_directly(
     call: Direct,
     image: &[u8],
+    visible: Visible,
     reference: u32,
     request: &Request,
     work: &mut [u32],
     result: &mut [u32],
 ) -> Result<Resolution, Refusal> {
     let asked = request.numbers();
+    let visible = visible.bytes();
     let mut told = EMPTY;
     // SAFETY: each pointer and length is that of a slice held here.
     unsafe {
         call(
             image.as_ptr(),
             image.len(),
+            visible.as_ptr(),
+            visible.len(),
             reference,
             asked.as_ptr(),
             asked.len(),
@@ -154,9 +167,11 @@ fn search_directly(
 /// only if no reference has one and no search was refused.
 ///
 /// References are searched ascending, each to its end, and every complete path of
-/// the one being searched takes a result slot, wherever it ends.
+/// the one being searched takes a result slot, wherever it ends. References in hidden
+/// files are passed over; a node in a hidden file is 10 whatever its kind, before 37.
 pub fn find_name(
     image: &[u8],
+    visible: Visible,
     node: u32,
     length: Option<u64>,
     work: &mut [u32],
@@ -170,12 +185,15 @@ pub fn find_name(
         ..Request::default()
     };
     let asked = request.numbers();
+    let visible = visible.bytes();
     let mut told = EMPTY;
     // SAFETY: each pointer and length is that of a slice held here.
     unsafe {
         link::pozhdaghi_find_name(
             image.as_ptr(),
             image.len(),
+            visible.as_ptr(),
+            visible.len(),
             node,
             asked.as_ptr(),
             asked.len(),
@@ -193,16 +211,25 @@ pub fn find_name(
 /// Linear search from a reference; the returned paths stand in `result`.
 pub fn linear(
     image: &[u8],
+    visible: Visible,
     reference: u32,
     request: &Request,
     result: &mut [u32],
 ) -> Result<Resolution, Refusal> {
-    search_linearly(link::pozhdaghi_linear, image, reference, request, result)
+    search_linearly(
+        link::pozhdaghi_linear,
+        image,
+        visible,
+        reference,
+        request,
+        result,
+    )
 }
 
 /// The same search; the recorded paths stand in `result`.
 pub fn linear_recorded(
     image: &[u8],
+    visible: Visible,
     reference: u32,
     request: &Request,
     result: &mut [u32],
@@ -210,6 +237,7 @@ pub fn linear_recorded(
     search_linearly(
         link::pozhdaghi_linear_recorded,
         image,
+        visible,
         reference,
         request,
         result,
@@ -219,17 +247,21 @@ pub fn linear_recorded(
 fn search_linearly(
     call: Linear,
     image: &[u8],
+    visible: Visible,
     reference: u32,
     request: &Request,
     result: &mut [u32],
 ) -> Result<Resolution, Refusal> {
     let asked = request.numbers();
+    let visible = visible.bytes();
     let mut told = EMPTY;
     // SAFETY: each pointer and length is that of a slice held here.
     unsafe {
         call(
             image.as_ptr(),
             image.len(),
+            visible.as_ptr(),
+            visible.len(),
             reference,
             asked.as_ptr(),
             asked.len(),
@@ -244,8 +276,14 @@ fn search_linearly(
 
 /// Stitched search from a reference over the partial paths in `words`; the
 /// returned paths stand in `result`.
+///
+/// The partial paths of hidden files are passed over, those of the alias set never. A
+/// partial path that is not passed over and names an edge of a hidden file ends the
+/// search with 12, as one that names an unknown edge. 35 and 34 look at every slot and
+/// come before 10.
 pub fn stitched(
     image: &[u8],
+    visible: Visible,
     words: &[u32],
     reference: u32,
     request: &Request,
@@ -255,6 +293,7 @@ pub fn stitched(
     search_stitched(
         link::pozhdaghi_stitched,
         image,
+        visible,
         words,
         reference,
         request,
@@ -266,6 +305,7 @@ pub fn stitched(
 /// The same search; the recorded paths stand in `result`.
 pub fn stitched_recorded(
     image: &[u8],
+    visible: Visible,
     words: &[u32],
     reference: u32,
     request: &Request,
@@ -275,6 +315,7 @@ pub fn stitched_recorded(
     search_stitched(
         link::pozhdaghi_stitched_recorded,
         image,
+        visible,
         words,
         reference,
         request,
@@ -286,6 +327,7 @@ pub fn stitched_recorded(
 fn search_stitched(
     call: Stitched,
     image: &[u8],
+    visible: Visible,
     words: &[u32],
     reference: u32,
     request: &Request,
@@ -293,12 +335,15 @@ fn search_stitched(
     result: &mut [u32],
 ) -> Result<Resolution, Refusal> {
     let asked = request.numbers();
+    let visible = visible.bytes();
     let mut told = EMPTY;
     // SAFETY: each pointer and length is that of a slice held here.
     unsafe {
         call(
             image.as_ptr(),
             image.len(),
+            visible.as_ptr(),
+            visible.len(),
             words.as_ptr(),
             words.len(),
             reference,
@@ -473,7 +518,8 @@ pub fn compact(words: &mut [u32], list: &mut [u32]) -> Result<u32, Refusal> {
 }
 
 /// The edges of a partial path, as a part of the words; empty if it is dead,
-/// beyond use, or the words are no database.
+/// beyond use, or the words are no database. It takes no set of visible files and shows
+/// any slot.
 pub fn lookup(words: &[u32], number: u32) -> &[u32] {
     let mut told = EMPTY;
     // SAFETY: each pointer and length is that of a slice held here.

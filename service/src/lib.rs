@@ -8,20 +8,28 @@
 //! 01, "Turned back", or of document 02. The library's own work takes up to about
 //! 230 KB of the caller's stack, and `replay` 215 KB with the words of its path.
 //!
+//! Each search, and finding a name, takes the set of visible files, and shows nothing
+//! of the others (`Visible`). The other calls take none: `check`, `replay`,
+//! `is_complete`, `shadows`, `lookup`, the replacements, `convert`, `compact` and both
+//! rewritings show hidden records or depend on them. So a service that keeps desks
+//! apart gives a desk the searches only, with the set of that desk.
+//!
 //! An area that a call writes overlaps no other area that it is lent: the
 //! contracts speak of each by itself. Here the borrow checker sees to it, which
 //! takes the first of these calls and turns back the second:
 //!
 //! ```
+//! use pozhdaghi::Visible;
 //! let (mut work, mut result) = ([7; 128], [7; 128]);
 //! let request = pozhdaghi::Request::default();
-//! let found = pozhdaghi::direct(&[], 2, &request, &mut work, &mut result);
+//! let found = pozhdaghi::direct(&[], Visible::All, 2, &request, &mut work, &mut result);
 //! assert_eq!(found.map_err(|refusal| refusal.number), Err(2));
 //! ```
 //! ```compile_fail,E0499
+//! use pozhdaghi::Visible;
 //! let mut area = [7; 128];
 //! let request = pozhdaghi::Request::default();
-//! let found = pozhdaghi::direct(&[], 2, &request, &mut area, &mut area);
+//! let found = pozhdaghi::direct(&[], Visible::All, 2, &request, &mut area, &mut area);
 //! assert_eq!(found.map_err(|refusal| refusal.number), Err(2));
 //! ```
 
@@ -38,7 +46,7 @@ pub use calls::{
     stitched_recorded, widen,
 };
 pub use replayed::{Replayed, Step, Symbol};
-pub use request::{Limits, Order, Request};
+pub use request::{Limits, Order, Request, Visible};
 
 /// How many edges a path may have: document 02, order 6.
 pub const MOST_EDGES: usize = 63;

@@ -96,6 +96,8 @@ unsafe extern "C" {
     pub fn pozhdaghi_direct(
         image: *const u8,
         image_len: usize,
+        visible: *const u8,
+        visible_len: usize,
         reference: u32,
         asked: *const u64,
         asked_len: usize,
@@ -109,6 +111,8 @@ unsafe extern "C" {
     pub fn pozhdaghi_direct_recorded(
         image: *const u8,
         image_len: usize,
+        visible: *const u8,
+        visible_len: usize,
         reference: u32,
         asked: *const u64,
         asked_len: usize,
@@ -122,6 +126,8 @@ unsafe extern "C" {
     pub fn pozhdaghi_find_name(
         image: *const u8,
         image_len: usize,
+        visible: *const u8,
+        visible_len: usize,
         node: u32,
         asked: *const u64,
         asked_len: usize,
@@ -135,6 +141,8 @@ unsafe extern "C" {
     pub fn pozhdaghi_linear(
         image: *const u8,
         image_len: usize,
+        visible: *const u8,
+        visible_len: usize,
         reference: u32,
         asked: *const u64,
         asked_len: usize,
@@ -146,6 +154,8 @@ unsafe extern "C" {
     pub fn pozhdaghi_linear_recorded(
         image: *const u8,
         image_len: usize,
+        visible: *const u8,
+        visible_len: usize,
         reference: u32,
         asked: *const u64,
         asked_len: usize,
@@ -157,6 +167,8 @@ unsafe extern "C" {
     pub fn pozhdaghi_stitched(
         image: *const u8,
         image_len: usize,
+        visible: *const u8,
+        visible_len: usize,
         words: *const u32,
         words_len: usize,
         reference: u32,
@@ -172,6 +184,8 @@ unsafe extern "C" {
     pub fn pozhdaghi_stitched_recorded(
         image: *const u8,
         image_len: usize,
+        visible: *const u8,
+        visible_len: usize,
         words: *const u32,
         words_len: usize,
         reference: u32,
@@ -206,6 +220,8 @@ unsafe extern "C" {
 pub type Direct = unsafe extern "C" fn(
     image: *const u8,
     image_len: usize,
+    visible: *const u8,
+    visible_len: usize,
     reference: u32,
     asked: *const u64,
     asked_len: usize,
@@ -221,6 +237,8 @@ pub type Direct = unsafe extern "C" fn(
 pub type Linear = unsafe extern "C" fn(
     image: *const u8,
     image_len: usize,
+    visible: *const u8,
+    visible_len: usize,
     reference: u32,
     asked: *const u64,
     asked_len: usize,
@@ -234,6 +252,8 @@ pub type Linear = unsafe extern "C" fn(
 pub type Stitched = unsafe extern "C" fn(
     image: *const u8,
     image_len: usize,
+    visible: *const u8,
+    visible_len: usize,
     words: *const u32,
     words_len: usize,
     reference: u32,

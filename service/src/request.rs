@@ -47,6 +47,32 @@ impl Request {
     }
 }
 
+/// The files that a search may show: document 02, order 8.
+///
+/// What belongs to a hidden file is passed over as if it were removed, and nothing in
+/// the answer or in the areas tells whether it is there. Edges between root and jump,
+/// and the alias set of a database, belong to no file and are visible to all.
+#[derive(Clone, Copy, Debug, Default, PartialEq, Eq)]
+pub enum Visible<'a> {
+    #[default]
+    All,
+    /// File f is visible where byte f is there and is not 0. Bytes from the image's
+    /// number of files on change nothing.
+    Files(&'a [u8]),
+}
+
+/// An image has at most 256 files.
+const EVERY_FILE: [u8; 256] = [1; 256];
+
+impl<'a> Visible<'a> {
+    pub(crate) fn bytes(self) -> &'a [u8] {
+        match self {
+            Self::All => &EVERY_FILE,
+            Self::Files(bytes) => bytes,
+        }
+    }
+}
+
 fn limit(limit: Option<u64>) -> [u64; 2] {
     match limit {
         Some(value) => [1, value],

@@ -9,7 +9,7 @@ use common::{
     refusal, scope, scoped_pop, scoped_push, slots, Drawn, Edge, Record, Slot, NOBODY,
 };
 use pozhdaghi::{
-    Limits, Order, PartialStatistics, Refusal, Request, Resolution, Statistics, ALIASES,
+    Limits, Order, PartialStatistics, Refusal, Request, Resolution, Statistics, Visible, ALIASES,
     MOST_EDGES, RECORD_WORDS,
 };
 
@@ -37,8 +37,16 @@ fn asked(
 fn recorded(image: &[u8], words: &[u32]) -> (Resolution, Vec<Vec<u32>>) {
     let (mut work, mut result) = (slots(200), slots(200));
     let request = Request::default();
-    let found = pozhdaghi::stitched_recorded(image, words, 2, &request, &mut work, &mut result)
-        .expect("not refused");
+    let found = pozhdaghi::stitched_recorded(
+        image,
+        Visible::All,
+        words,
+        2,
+        &request,
+        &mut work,
+        &mut result,
+    )
+    .expect("not refused");
     assert!(is_zero(&work));
     let paths: Vec<Vec<u32>> = pozhdaghi::paths(&result).map(<[u32]>::to_vec).collect();
     assert_eq!(result, area(&paths, result.len()));
@@ -47,8 +55,15 @@ fn recorded(image: &[u8], words: &[u32]) -> (Resolution, Vec<Vec<u32>>) {
 
 fn recorded_directly(image: &[u8]) -> Vec<Vec<u32>> {
     let (mut work, mut result) = (slots(200), slots(200));
-    pozhdaghi::direct_recorded(image, 2, &Request::default(), &mut work, &mut result)
-        .expect("not refused");
+    pozhdaghi::direct_recorded(
+        image,
+        Visible::All,
+        2,
+        &Request::default(),
+        &mut work,
+        &mut result,
+    )
+    .expect("not refused");
     pozhdaghi::paths(&result).map(<[u32]>::to_vec).collect()
 }
 
@@ -537,8 +552,15 @@ fn what_is_no_database() {
     for mut words in malformed {
         let (mut work, mut result) = (slots(8), slots(8));
         let request = Request::default();
-        let found =
-            pozhdaghi::stitched_recorded(&image, &words, 9, &request, &mut work, &mut result);
+        let found = pozhdaghi::stitched_recorded(
+            &image,
+            Visible::All,
+            &words,
+            9,
+            &request,
+            &mut work,
+            &mut result,
+        );
         assert_eq!(found, Err(refusal(35, &[])));
         assert!(is_zero(&work) && is_zero(&result));
         let before = words.clone();
@@ -576,6 +598,7 @@ fn what_is_a_database() {
     let words = altered(4, 9);
     let found = pozhdaghi::stitched(
         &graph_c(),
+        Visible::All,
         &words,
         2,
         &Request::default(),

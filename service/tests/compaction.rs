@@ -8,8 +8,8 @@ use common::{
     scope, slots, Drawn, Record, Slot, NOBODY,
 };
 use pozhdaghi::{
-    Limits, Order, PartialStatistics, Refusal, Request, Resolution, ALIASES, DATABASE_HEAD,
-    MOST_EDGES, PAIR_WORDS, RECORD_WORDS,
+    Limits, Order, PartialStatistics, Refusal, Request, Resolution, Visible, ALIASES,
+    DATABASE_HEAD, MOST_EDGES, PAIR_WORDS, RECORD_WORDS,
 };
 use std::collections::BTreeMap;
 
@@ -550,7 +550,15 @@ fn searches(image: &[u8], words: &[u32]) -> Vec<Found> {
             ] {
                 for (waiting, kept) in [(0, 0), (2, 64), (64, 0), (64, 1), (64, 64)] {
                     let (mut work, mut result) = (slots(waiting), slots(kept));
-                    let told = call(image, words, reference, &request, &mut work, &mut result);
+                    let told = call(
+                        image,
+                        Visible::All,
+                        words,
+                        reference,
+                        &request,
+                        &mut work,
+                        &mut result,
+                    );
                     found.push((told, work, result));
                 }
             }

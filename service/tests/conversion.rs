@@ -9,7 +9,7 @@ use common::{
     reference, refusal, scope, slots, Drawn, Record, Slot, NOBODY,
 };
 use pozhdaghi::{
-    Refusal, Request, Resolution, ALIASES, DATABASE_HEAD, FORMER_RECORD_WORDS, MOST_EDGES,
+    Refusal, Request, Resolution, Visible, ALIASES, DATABASE_HEAD, FORMER_RECORD_WORDS, MOST_EDGES,
     RECORD_WORDS,
 };
 use std::collections::BTreeMap;
@@ -497,9 +497,17 @@ type Found = (Result<Resolution, Refusal>, Vec<u32>);
 
 fn stitched(image: &[u8], words: &[u32], reference: u32) -> [Found; 2] {
     let request = Request::default();
-    let call = |search: fn(&[u8], &[u32], u32, &Request, &mut [u32], &mut [u32]) -> _| {
+    let call = |search: fn(&[u8], Visible, &[u32], u32, &Request, &mut [u32], &mut [u32]) -> _| {
         let (mut work, mut result) = (slots(64), slots(64));
-        let found = search(image, words, reference, &request, &mut work, &mut result);
+        let found = search(
+            image,
+            Visible::All,
+            words,
+            reference,
+            &request,
+            &mut work,
+            &mut result,
+        );
         (found, result)
     };
     [

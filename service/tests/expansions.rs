@@ -6,7 +6,7 @@
 mod common;
 
 use common::{database, image, image_of, is_zero, reference, refusal, scope, slots, Edge};
-use pozhdaghi::{Limits, Order, Refusal, Request, Resolution};
+use pozhdaghi::{Limits, Order, Refusal, Request, Resolution, Visible};
 
 const MOST: u64 = 1 << 24;
 
@@ -28,7 +28,14 @@ fn searched(beside: u16) -> Result<Resolution, Refusal> {
         limits: Limits::default(),
     };
     let (mut work, mut result) = (slots(32), slots(1));
-    let found = pozhdaghi::direct(&image(&nodes, &edges), 2, &request, &mut work, &mut result);
+    let found = pozhdaghi::direct(
+        &image(&nodes, &edges),
+        Visible::All,
+        2,
+        &request,
+        &mut work,
+        &mut result,
+    );
     assert!(is_zero(&work) && is_zero(&result));
     found
 }

@@ -11,26 +11,42 @@ use common::{
     chain, database, filed, graph_a, graph_b, graph_c, image_of, is_zero, place, refusal, slots,
 };
 use common::{reference, scope};
-use pozhdaghi::{Refusal, Request, Resolution, MOST_EDGES};
+use pozhdaghi::{Refusal, Request, Resolution, Visible, MOST_EDGES};
 
 /// A search of an image, with a database, from a node, in two areas.
 type Search = fn(&[u8], &[u32], u32, &mut [u32], &mut [u32]) -> Result<Resolution, Refusal>;
 
 const DIRECT: [Search; 2] = [
     |image, _, node, work, result| {
-        pozhdaghi::direct(image, node, &Request::default(), work, result)
+        pozhdaghi::direct(image, Visible::All, node, &Request::default(), work, result)
     },
     |image, _, node, work, result| {
-        pozhdaghi::direct_recorded(image, node, &Request::default(), work, result)
+        pozhdaghi::direct_recorded(image, Visible::All, node, &Request::default(), work, result)
     },
 ];
 
 const STITCHED: [Search; 2] = [
     |image, words, node, work, result| {
-        pozhdaghi::stitched(image, words, node, &Request::default(), work, result)
+        pozhdaghi::stitched(
+            image,
+            Visible::All,
+            words,
+            node,
+            &Request::default(),
+            work,
+            result,
+        )
     },
     |image, words, node, work, result| {
-        pozhdaghi::stitched_recorded(image, words, node, &Request::default(), work, result)
+        pozhdaghi::stitched_recorded(
+            image,
+            Visible::All,
+            words,
+            node,
+            &Request::default(),
+            work,
+            result,
+        )
     },
 ];
 
@@ -38,11 +54,11 @@ const STITCHED: [Search; 2] = [
 const LINEAR: [Search; 2] = [
     |image, _, node, work, result| {
         work.fill(0);
-        pozhdaghi::linear(image, node, &Request::default(), result)
+        pozhdaghi::linear(image, Visible::All, node, &Request::default(), result)
     },
     |image, _, node, work, result| {
         work.fill(0);
-        pozhdaghi::linear_recorded(image, node, &Request::default(), result)
+        pozhdaghi::linear_recorded(image, Visible::All, node, &Request::default(), result)
     },
 ];
 

@@ -3,7 +3,9 @@
 mod common;
 
 use common::{area, database, filed, graph_a, graph_b, graph_c, is_zero, refusal, slots};
-use pozhdaghi::{Counts, Limits, Order, PartialStatistics, Request, Resolution, Statistics};
+use pozhdaghi::{
+    Counts, Limits, Order, PartialStatistics, Request, Resolution, Statistics, Visible,
+};
 
 fn limited(length: Option<u64>, paths: Option<u64>, complete: Option<u64>) -> Request {
     Request {
@@ -26,7 +28,8 @@ fn paths(result: &[u32]) -> Vec<Vec<u32>> {
 /// Direct search from node 2: the answer and the returned paths.
 fn direct(image: &[u8], request: &Request) -> (Resolution, Vec<Vec<u32>>) {
     let (mut work, mut result) = (slots(128), slots(128));
-    let found = pozhdaghi::direct(image, 2, request, &mut work, &mut result).expect("not refused");
+    let found = pozhdaghi::direct(image, Visible::All, 2, request, &mut work, &mut result)
+        .expect("not refused");
     assert!(is_zero(&work));
     (found, paths(&result))
 }
@@ -34,8 +37,15 @@ fn direct(image: &[u8], request: &Request) -> (Resolution, Vec<Vec<u32>>) {
 /// The recorded paths of a direct search from node 2.
 fn recorded(image: &[u8]) -> Vec<Vec<u32>> {
     let (mut work, mut result) = (slots(4), slots(4));
-    pozhdaghi::direct_recorded(image, 2, &Request::default(), &mut work, &mut result)
-        .expect("not refused");
+    pozhdaghi::direct_recorded(
+        image,
+        Visible::All,
+        2,
+        &Request::default(),
+        &mut work,
+        &mut result,
+    )
+    .expect("not refused");
     paths(&result)
 }
 
@@ -43,11 +53,27 @@ fn recorded(image: &[u8]) -> Vec<Vec<u32>> {
 fn stitched(image: &[u8]) -> (Resolution, Vec<Vec<u32>>, Vec<Vec<u32>>) {
     let (words, request) = (filed(image), Request::default());
     let (mut work, mut result) = (slots(8), slots(8));
-    let found = pozhdaghi::stitched(image, &words, 2, &request, &mut work, &mut result)
-        .expect("not refused");
+    let found = pozhdaghi::stitched(
+        image,
+        Visible::All,
+        &words,
+        2,
+        &request,
+        &mut work,
+        &mut result,
+    )
+    .expect("not refused");
     let returned = paths(&result);
-    pozhdaghi::stitched_recorded(image, &words, 2, &request, &mut work, &mut result)
-        .expect("not refused");
+    pozhdaghi::stitched_recorded(
+        image,
+        Visible::All,
+        &words,
+        2,
+        &request,
+        &mut work,
+        &mut result,
+    )
+    .expect("not refused");
     assert!(is_zero(&work));
     (found, returned, paths(&result))
 }
@@ -110,7 +136,7 @@ fn graph_a_linearly() {
     let (image, request) = (graph_a(), Request::default());
     let mut result = slots(2);
     for call in [pozhdaghi::linear, pozhdaghi::linear_recorded] {
-        let found = call(&image, 2, &request, &mut result);
+        let found = call(&image, Visible::All, 2, &request, &mut result);
         assert_eq!(found, Ok(counted(1, [3, 1, 1, 0])));
         assert_eq!(paths(&result), [[0, 1]]);
     }
@@ -187,7 +213,7 @@ fn graph_b_limited_and_linear() {
     for call in [pozhdaghi::linear, pozhdaghi::linear_recorded] {
         let mut result = slots(4);
         assert_eq!(
-            call(&image, 2, &Request::default(), &mut result),
+            call(&image, Visible::All, 2, &Request::default(), &mut result),
             Err(refusal(20, &[2]))
         );
         assert!(is_zero(&result));

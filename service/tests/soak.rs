@@ -11,7 +11,7 @@ use common::{
     definition, is_zero, live, place, reference, refusal, scope, scoped_definition, scoped_pop,
     scoped_push, slots, versioned, Drawn, Edge, Record,
 };
-use pozhdaghi::{Limits, PartialStatistics, Refusal, Request, Resolution, PAIR_WORDS};
+use pozhdaghi::{Limits, PartialStatistics, Refusal, Request, Resolution, Visible, PAIR_WORDS};
 use std::collections::{BTreeMap, BTreeSet};
 
 /// Ten years of 252 business days.
@@ -180,7 +180,8 @@ fn replaced(
     told
 }
 
-type Found = (Result<Resolution, Refusal>, Vec<u32>);
+type Told = Result<Resolution, Refusal>;
+type Found = (Told, Vec<u32>);
 
 impl Company {
     fn founded(seed: u64, sizes: Sizes) -> Self {
@@ -356,11 +357,19 @@ impl Company {
 
     fn search<C>(&self, call: C, reference: u32, lent: usize) -> Found
     where
-        C: Fn(&[u8], &[u32], u32, &Request, &mut [u32], &mut [u32]) -> Result<Resolution, Refusal>,
+        C: Fn(&[u8], Visible, &[u32], u32, &Request, &mut [u32], &mut [u32]) -> Told,
     {
         let (mut work, mut result, request) = (slots(lent), slots(lent), Request::default());
         let (image, words) = (&self.image, &self.words);
-        let told = call(image, words, reference, &request, &mut work, &mut result);
+        let told = call(
+            image,
+            Visible::All,
+            words,
+            reference,
+            &request,
+            &mut work,
+            &mut result,
+        );
         assert!(is_zero(&work));
         (told, result)
     }
@@ -390,12 +399,13 @@ impl Company {
             let lent = self.sizes.lent;
             let stitched = self.search(pozhdaghi::stitched_recorded, reference, lent);
             let directly = |image: &[u8],
+                            visible: Visible,
                             _: &[u32],
                             reference,
                             request: &Request,
                             work: &mut [u32],
                             result: &mut [u32]| {
-                pozhdaghi::direct_recorded(image, reference, request, work, result)
+                pozhdaghi::direct_recorded(image, visible, reference, request, work, result)
             };
             let direct = self.search(directly, reference, lent);
             if stitched.0.is_err() || direct.0.is_err() {

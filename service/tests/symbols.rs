@@ -5,7 +5,7 @@
 mod common;
 
 use common::{area, blank, filed, is_zero, refusal, scope, slots, wide, Record};
-use pozhdaghi::{Request, Symbol, MOST_EDGES};
+use pozhdaghi::{Request, Symbol, Visible, MOST_EDGES};
 
 /// Pairs of different symbols: in the high half alone, in its lowest and highest bit,
 /// in all of it; in the low half alone; about the bound of 32 bits.
@@ -51,14 +51,15 @@ fn searched(image: &[u8]) -> [Vec<u32>; 4] {
     let request = Request::default();
     let (mut work, mut result) = (slots(4), slots(4));
     let directly = [pozhdaghi::direct, pozhdaghi::direct_recorded].map(|call| {
-        let found = call(image, 2, &request, &mut work, &mut result).expect("not refused");
+        let found =
+            call(image, Visible::All, 2, &request, &mut work, &mut result).expect("not refused");
         let counted = found.statistics;
         assert_eq!((counted.complete, counted.rejected), (1, 1));
         assert!(is_zero(&work));
         only(&result)
     });
     let linearly = [pozhdaghi::linear, pozhdaghi::linear_recorded].map(|call| {
-        call(image, 2, &request, &mut result).expect("not refused");
+        call(image, Visible::All, 2, &request, &mut result).expect("not refused");
         only(&result)
     });
     let [returned, recorded] = directly;
@@ -70,7 +71,16 @@ fn stitched(image: &[u8], words: &[u32]) -> [Vec<u32>; 2] {
     let request = Request::default();
     let (mut work, mut result) = (slots(8), slots(8));
     [pozhdaghi::stitched, pozhdaghi::stitched_recorded].map(|call| {
-        call(image, words, 2, &request, &mut work, &mut result).expect("not refused");
+        call(
+            image,
+            Visible::All,
+            words,
+            2,
+            &request,
+            &mut work,
+            &mut result,
+        )
+        .expect("not refused");
         assert!(is_zero(&work));
         only(&result)
     })
@@ -83,9 +93,11 @@ fn searches() {
         assert_eq!(searched(&image), [(); 4].map(|()| vec![0, 1]));
         let words = filed(&image);
         assert_eq!(stitched(&image, &words), [[0, 1], [0, 1]]);
-        let name = pozhdaghi::find_name(&image, 4, None, &mut slots(4), &mut slots(4));
+        let name =
+            pozhdaghi::find_name(&image, Visible::All, 4, None, &mut slots(4), &mut slots(4));
         assert_eq!(name, Ok(Some(2)));
-        let none = pozhdaghi::find_name(&image, 5, None, &mut slots(4), &mut slots(4));
+        let none =
+            pozhdaghi::find_name(&image, Visible::All, 5, None, &mut slots(4), &mut slots(4));
         assert_eq!(none, Ok(None));
     }
 }

@@ -8,7 +8,7 @@ use common::{
     blank, graph_a, image, live, reference, refusal, scope, slots, versioned, wide, with_head,
     Drawn, Edge, Record,
 };
-use pozhdaghi::{Counts, Limits, Refusal, Request, LONGEST_IMAGE};
+use pozhdaghi::{Counts, Limits, Refusal, Request, Visible, LONGEST_IMAGE};
 
 type Rewrite = fn(&[u8], &mut [u8]) -> Result<usize, Refusal>;
 
@@ -356,7 +356,14 @@ fn the_longest_image() {
         assert_eq!(widened(&one, size - 1), Err(refusal(32, &[])));
         assert_eq!(narrowed(&two, size), Ok(one));
         let request = Request::default();
-        let found = pozhdaghi::direct(&two, 3, &request, &mut slots(1), &mut slots(1));
+        let found = pozhdaghi::direct(
+            &two,
+            Visible::All,
+            3,
+            &request,
+            &mut slots(1),
+            &mut slots(1),
+        );
         assert_eq!(found.map(|found| found.statistics.expanded), Ok(1));
     }
     for size in [LONGEST_IMAGE + 1, LONGEST_IMAGE + 2, 71_000] {
@@ -417,18 +424,26 @@ fn all_calls(image: &[u8]) -> Vec<String> {
     for node in 0..12 {
         let (mut work, mut result) = (slots(ROOM), slots(ROOM));
         for call in [pozhdaghi::direct, pozhdaghi::direct_recorded] {
-            let found = call(image, node, &request, &mut work, &mut result);
+            let found = call(image, Visible::All, node, &request, &mut work, &mut result);
             told.push(format!("{found:?} {result:?}"));
         }
         for call in [pozhdaghi::linear, pozhdaghi::linear_recorded] {
-            let found = call(image, node, &request, &mut result);
+            let found = call(image, Visible::All, node, &request, &mut result);
             told.push(format!("{found:?} {result:?}"));
         }
         for call in [pozhdaghi::stitched, pozhdaghi::stitched_recorded] {
-            let found = call(image, &words, node, &request, &mut work, &mut result);
+            let found = call(
+                image,
+                Visible::All,
+                &words,
+                node,
+                &request,
+                &mut work,
+                &mut result,
+            );
             told.push(format!("{found:?} {result:?}"));
         }
-        let name = pozhdaghi::find_name(image, node, Some(2), &mut work, &mut result);
+        let name = pozhdaghi::find_name(image, Visible::All, node, Some(2), &mut work, &mut result);
         told.push(format!("{name:?} {result:?}"));
         told.extend(all_paths(image, node));
     }

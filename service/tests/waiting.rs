@@ -8,7 +8,7 @@ use common::{
     blank, definition, filed, graph_a, graph_b, image, is_zero, reference, refusal, scope, slots,
     Drawn, Edge, Record,
 };
-use pozhdaghi::{Limits, Order, PartialStatistics, Refusal, Request, Resolution};
+use pozhdaghi::{Limits, Order, PartialStatistics, Refusal, Request, Resolution, Visible};
 
 /// The figure of a search of a small graph, from node 2 and without limits.
 fn figure(image: &[u8], order: Order) -> u64 {
@@ -16,7 +16,14 @@ fn figure(image: &[u8], order: Order) -> u64 {
         order,
         limits: Limits::default(),
     };
-    let found = pozhdaghi::direct(image, 2, &request, &mut slots(128), &mut slots(8));
+    let found = pozhdaghi::direct(
+        image,
+        Visible::All,
+        2,
+        &request,
+        &mut slots(128),
+        &mut slots(8),
+    );
     found.expect("not refused").statistics.waited
 }
 
@@ -31,7 +38,7 @@ fn small_graphs() {
         replaced(&a, &Request::default(), 128).map(|(counted, _)| counted.waited),
         Ok(4)
     );
-    let found = pozhdaghi::linear(&a, 2, &Request::default(), &mut slots(2));
+    let found = pozhdaghi::linear(&a, Visible::All, 2, &Request::default(), &mut slots(2));
     assert_eq!(found.expect("not refused").statistics.waited, 0);
 }
 
@@ -45,7 +52,14 @@ fn nothing_expanded() {
             ..Limits::default()
         },
     };
-    let found = pozhdaghi::direct(&graph_b(), 2, &request, &mut slots(8), &mut slots(8));
+    let found = pozhdaghi::direct(
+        &graph_b(),
+        Visible::All,
+        2,
+        &request,
+        &mut slots(8),
+        &mut slots(8),
+    );
     assert_eq!(found.expect("not refused").statistics.waited, 1);
     assert_eq!(
         replaced(&graph_a(), &request, 8).map(|(counted, _)| counted.waited),
@@ -113,12 +127,28 @@ fn searched(
 ) -> Searched {
     let (mut work, mut result) = (slots(waiting), slots(600));
     let found = match (words.is_empty(), recorded) {
-        (true, false) => pozhdaghi::direct(image, 2, request, &mut work, &mut result),
-        (true, true) => pozhdaghi::direct_recorded(image, 2, request, &mut work, &mut result),
-        (false, false) => pozhdaghi::stitched(image, words, 2, request, &mut work, &mut result),
-        (false, true) => {
-            pozhdaghi::stitched_recorded(image, words, 2, request, &mut work, &mut result)
+        (true, false) => pozhdaghi::direct(image, Visible::All, 2, request, &mut work, &mut result),
+        (true, true) => {
+            pozhdaghi::direct_recorded(image, Visible::All, 2, request, &mut work, &mut result)
         }
+        (false, false) => pozhdaghi::stitched(
+            image,
+            Visible::All,
+            words,
+            2,
+            request,
+            &mut work,
+            &mut result,
+        ),
+        (false, true) => pozhdaghi::stitched_recorded(
+            image,
+            Visible::All,
+            words,
+            2,
+            request,
+            &mut work,
+            &mut result,
+        ),
     };
     assert!(is_zero(&work));
     found.map(|found| (found, result))

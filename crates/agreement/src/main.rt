@@ -12,6 +12,7 @@ mod report;
 use demand::filing::file_all;
 use demand::filing::refile_all;
 use demand::filing::refile_with_aliases;
+use demand::sets::Answers;
 use demand::sets::Asked;
 use demand::sets::record_both;
 use libc::STDIN_FILENO;
@@ -30,6 +31,11 @@ use told::refusal;
 // Room for the longest image that may be accepted.
 const MOST_BYTES: usize = 65_536;
 
+// An image has at most so many files, and each is visible here.
+const MOST_FILES: usize = 256;
+
+const VISIBLE: u8 = 1;
+
 // Room for 512 partial paths.
 const DATABASE_WORDS: usize = 67_075;
 
@@ -42,7 +48,34 @@ fn unlimited(order: SearchOrder) -> Asked {
     Asked { order, limits }
 }
 
-// A node that is no reference is passed over. The two searches run in different orders.
+// Both searches see every file, and run in different orders.
+fn record_seen(
+    image: &[u8],
+    words: &[u32],
+    n: u32,
+    waiting: &mut [u32],
+    found: &mut [u32],
+    stitching: &mut [u32],
+    joined: &mut [u32],
+) -> Answers {
+    let visible = [VISIBLE; MOST_FILES];
+    let first = unlimited(SearchOrder::BreadthFirst);
+    let second = unlimited(SearchOrder::DepthFirst);
+    record_both(
+        image,
+        &visible,
+        words,
+        NodeId(n),
+        first,
+        second,
+        waiting,
+        found,
+        stitching,
+        joined,
+    )
+}
+
+// A node that is no reference is passed over.
 fn compare_node(
     image: &[u8],
     index: &[u32],
@@ -56,19 +89,7 @@ fn compare_node(
     requires { ⌜ (length (now index) ≡ INDEX) × (length (now found) ≡ areaWords) × (length (now joined) ≡ areaWords) ⌝ }
 {
     if is_reference(store::node(index, NodeId(n))) {
-        let first = unlimited(SearchOrder::BreadthFirst);
-        let second = unlimited(SearchOrder::DepthFirst);
-        let answers = record_both(
-            image,
-            words,
-            NodeId(n),
-            first,
-            second,
-            waiting,
-            found,
-            stitching,
-            joined,
-        );
+        let answers = record_seen(image, words, n, waiting, found, stitching, joined);
         let direct = answers.direct;
         let stitched = answers.stitched;
         report::tell(n, b"direct", direct, found);

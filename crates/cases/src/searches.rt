@@ -19,6 +19,11 @@ const WIDE: usize = 5;
 
 const NUMBERS: usize = 10;
 
+// An image has at most so many files, and each is visible here.
+const MOST_FILES: usize = 256;
+
+const VISIBLE: u8 = 1;
+
 fn is_linear(kind: usize) -> bool {
     if kind == kinds::LINEAR {
         return true;
@@ -29,6 +34,7 @@ fn is_linear(kind: usize) -> bool {
 fn search(
     kind: usize,
     image: &[u8],
+    visible: &[u8],
     words: &[u32],
     node: u32,
     asked: &[u64],
@@ -37,26 +43,26 @@ fn search(
     told: &mut [u64],
 ) {
     if kind == kinds::DIRECT {
-        pozhdaghi_direct(image, node, asked, work, result, told);
+        pozhdaghi_direct(image, visible, node, asked, work, result, told);
         return;
     }
     if kind == kinds::DIRECT_RECORDED {
-        pozhdaghi_direct_recorded(image, node, asked, work, result, told);
+        pozhdaghi_direct_recorded(image, visible, node, asked, work, result, told);
         return;
     }
     if kind == kinds::LINEAR {
-        pozhdaghi_linear(image, node, asked, result, told);
+        pozhdaghi_linear(image, visible, node, asked, result, told);
         return;
     }
     if kind == kinds::LINEAR_RECORDED {
-        pozhdaghi_linear_recorded(image, node, asked, result, told);
+        pozhdaghi_linear_recorded(image, visible, node, asked, result, told);
         return;
     }
     if kind == kinds::STITCHED {
-        pozhdaghi_stitched(image, words, node, asked, work, result, told);
+        pozhdaghi_stitched(image, visible, words, node, asked, work, result, told);
         return;
     }
-    pozhdaghi_stitched_recorded(image, words, node, asked, work, result, told);
+    pozhdaghi_stitched_recorded(image, visible, words, node, asked, work, result, told);
 }
 
 fn fill(case: &[u8], work: &mut [u32], result: &mut [u32]) {
@@ -83,6 +89,7 @@ fn answer_lent(
     result: &mut [u32],
     out: &mut [u32],
 ) -> usize {
+    let visible = [VISIBLE; MOST_FILES];
     let mut asked = [0u64; ASKED];
     let mut told = [0u64; TOLD];
     request::put_search_asked(case, &mut asked);
@@ -90,6 +97,7 @@ fn answer_lent(
     search(
         kind,
         image,
+        &visible,
         words,
         request::number(case),
         &asked,

@@ -385,6 +385,7 @@ fn search_loaded(
 // The image is checked into the lent index, then searched; a refused image leaves both areas zero.
 fn search_in(
     image: &[u8],
+    visible: &[u8],
     index: &mut [u32],
     reference: u32,
     order: SearchOrder,
@@ -394,9 +395,9 @@ fn search_in(
     result: &mut [u32],
 ) -> Resolution
     requires { ⌜ Takes (now image) (now index) ⌝ }
-    ensures { λ r. ⌜ Does (directSearch (replyOf reply) (now (image .entry)) reference order limits (now (work .entry)) (now (result .entry))) r (now (work .exit)) (now (result .exit)) ⌝ }
+    ensures { λ r. ⌜ Does (directSearch (replyOf reply) (now (image .entry)) (now (visible .entry)) reference order limits (now (work .entry)) (now (result .entry))) r (now (work .exit)) (now (result .exit)) ⌝ }
 {
-    match check::load_fresh(image, index) {
+    match check::load_seen(image, visible, index) {
         Checked::Refused(r) => {
             slots::zero(work);
             slots::zero(result);
@@ -413,6 +414,7 @@ fn search_in(
 // A small image gets a small index: zeroing a large one would take longer than the search.
 fn search_image(
     image: &[u8],
+    visible: &[u8],
     reference: u32,
     order: SearchOrder,
     limits: SearchLimits,
@@ -420,12 +422,13 @@ fn search_image(
     work: &mut [u32],
     result: &mut [u32],
 ) -> Resolution
-    ensures { λ r. ⌜ Does (directSearch (replyOf reply) (now (image .entry)) reference order limits (now (work .entry)) (now (result .entry))) r (now (work .exit)) (now (result .exit)) ⌝ }
+    ensures { λ r. ⌜ Does (directSearch (replyOf reply) (now (image .entry)) (now (visible .entry)) reference order limits (now (work .entry)) (now (result .entry))) r (now (work .exit)) (now (result .exit)) ⌝ }
 {
     if check::is_small(image) {
         let mut index = [0u32; blocks::SMALL];
         return search_in(
             image,
+            visible,
             &mut index,
             reference,
             order,
@@ -438,6 +441,7 @@ fn search_image(
     let mut index = [0u32; blocks::INDEX];
     search_in(
         image,
+        visible,
         &mut index,
         reference,
         order,
@@ -451,18 +455,20 @@ fn search_image(
 // Direct search from a reference, on any bytes and numbers: the returned paths.
 pub fn search(
     image: &[u8],
+    visible: &[u8],
     reference: NodeId,
     order: SearchOrder,
     limits: SearchLimits,
     work: &mut [u32],
     result: &mut [u32],
 ) -> Resolution
-    ensures { λ r. ⌜ toldResolution r ≡ toldResolution (directSearch returned (now (image .entry)) (reference .0) order limits (now (work .entry)) (now (result .entry)) .answer) ⌝ }
-    ensures { λ _. ⌜ now (work .exit) ≡ directSearch returned (now (image .entry)) (reference .0) order limits (now (work .entry)) (now (result .entry)) .work ⌝ }
-    ensures { λ _. ⌜ now (result .exit) ≡ directSearch returned (now (image .entry)) (reference .0) order limits (now (work .entry)) (now (result .entry)) .result ⌝ }
+    ensures { λ r. ⌜ toldResolution r ≡ toldResolution (directSearch returned (now (image .entry)) (now (visible .entry)) (reference .0) order limits (now (work .entry)) (now (result .entry)) .answer) ⌝ }
+    ensures { λ _. ⌜ now (work .exit) ≡ directSearch returned (now (image .entry)) (now (visible .entry)) (reference .0) order limits (now (work .entry)) (now (result .entry)) .work ⌝ }
+    ensures { λ _. ⌜ now (result .exit) ≡ directSearch returned (now (image .entry)) (now (visible .entry)) (reference .0) order limits (now (work .entry)) (now (result .entry)) .result ⌝ }
 {
     search_image(
         image,
+        visible,
         reference.0,
         order,
         limits,
@@ -475,18 +481,20 @@ pub fn search(
 // The same search with its recorded paths.
 pub fn search_recorded(
     image: &[u8],
+    visible: &[u8],
     reference: NodeId,
     order: SearchOrder,
     limits: SearchLimits,
     work: &mut [u32],
     result: &mut [u32],
 ) -> Resolution
-    ensures { λ r. ⌜ toldResolution r ≡ toldResolution (directSearch recorded (now (image .entry)) (reference .0) order limits (now (work .entry)) (now (result .entry)) .answer) ⌝ }
-    ensures { λ _. ⌜ now (work .exit) ≡ directSearch recorded (now (image .entry)) (reference .0) order limits (now (work .entry)) (now (result .entry)) .work ⌝ }
-    ensures { λ _. ⌜ now (result .exit) ≡ directSearch recorded (now (image .entry)) (reference .0) order limits (now (work .entry)) (now (result .entry)) .result ⌝ }
+    ensures { λ r. ⌜ toldResolution r ≡ toldResolution (directSearch recorded (now (image .entry)) (now (visible .entry)) (reference .0) order limits (now (work .entry)) (now (result .entry)) .answer) ⌝ }
+    ensures { λ _. ⌜ now (work .exit) ≡ directSearch recorded (now (image .entry)) (now (visible .entry)) (reference .0) order limits (now (work .entry)) (now (result .entry)) .work ⌝ }
+    ensures { λ _. ⌜ now (result .exit) ≡ directSearch recorded (now (image .entry)) (now (visible .entry)) (reference .0) order limits (now (work .entry)) (now (result .entry)) .result ⌝ }
 {
     search_image(
         image,
+        visible,
         reference.0,
         order,
         limits,

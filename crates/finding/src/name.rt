@@ -225,6 +225,7 @@ fn find_loaded(
 // The image is checked into the lent index once, for all searches.
 fn find_in(
     image: &[u8],
+    visible: &[u8],
     index: &mut [u32],
     node: u32,
     limit: Limit,
@@ -232,9 +233,9 @@ fn find_in(
     result: &mut [u32],
 ) -> Finding
     requires { ⌜ Takes (now image) (now index) ⌝ }
-    ensures { λ r. ⌜ Does (findName (now (image .entry)) node limit (now (work .entry)) (now (result .entry))) r (now (work .exit)) (now (result .exit)) ⌝ }
+    ensures { λ r. ⌜ Does (findName (now (image .entry)) (now (visible .entry)) node limit (now (work .entry)) (now (result .entry))) r (now (work .exit)) (now (result .exit)) ⌝ }
 {
-    match check::load_fresh(image, index) {
+    match check::load_seen(image, visible, index) {
         Checked::Refused(r) => {
             slots::zero(work);
             slots::zero(result);
@@ -251,32 +252,34 @@ fn find_in(
 // A small image gets a small index: zeroing a large one would take longer than the searches.
 fn find_image(
     image: &[u8],
+    visible: &[u8],
     node: u32,
     limit: Limit,
     work: &mut [u32],
     result: &mut [u32],
 ) -> Finding
-    ensures { λ r. ⌜ Does (findName (now (image .entry)) node limit (now (work .entry)) (now (result .entry))) r (now (work .exit)) (now (result .exit)) ⌝ }
+    ensures { λ r. ⌜ Does (findName (now (image .entry)) (now (visible .entry)) node limit (now (work .entry)) (now (result .entry))) r (now (work .exit)) (now (result .exit)) ⌝ }
 {
     if check::is_small(image) {
         let mut index = [0u32; blocks::SMALL];
-        return find_in(image, &mut index, node, limit, work, result);
+        return find_in(image, visible, &mut index, node, limit, work, result);
     }
     let mut index = [0u32; blocks::INDEX];
-    find_in(image, &mut index, node, limit, work, result)
+    find_in(image, visible, &mut index, node, limit, work, result)
 }
 
 // A name for a definition, on any bytes and numbers.
 pub fn find_name(
     image: &[u8],
+    visible: &[u8],
     node: NodeId,
     limit: Limit,
     work: &mut [u32],
     result: &mut [u32],
 ) -> Finding
-    ensures { λ r. ⌜ toldFinding r ≡ toldFinding (findName (now (image .entry)) (node .0) limit (now (work .entry)) (now (result .entry)) .answer) ⌝ }
-    ensures { λ _. ⌜ now (work .exit) ≡ findName (now (image .entry)) (node .0) limit (now (work .entry)) (now (result .entry)) .work ⌝ }
-    ensures { λ _. ⌜ now (result .exit) ≡ findName (now (image .entry)) (node .0) limit (now (work .entry)) (now (result .entry)) .result ⌝ }
+    ensures { λ r. ⌜ toldFinding r ≡ toldFinding (findName (now (image .entry)) (now (visible .entry)) (node .0) limit (now (work .entry)) (now (result .entry)) .answer) ⌝ }
+    ensures { λ _. ⌜ now (work .exit) ≡ findName (now (image .entry)) (now (visible .entry)) (node .0) limit (now (work .entry)) (now (result .entry)) .work ⌝ }
+    ensures { λ _. ⌜ now (result .exit) ≡ findName (now (image .entry)) (now (visible .entry)) (node .0) limit (now (work .entry)) (now (result .entry)) .result ⌝ }
 {
-    find_image(image, node.0, limit, work, result)
+    find_image(image, visible, node.0, limit, work, result)
 }

@@ -211,6 +211,7 @@ fn search_loaded(
 // The image is checked into the lent index, then searched; a refused image leaves the result area zero.
 fn search_in(
     image: &[u8],
+    visible: &[u8],
     index: &mut [u32],
     reference: u32,
     limits: SearchLimits,
@@ -218,9 +219,9 @@ fn search_in(
     result: &mut [u32],
 ) -> LinearResolution
     requires { ⌜ Takes (now image) (now index) ⌝ }
-    ensures { λ r. ⌜ DoesLinear (linearSearch (replyOf reply) (now (image .entry)) reference limits (now (result .entry))) r (now (result .exit)) ⌝ }
+    ensures { λ r. ⌜ DoesLinear (linearSearch (replyOf reply) (now (image .entry)) (now (visible .entry)) reference limits (now (result .entry))) r (now (result .exit)) ⌝ }
 {
-    match check::load_fresh(image, index) {
+    match check::load_seen(image, visible, index) {
         Checked::Refused(r) => {
             slots::zero(result);
             LinearResolution::Image(r)
@@ -236,69 +237,74 @@ fn search_in(
 // A small image gets a small index: zeroing a large one would take longer than the search.
 pub fn search_small(
     image: &[u8],
+    visible: &[u8],
     reference: u32,
     limits: SearchLimits,
     reply: Reply,
     result: &mut [u32],
 ) -> LinearResolution
     requires { ⌜ (nodesOf (now image) ≤ FEW) × (edgesOf (now image) ≤ FEW) ⌝ }
-    ensures { λ r. ⌜ DoesLinear (linearSearch (replyOf reply) (now (image .entry)) reference limits (now (result .entry))) r (now (result .exit)) ⌝ }
+    ensures { λ r. ⌜ DoesLinear (linearSearch (replyOf reply) (now (image .entry)) (now (visible .entry)) reference limits (now (result .entry))) r (now (result .exit)) ⌝ }
 {
     let mut index = [0u32; blocks::SMALL];
-    search_in(image, &mut index, reference, limits, reply, result)
+    search_in(image, visible, &mut index, reference, limits, reply, result)
 }
 
 // Any other a large one.
 pub fn search_large(
     image: &[u8],
+    visible: &[u8],
     reference: u32,
     limits: SearchLimits,
     reply: Reply,
     result: &mut [u32],
 ) -> LinearResolution
-    ensures { λ r. ⌜ DoesLinear (linearSearch (replyOf reply) (now (image .entry)) reference limits (now (result .entry))) r (now (result .exit)) ⌝ }
+    ensures { λ r. ⌜ DoesLinear (linearSearch (replyOf reply) (now (image .entry)) (now (visible .entry)) reference limits (now (result .entry))) r (now (result .exit)) ⌝ }
 {
     let mut index = [0u32; blocks::INDEX];
-    search_in(image, &mut index, reference, limits, reply, result)
+    search_in(image, visible, &mut index, reference, limits, reply, result)
 }
 
 fn search_image(
     image: &[u8],
+    visible: &[u8],
     reference: u32,
     limits: SearchLimits,
     reply: Reply,
     result: &mut [u32],
 ) -> LinearResolution
-    ensures { λ r. ⌜ DoesLinear (linearSearch (replyOf reply) (now (image .entry)) reference limits (now (result .entry))) r (now (result .exit)) ⌝ }
+    ensures { λ r. ⌜ DoesLinear (linearSearch (replyOf reply) (now (image .entry)) (now (visible .entry)) reference limits (now (result .entry))) r (now (result .exit)) ⌝ }
 {
     if check::is_small(image) {
-        return search_small(image, reference, limits, reply, result);
+        return search_small(image, visible, reference, limits, reply, result);
     }
-    search_large(image, reference, limits, reply, result)
+    search_large(image, visible, reference, limits, reply, result)
 }
 
 // Linear search from a reference, on any bytes and numbers: the returned paths.
 pub fn search(
     image: &[u8],
+    visible: &[u8],
     reference: NodeId,
     limits: SearchLimits,
     result: &mut [u32],
 ) -> LinearResolution
-    ensures { λ r. ⌜ toldLinearResolution r ≡ toldLinearResolution (linearSearch returned (now (image .entry)) (reference .0) limits (now (result .entry)) .answer) ⌝ }
-    ensures { λ _. ⌜ now (result .exit) ≡ linearSearch returned (now (image .entry)) (reference .0) limits (now (result .entry)) .result ⌝ }
+    ensures { λ r. ⌜ toldLinearResolution r ≡ toldLinearResolution (linearSearch returned (now (image .entry)) (now (visible .entry)) (reference .0) limits (now (result .entry)) .answer) ⌝ }
+    ensures { λ _. ⌜ now (result .exit) ≡ linearSearch returned (now (image .entry)) (now (visible .entry)) (reference .0) limits (now (result .entry)) .result ⌝ }
 {
-    search_image(image, reference.0, limits, Reply::Returned, result)
+    search_image(image, visible, reference.0, limits, Reply::Returned, result)
 }
 
 // The same search with its recorded paths.
 pub fn search_recorded(
     image: &[u8],
+    visible: &[u8],
     reference: NodeId,
     limits: SearchLimits,
     result: &mut [u32],
 ) -> LinearResolution
-    ensures { λ r. ⌜ toldLinearResolution r ≡ toldLinearResolution (linearSearch recorded (now (image .entry)) (reference .0) limits (now (result .entry)) .answer) ⌝ }
-    ensures { λ _. ⌜ now (result .exit) ≡ linearSearch recorded (now (image .entry)) (reference .0) limits (now (result .entry)) .result ⌝ }
+    ensures { λ r. ⌜ toldLinearResolution r ≡ toldLinearResolution (linearSearch recorded (now (image .entry)) (now (visible .entry)) (reference .0) limits (now (result .entry)) .answer) ⌝ }
+    ensures { λ _. ⌜ now (result .exit) ≡ linearSearch recorded (now (image .entry)) (now (visible .entry)) (reference .0) limits (now (result .entry)) .result ⌝ }
 {
-    search_image(image, reference.0, limits, Reply::Recorded, result)
+    search_image(image, visible, reference.0, limits, Reply::Recorded, result)
 }

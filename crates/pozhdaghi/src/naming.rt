@@ -13,6 +13,7 @@ use semantics::graph::NodeId;
 #[no_mangle]
 pub extern "C" fn pozhdaghi_find_name(
     image: &[u8],
+    visible: &[u8],
     node: u32,
     asked: &[u64],
     work: &mut [u32],
@@ -20,11 +21,11 @@ pub extern "C" fn pozhdaghi_find_name(
     answer: &mut [u64],
 )
     ensures { λ _. ⌜ now (answer .exit) ≡ written (length (now (answer .entry)))
-        (toldFinding (nameAsked (now (image .entry)) node (now (asked .entry)) (now (work .entry)) (now (result .entry)) .answer)) ⌝ }
-    ensures { λ _. ⌜ now (work .exit) ≡ nameAsked (now (image .entry)) node (now (asked .entry)) (now (work .entry)) (now (result .entry)) .work ⌝ }
-    ensures { λ _. ⌜ now (result .exit) ≡ nameAsked (now (image .entry)) node (now (asked .entry)) (now (work .entry)) (now (result .entry)) .result ⌝ }
+        (toldFinding (nameAsked (now (image .entry)) (now (visible .entry)) node (now (asked .entry)) (now (work .entry)) (now (result .entry)) .answer)) ⌝ }
+    ensures { λ _. ⌜ now (work .exit) ≡ nameAsked (now (image .entry)) (now (visible .entry)) node (now (asked .entry)) (now (work .entry)) (now (result .entry)) .work ⌝ }
+    ensures { λ _. ⌜ now (result .exit) ≡ nameAsked (now (image .entry)) (now (visible .entry)) node (now (asked .entry)) (now (work .entry)) (now (result .entry)) .result ⌝ }
 {
     let limit = asked::length(asked);
-    let found = name::find_name(image, NodeId(node), limit, work, result);
+    let found = name::find_name(image, visible, NodeId(node), limit, work, result);
     numbers::write(numbers::of_finding(found), answer);
 }

@@ -1,4 +1,4 @@
-// Exported: the searches. Each answers 0, the number of paths in the result slots, four counts and three flags; or the refusal.
+// Exported: the searches. Each takes the set of visible files behind the image, and answers 0, the number of paths in the result slots, four counts and three flags; or the refusal.
 ghost use mathlib.Core.Path.{_≡_};
 ghost use Prim.Native.Nat.{_≤_};
 ghost use lib.ListN.{length};
@@ -22,6 +22,7 @@ use storage::check;
 #[no_mangle]
 pub extern "C" fn pozhdaghi_direct(
     image: &[u8],
+    visible: &[u8],
     reference: u32,
     asked: &[u64],
     work: &mut [u32],
@@ -29,13 +30,21 @@ pub extern "C" fn pozhdaghi_direct(
     answer: &mut [u64],
 )
     ensures { λ _. ⌜ now (answer .exit) ≡ written (length (now (answer .entry)))
-        (toldResolution (directAsked returned (now (image .entry)) reference (now (asked .entry)) (now (work .entry)) (now (result .entry)) .answer)) ⌝ }
-    ensures { λ _. ⌜ now (work .exit) ≡ directAsked returned (now (image .entry)) reference (now (asked .entry)) (now (work .entry)) (now (result .entry)) .work ⌝ }
-    ensures { λ _. ⌜ now (result .exit) ≡ directAsked returned (now (image .entry)) reference (now (asked .entry)) (now (work .entry)) (now (result .entry)) .result ⌝ }
+        (toldResolution (directAsked returned (now (image .entry)) (now (visible .entry)) reference (now (asked .entry)) (now (work .entry)) (now (result .entry)) .answer)) ⌝ }
+    ensures { λ _. ⌜ now (work .exit) ≡ directAsked returned (now (image .entry)) (now (visible .entry)) reference (now (asked .entry)) (now (work .entry)) (now (result .entry)) .work ⌝ }
+    ensures { λ _. ⌜ now (result .exit) ≡ directAsked returned (now (image .entry)) (now (visible .entry)) reference (now (asked .entry)) (now (work .entry)) (now (result .entry)) .result ⌝ }
 {
     let order = asked::order(asked);
     let limits = asked::limits(asked);
-    let found = direct::search(image, NodeId(reference), order, limits, work, result);
+    let found = direct::search(
+        image,
+        visible,
+        NodeId(reference),
+        order,
+        limits,
+        work,
+        result,
+    );
     numbers::write(numbers::of_resolution(found), answer);
 }
 
@@ -43,6 +52,7 @@ pub extern "C" fn pozhdaghi_direct(
 #[no_mangle]
 pub extern "C" fn pozhdaghi_direct_recorded(
     image: &[u8],
+    visible: &[u8],
     reference: u32,
     asked: &[u64],
     work: &mut [u32],
@@ -50,13 +60,21 @@ pub extern "C" fn pozhdaghi_direct_recorded(
     answer: &mut [u64],
 )
     ensures { λ _. ⌜ now (answer .exit) ≡ written (length (now (answer .entry)))
-        (toldResolution (directAsked recorded (now (image .entry)) reference (now (asked .entry)) (now (work .entry)) (now (result .entry)) .answer)) ⌝ }
-    ensures { λ _. ⌜ now (work .exit) ≡ directAsked recorded (now (image .entry)) reference (now (asked .entry)) (now (work .entry)) (now (result .entry)) .work ⌝ }
-    ensures { λ _. ⌜ now (result .exit) ≡ directAsked recorded (now (image .entry)) reference (now (asked .entry)) (now (work .entry)) (now (result .entry)) .result ⌝ }
+        (toldResolution (directAsked recorded (now (image .entry)) (now (visible .entry)) reference (now (asked .entry)) (now (work .entry)) (now (result .entry)) .answer)) ⌝ }
+    ensures { λ _. ⌜ now (work .exit) ≡ directAsked recorded (now (image .entry)) (now (visible .entry)) reference (now (asked .entry)) (now (work .entry)) (now (result .entry)) .work ⌝ }
+    ensures { λ _. ⌜ now (result .exit) ≡ directAsked recorded (now (image .entry)) (now (visible .entry)) reference (now (asked .entry)) (now (work .entry)) (now (result .entry)) .result ⌝ }
 {
     let order = asked::order(asked);
     let limits = asked::limits(asked);
-    let found = direct::search_recorded(image, NodeId(reference), order, limits, work, result);
+    let found = direct::search_recorded(
+        image,
+        visible,
+        NodeId(reference),
+        order,
+        limits,
+        work,
+        result,
+    );
     numbers::write(numbers::of_resolution(found), answer);
 }
 
@@ -64,6 +82,7 @@ pub extern "C" fn pozhdaghi_direct_recorded(
 // with a large index has forty pages, and to touch them takes a third of the time of a call on a small image.
 fn linear_small(
     image: &[u8],
+    visible: &[u8],
     reference: u32,
     asked: &[u64],
     reply: Reply,
@@ -72,17 +91,18 @@ fn linear_small(
 )
     requires { ⌜ (nodesOf (now image) ≤ FEW) × (edgesOf (now image) ≤ FEW) ⌝ }
     ensures { λ _. ⌜ now (answer .exit) ≡ written (length (now (answer .entry)))
-        (toldLinearResolution (linearAsked (replyOf reply) (now (image .entry)) reference (now (asked .entry)) (now (result .entry)) .answer)) ⌝ }
-    ensures { λ _. ⌜ now (result .exit) ≡ linearAsked (replyOf reply) (now (image .entry)) reference (now (asked .entry)) (now (result .entry)) .result ⌝ }
+        (toldLinearResolution (linearAsked (replyOf reply) (now (image .entry)) (now (visible .entry)) reference (now (asked .entry)) (now (result .entry)) .answer)) ⌝ }
+    ensures { λ _. ⌜ now (result .exit) ≡ linearAsked (replyOf reply) (now (image .entry)) (now (visible .entry)) reference (now (asked .entry)) (now (result .entry)) .result ⌝ }
 {
     let limits = asked::limits(asked);
-    let found = linear::search_small(image, reference, limits, reply, result);
+    let found = linear::search_small(image, visible, reference, limits, reply, result);
     numbers::write(numbers::of_linear(found), answer);
 }
 
 // And with a large one, which takes any image.
 fn linear_large(
     image: &[u8],
+    visible: &[u8],
     reference: u32,
     asked: &[u64],
     reply: Reply,
@@ -90,11 +110,11 @@ fn linear_large(
     answer: &mut [u64],
 )
     ensures { λ _. ⌜ now (answer .exit) ≡ written (length (now (answer .entry)))
-        (toldLinearResolution (linearAsked (replyOf reply) (now (image .entry)) reference (now (asked .entry)) (now (result .entry)) .answer)) ⌝ }
-    ensures { λ _. ⌜ now (result .exit) ≡ linearAsked (replyOf reply) (now (image .entry)) reference (now (asked .entry)) (now (result .entry)) .result ⌝ }
+        (toldLinearResolution (linearAsked (replyOf reply) (now (image .entry)) (now (visible .entry)) reference (now (asked .entry)) (now (result .entry)) .answer)) ⌝ }
+    ensures { λ _. ⌜ now (result .exit) ≡ linearAsked (replyOf reply) (now (image .entry)) (now (visible .entry)) reference (now (asked .entry)) (now (result .entry)) .result ⌝ }
 {
     let limits = asked::limits(asked);
-    let found = linear::search_large(image, reference, limits, reply, result);
+    let found = linear::search_large(image, visible, reference, limits, reply, result);
     numbers::write(numbers::of_linear(found), answer);
 }
 
@@ -102,46 +122,81 @@ fn linear_large(
 #[no_mangle]
 pub extern "C" fn pozhdaghi_linear(
     image: &[u8],
+    visible: &[u8],
     reference: u32,
     asked: &[u64],
     result: &mut [u32],
     answer: &mut [u64],
 )
     ensures { λ _. ⌜ now (answer .exit) ≡ written (length (now (answer .entry)))
-        (toldLinearResolution (linearAsked returned (now (image .entry)) reference (now (asked .entry)) (now (result .entry)) .answer)) ⌝ }
-    ensures { λ _. ⌜ now (result .exit) ≡ linearAsked returned (now (image .entry)) reference (now (asked .entry)) (now (result .entry)) .result ⌝ }
+        (toldLinearResolution (linearAsked returned (now (image .entry)) (now (visible .entry)) reference (now (asked .entry)) (now (result .entry)) .answer)) ⌝ }
+    ensures { λ _. ⌜ now (result .exit) ≡ linearAsked returned (now (image .entry)) (now (visible .entry)) reference (now (asked .entry)) (now (result .entry)) .result ⌝ }
 {
     if check::is_small(image) {
-        linear_small(image, reference, asked, Reply::Returned, result, answer);
+        linear_small(
+            image,
+            visible,
+            reference,
+            asked,
+            Reply::Returned,
+            result,
+            answer,
+        );
         return;
     }
-    linear_large(image, reference, asked, Reply::Returned, result, answer);
+    linear_large(
+        image,
+        visible,
+        reference,
+        asked,
+        Reply::Returned,
+        result,
+        answer,
+    );
 }
 
 // Linear search: the recorded paths.
 #[no_mangle]
 pub extern "C" fn pozhdaghi_linear_recorded(
     image: &[u8],
+    visible: &[u8],
     reference: u32,
     asked: &[u64],
     result: &mut [u32],
     answer: &mut [u64],
 )
     ensures { λ _. ⌜ now (answer .exit) ≡ written (length (now (answer .entry)))
-        (toldLinearResolution (linearAsked recorded (now (image .entry)) reference (now (asked .entry)) (now (result .entry)) .answer)) ⌝ }
-    ensures { λ _. ⌜ now (result .exit) ≡ linearAsked recorded (now (image .entry)) reference (now (asked .entry)) (now (result .entry)) .result ⌝ }
+        (toldLinearResolution (linearAsked recorded (now (image .entry)) (now (visible .entry)) reference (now (asked .entry)) (now (result .entry)) .answer)) ⌝ }
+    ensures { λ _. ⌜ now (result .exit) ≡ linearAsked recorded (now (image .entry)) (now (visible .entry)) reference (now (asked .entry)) (now (result .entry)) .result ⌝ }
 {
     if check::is_small(image) {
-        linear_small(image, reference, asked, Reply::Recorded, result, answer);
+        linear_small(
+            image,
+            visible,
+            reference,
+            asked,
+            Reply::Recorded,
+            result,
+            answer,
+        );
         return;
     }
-    linear_large(image, reference, asked, Reply::Recorded, result, answer);
+    linear_large(
+        image,
+        visible,
+        reference,
+        asked,
+        Reply::Recorded,
+        result,
+        answer,
+    );
 }
 
 // Stitched search over the database in the words: the returned paths.
 #[no_mangle]
 pub extern "C" fn pozhdaghi_stitched(
     image: &[u8],
+    visible: &[u8],
     words: &[u32],
     reference: u32,
     asked: &[u64],
@@ -150,14 +205,23 @@ pub extern "C" fn pozhdaghi_stitched(
     answer: &mut [u64],
 )
     ensures { λ _. ⌜ now (answer .exit) ≡ written (length (now (answer .entry)))
-        (toldResolution (stitchedAsked returned (now (image .entry)) (now (words .entry)) reference (now (asked .entry)) (now (work .entry))
+        (toldResolution (stitchedAsked returned (now (image .entry)) (now (visible .entry)) (now (words .entry)) reference (now (asked .entry)) (now (work .entry))
         (now (result .entry)) .answer)) ⌝ }
-    ensures { λ _. ⌜ now (work .exit) ≡ stitchedAsked returned (now (image .entry)) (now (words .entry)) reference (now (asked .entry)) (now (work .entry)) (now (result .entry)) .work ⌝ }
-    ensures { λ _. ⌜ now (result .exit) ≡ stitchedAsked returned (now (image .entry)) (now (words .entry)) reference (now (asked .entry)) (now (work .entry)) (now (result .entry)) .result ⌝ }
+    ensures { λ _. ⌜ now (work .exit) ≡ stitchedAsked returned (now (image .entry)) (now (visible .entry)) (now (words .entry)) reference (now (asked .entry)) (now (work .entry)) (now (result .entry)) .work ⌝ }
+    ensures { λ _. ⌜ now (result .exit) ≡ stitchedAsked returned (now (image .entry)) (now (visible .entry)) (now (words .entry)) reference (now (asked .entry)) (now (work .entry)) (now (result .entry)) .result ⌝ }
 {
     let order = asked::order(asked);
     let limits = asked::limits(asked);
-    let found = stitched::search(image, words, NodeId(reference), order, limits, work, result);
+    let found = stitched::search(
+        image,
+        visible,
+        words,
+        NodeId(reference),
+        order,
+        limits,
+        work,
+        result,
+    );
     numbers::write(numbers::of_resolution(found), answer);
 }
 
@@ -165,6 +229,7 @@ pub extern "C" fn pozhdaghi_stitched(
 #[no_mangle]
 pub extern "C" fn pozhdaghi_stitched_recorded(
     image: &[u8],
+    visible: &[u8],
     words: &[u32],
     reference: u32,
     asked: &[u64],
@@ -173,15 +238,16 @@ pub extern "C" fn pozhdaghi_stitched_recorded(
     answer: &mut [u64],
 )
     ensures { λ _. ⌜ now (answer .exit) ≡ written (length (now (answer .entry)))
-        (toldResolution (stitchedAsked recorded (now (image .entry)) (now (words .entry)) reference (now (asked .entry)) (now (work .entry))
+        (toldResolution (stitchedAsked recorded (now (image .entry)) (now (visible .entry)) (now (words .entry)) reference (now (asked .entry)) (now (work .entry))
         (now (result .entry)) .answer)) ⌝ }
-    ensures { λ _. ⌜ now (work .exit) ≡ stitchedAsked recorded (now (image .entry)) (now (words .entry)) reference (now (asked .entry)) (now (work .entry)) (now (result .entry)) .work ⌝ }
-    ensures { λ _. ⌜ now (result .exit) ≡ stitchedAsked recorded (now (image .entry)) (now (words .entry)) reference (now (asked .entry)) (now (work .entry)) (now (result .entry)) .result ⌝ }
+    ensures { λ _. ⌜ now (work .exit) ≡ stitchedAsked recorded (now (image .entry)) (now (visible .entry)) (now (words .entry)) reference (now (asked .entry)) (now (work .entry)) (now (result .entry)) .work ⌝ }
+    ensures { λ _. ⌜ now (result .exit) ≡ stitchedAsked recorded (now (image .entry)) (now (visible .entry)) (now (words .entry)) reference (now (asked .entry)) (now (work .entry)) (now (result .entry)) .result ⌝ }
 {
     let order = asked::order(asked);
     let limits = asked::limits(asked);
     let found = stitched::search_recorded(
         image,
+        visible,
         words,
         NodeId(reference),
         order,

@@ -27,6 +27,11 @@ const MOST_BYTES: usize = 65_536;
 
 const TOO_MANY_BYTES: u32 = 2;
 
+// An image has at most so many files, and each is visible here.
+const MOST_FILES: usize = 256;
+
+const VISIBLE: u8 = 1;
+
 // The search from one reference, and what is printed of it. The image is accepted and there is no database, so only the search itself may refuse.
 fn resolve(image: &[u8], reference: u32, work: &mut [u32], result: &mut [u32])
     requires { ⌜ length (now result) ≡ areaWords ⌝ }
@@ -37,7 +42,16 @@ fn resolve(image: &[u8], reference: u32, work: &mut [u32], result: &mut [u32])
         complete: Limit::Absent,
     };
     let order = SearchOrder::BreadthFirst;
-    match direct::search(image, NodeId(reference), order, limits, work, result) {
+    let visible = [VISIBLE; MOST_FILES];
+    match direct::search(
+        image,
+        &visible,
+        NodeId(reference),
+        order,
+        limits,
+        work,
+        result,
+    ) {
         Resolution::Done { paths, stats } => report::tell_found(reference, paths, stats, result),
         Resolution::Image(r) => report::tell_refused(reference, refusal::image(r).number),
         Resolution::Database(r) => report::tell_refused(reference, refusal::database(r).number),

@@ -37,6 +37,7 @@ use Rattle.semantics.specs.Recorded.{edgeLists}
 use Rattle.semantics.specs.Direct.{direct, searchSetting}
 use Rattle.semantics.specs.Linear.{linear, linearSetting}
 use Rattle.semantics.specs.PartialPaths.{Route, Slot, filePartials, aliasRoutes, partialSetting, partialStats}
+use Rattle.semantics.specs.Hidden.{seenSlot, seenSlots}
 use Rattle.semantics.specs.Stitching.{stitched}
 use Rattle.semantics.specs.Words.{zeros, wholeSlots, area}
 use Rattle.semantics.specs.Database.{checkDatabase, freshWords, hasRoom, replaceWords}
@@ -163,22 +164,24 @@ unfolding area
 searchOutcome bd reply q (ok s) = record { answer = Resolution.Done (length (reply s)) (reportOf s); work = zeros (q .work); result = area (slotWords bd) (q .result) (edgeLists (reply s)) }
 searchOutcome bd reply q (refuse r) = refused q (Resolution.Refused r)
 
--- the image, then the node
+-- the image, then the node. This and the calls below are asked of the image as a desk sees it: Hidden, `seenImage`
 unfoldable pub directCall : (bd : Bounds) (reply : Reply) → Answer ImageRefusal Graph → Request → Outcome Resolution
 unfolding searchOutcome direct viewOf
 directCall bd reply (ok g) q = searchOutcome bd reply q (direct bd (q .limits .length) (settingOf bd q) (viewOf g) (q .node))
 directCall bd reply (refuse x) q = refused q (Resolution.Image x)
 
-unfoldable pub stitchedOutcome : (bd : Bounds) (reply : Reply) → Graph → Request → Answer DatabaseRefusal (List Slot) → Outcome Resolution
-unfolding searchOutcome stitched viewOf
-stitchedOutcome bd reply g q (ok db) = searchOutcome bd reply q (stitched bd (q .limits .length) (settingOf bd q) (viewOf g) db (q .node))
-stitchedOutcome bd reply g q (refuse r) = refused q (Resolution.Database r)
+-- only the slots of the visible owners are searched
+unfoldable pub stitchedOutcome : (bd : Bounds) (reply : Reply) (see : ℕ → Bool) → Graph → Request → Answer DatabaseRefusal (List Slot) → Outcome Resolution
+unfolding searchOutcome stitched viewOf seenSlot
+stitchedOutcome bd reply see g q (ok db) = searchOutcome bd reply q (stitched bd (q .limits .length) (settingOf bd q) (viewOf g) (seenSlots see db) (q .node))
+stitchedOutcome bd reply see g q (refuse r) = refused q (Resolution.Database r)
 
--- the image, 35, 34, then the node; `known` are the owners that a database may name. The database is only read
-unfoldable pub stitchedCall : (bd : Bounds) (reply : Reply) (known : ℕ → ℕ → Bool) → Answer ImageRefusal Graph → List ℕ → Request → Outcome Resolution
+-- the image, 35, 34, then the node; `known` are the owners that a database may name, `see` the files that are visible: 35 and 34 look at every slot.
+-- The database is only read
+unfoldable pub stitchedCall : (bd : Bounds) (reply : Reply) (known : ℕ → ℕ → Bool) (see : ℕ → Bool) → Answer ImageRefusal Graph → List ℕ → Request → Outcome Resolution
 unfolding stitchedOutcome checkDatabase
-stitchedCall bd reply known (ok g) words q = stitchedOutcome bd reply g q (checkDatabase bd known g words)
-stitchedCall bd reply known (refuse x) words q = refused q (Resolution.Image x)
+stitchedCall bd reply known see (ok g) words q = stitchedOutcome bd reply see g q (checkDatabase bd known g words)
+stitchedCall bd reply known see (refuse x) words q = refused q (Resolution.Image x)
 
 -- nothing waits in a linear search: its figure is 0
 unfoldable pub linearOutcome : (bd : Bounds) (reply : Reply) → LinearRequest → Answer LinearRefusal (State Path) → Outcome LinearResolution

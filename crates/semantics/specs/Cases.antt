@@ -29,6 +29,7 @@ pub mod Instance
 pub mod Entries
 pub mod Versions
 pub mod Compaction
+pub mod Desks
 
 pub starred : List (Row (List (List ℕ)))
 unfolding directly partialsIn stitching firstFiled replaying linearly

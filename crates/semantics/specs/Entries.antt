@@ -19,6 +19,7 @@ use Rattle.semantics.specs.Limits.{base, former}
 use Rattle.semantics.specs.Answer.{Answer}
 use Rattle.semantics.specs.Graph.{Graph}
 use Rattle.semantics.specs.Image.{symbolBytes, checkImage}
+use Rattle.semantics.specs.Hidden.{sees, seenImage}
 use Rattle.semantics.specs.Database.{Part, knownOwners, lookupPart}
 use Rattle.semantics.specs.Database.Conversion.{Converted, convertCall}
 use Rattle.semantics.specs.Database.Compaction.{Compacted, compactCall}
@@ -30,6 +31,10 @@ use Rattle.semantics.specs.Asked.{orderAsked, lengthAsked, expansionsAsk
 -- what a call reads of its image: an accepted graph or 1 to 5
 abbrev pub graphIn : List ℕ → Answer ImageRefusal Graph
 graphIn im = checkImage symbolBytes im
+
+-- what a search reads of it where only the files in a lent set are visible
+abbrev pub seenIn : List ℕ → List ℕ → Answer ImageRefusal Graph
+seenIn im visible = seenImage (sees visible) (graphIn im)
 
 -- WHAT IS ASKED: areas count by their lengths
 
@@ -62,20 +67,20 @@ completeOf im r es = completeCall base (graphIn im) r es
 abbrev pub shadowsOf : List ℕ → ℕ → List ℕ → ℕ → List ℕ → Judgement
 shadowsOf im l ls r rs = shadowsCall base (graphIn im) l ls r rs
 
--- direct search from a node: the image, the node, what is asked, the work and the result area
-abbrev pub directSearch : Reply → List ℕ → ℕ → SearchOrder → SearchLimits → List ℕ → List ℕ → Outcome Resolution
-directSearch reply im r order limits ws rs = directCall base reply (graphIn im) (requestOf order limits ws rs r)
+-- direct search from a node: the image, the visible files, the node, what is asked, the work and the result area
+abbrev pub directSearch : Reply → List ℕ → List ℕ → ℕ → SearchOrder → SearchLimits → List ℕ → List ℕ → Outcome Resolution
+directSearch reply im visible r order limits ws rs = directCall base reply (seenIn im visible) (requestOf order limits ws rs r)
 
-abbrev pub linearSearch : Reply → List ℕ → ℕ → SearchLimits → List ℕ → Outcome LinearResolution
-linearSearch reply im r limits rs = linearCall base reply (graphIn im) (linearRequestOf limits rs r)
+abbrev pub linearSearch : Reply → List ℕ → List ℕ → ℕ → SearchLimits → List ℕ → Outcome LinearResolution
+linearSearch reply im visible r limits rs = linearCall base reply (seenIn im visible) (linearRequestOf limits rs r)
 
 -- the same with the words of a database, which are only read
-abbrev pub stitchedSearch : Reply → List ℕ → List ℕ → ℕ → SearchOrder → SearchLimits → List ℕ → List ℕ → Outcome Resolution
-stitchedSearch reply im words r order limits ws rs = stitchedCall base reply knownOwners (graphIn im) words (requestOf order limits ws rs r)
+abbrev pub stitchedSearch : Reply → List ℕ → List ℕ → List ℕ → ℕ → SearchOrder → SearchLimits → List ℕ → List ℕ → Outcome Resolution
+stitchedSearch reply im visible words r order limits ws rs = stitchedCall base reply knownOwners (sees visible) (seenIn im visible) words (requestOf order limits ws rs r)
 
--- a name for a definition: the image, the node, the limit on length, the work and the result area
-abbrev pub findName : List ℕ → ℕ → Limit → List ℕ → List ℕ → Outcome Finding
-findName im n most ws rs = findCall base (graphIn im) (nameRequestOf most ws rs n)
+-- a name for a definition: the image, the visible files, the node, the limit on length, the work and the result area
+abbrev pub findName : List ℕ → List ℕ → ℕ → Limit → List ℕ → List ℕ → Outcome Finding
+findName im visible n most ws rs = findCall base (seenIn im visible) (nameRequestOf most ws rs n)
 
 -- an image rewritten in the other version: the image, and the lent bytes
 abbrev pub widenImage : List ℕ → List ℕ → Rewritten
@@ -108,18 +113,18 @@ lookupOf i words = lookupPart base knownOwners i words
 
 -- THE SAME WHERE THE NUMBERS OF Asked SAY WHAT IS ASKED: the exported calls
 
-abbrev pub directAsked : Reply → List ℕ → ℕ → List ℕ → List ℕ → List ℕ → Outcome Resolution
-directAsked reply im r asked ws rs = directSearch reply im r (orderAsked asked) (limitsAsked asked) ws rs
+abbrev pub directAsked : Reply → List ℕ → List ℕ → ℕ → List ℕ → List ℕ → List ℕ → Outcome Resolution
+directAsked reply im visible r asked ws rs = directSearch reply im visible r (orderAsked asked) (limitsAsked asked) ws rs
 
-abbrev pub linearAsked : Reply → List ℕ → ℕ → List ℕ → List ℕ → Outcome LinearResolution
-linearAsked reply im r asked rs = linearSearch reply im r (limitsAsked asked) rs
+abbrev pub linearAsked : Reply → List ℕ → List ℕ → ℕ → List ℕ → List ℕ → Outcome LinearResolution
+linearAsked reply im visible r asked rs = linearSearch reply im visible r (limitsAsked asked) rs
 
-abbrev pub stitchedAsked : Reply → List ℕ → List ℕ → ℕ → List ℕ → List ℕ → List ℕ → Outcome Resolution
-stitchedAsked reply im words r asked ws rs = stitchedSearch reply im words r (orderAsked asked) (limitsAsked asked) ws rs
+abbrev pub stitchedAsked : Reply → List ℕ → List ℕ → List ℕ → ℕ → List ℕ → List ℕ → List ℕ → Outcome Resolution
+stitchedAsked reply im visible words r asked ws rs = stitchedSearch reply im visible words r (orderAsked asked) (limitsAsked asked) ws rs
 
 -- of the numbers only those of the limit on length are read
-abbrev pub nameAsked : List ℕ → ℕ → List ℕ → List ℕ → List ℕ → Outcome Finding
-nameAsked im n asked ws rs = findName im n (lengthAsked asked) ws rs
+abbrev pub nameAsked : List ℕ → List ℕ → ℕ → List ℕ → List ℕ → List ℕ → Outcome Finding
+nameAsked im visible n asked ws rs = findName im visible n (lengthAsked asked) ws rs
 
 abbrev pub replaceAsked : List ℕ → ℕ → List ℕ → List ℕ → List ℕ → Change Replacement
 replaceAsked im f asked ws words = replaceFile im f (orderAsked asked) (lengthAsked asked) (expansionsAsked asked) ws words

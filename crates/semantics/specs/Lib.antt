@@ -10,6 +10,7 @@ pub mod Enumeration
 pub mod Direct
 pub mod Linear
 pub mod PartialPaths
+pub mod Hidden
 pub mod Stitching
 pub mod Recorded
 pub mod Bytes

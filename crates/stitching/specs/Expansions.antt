@@ -2,6 +2,7 @@
 -- Document 01, "Partial paths": `try_compute_from_partials`.
 use Prim.Native.Nat.{ℕ}
 use mathlib.Core.Path.{_≡_}
+use mathlib.Core.Bool.{Bool}
 use mathlib.Core.List.{List}
 use lib.ListN.{length, take, drop}
 use Rattle.search_rounds.specs.Expanding.{Expanding}
@@ -39,7 +40,7 @@ module _ (words : List ℕ) (most : ℕ) (index steps item : List ℕ) (k : ℕ)
     pub clears : Clears a item′
     pub kept : KeptTo k steps steps′
 
-  -- the answer to all of them
-  pub record Expanded (a : Going) (steps′ ws′ rs′ : List ℕ) : Type 0 where
-    pub tells : Tells (viewOf (v .graph)) (v .reference) (frameOf s) a ws′ rs′ (each (settingOf (frameOf s)) (v .model) (triesIn words (frameOf s .limits .length) (viewOf (v .graph)) (v .path)))
+  -- the answer to all that are seen
+  pub record Expanded (see : ℕ → Bool) (a : Going) (steps′ ws′ rs′ : List ℕ) : Type 0 where
+    pub tells : Tells (viewOf (v .graph)) (v .reference) (frameOf s) a ws′ rs′ (each (settingOf (frameOf s)) (v .model) (triesIn see words (frameOf s .limits .length) (viewOf (v .graph)) (v .path)))
     pub kept : KeptTo k steps steps′

@@ -1,6 +1,8 @@
 // Stitched search from a reference: every path that waits is tried with each partial path from its end. Document 01, "Partial paths":
 // `try_compute_from_partials`. The database is lent to be read.
 ghost use mathlib.Core.Path.{_≡_};
+ghost use Prim.Native.Nat.{ℕ};
+ghost use mathlib.Core.Bool.{Bool};
 ghost use lib.ListN.{length};
 ghost use Rattle.semantics.specs.Words.{zeros};
 ghost use Rattle.semantics.specs.Entries.{requestOf, stitchedSearch, Does};
@@ -10,10 +12,11 @@ ghost use Rattle.semantics.specs.Recorded.{recorded, returned};
 ghost use Rattle.semantics.specs.Database.{knownOwners, checkDatabase};
 ghost use Rattle.semantics.specs.Told.{toldResolution};
 ghost use Rattle.semantics.specs.Calls.{stitchedOutcome};
+ghost use Rattle.semantics.specs.Hidden.{sees};
 ghost use Rattle.storage.specs.Index.{Loaded, Takes, HoldsGraph, Sized};
 ghost use Rattle.path.specs.Shadows.Laws.{JumpAt};
 ghost use Rattle.reply.specs.Replies.{replyOf};
-ghost use Rattle.stitching_trial.specs.Links.{Readable, Linked, Tryable};
+ghost use Rattle.stitching_trial.specs.Links.{Readable, Linked, LinkedSome, Tryable};
 ghost use Rattle.stitching.specs.Expansions.{Given, Tried, Expanded};
 ghost use Rattle.search_state.specs.Searches.{Clears};
 ghost use Rattle.search_rounds.specs.Drives.{Rounding, Rounded, Driving, Ends, DrivenTo};
@@ -92,9 +95,10 @@ fn expand(
     work: &mut [u32],
     result: &mut [u32],
 ) -> Going
-    requires { ⌜ Linked (now words) (now links) × Given lookedBefore (now index) (now steps) (now item) k search (now work) (now result) ⌝ }
-    ensures { λ r. ⌜ ((v : Given lookedBefore (now (index .entry)) (now (steps .entry)) (now (item .entry)) k search (now (work .entry)) (now (result .entry)))
-        → Expanded (now (words .entry)) lookedBefore (now (index .entry)) (now (steps .entry)) (now (item .entry)) k search (now (work .entry)) (now (result .entry)) v r
+    requires { ⌜ LinkedSome (now words) (now links) × Given lookedBefore (now index) (now steps) (now item) k search (now work) (now result) ⌝ }
+    ensures { λ r. ⌜ ((see : ℕ → Bool) → Linked see (now (words .entry)) (now (links .entry))
+        → (v : Given lookedBefore (now (index .entry)) (now (steps .entry)) (now (item .entry)) k search (now (work .entry)) (now (result .entry)))
+        → Expanded (now (words .entry)) lookedBefore (now (index .entry)) (now (steps .entry)) (now (item .entry)) k search (now (work .entry)) (now (result .entry)) v see r
         (now (steps .exit)) (now (work .exit)) (now (result .exit))) ⌝ }
     ensures { λ r. ⌜ (Given lookedBefore (now (index .entry)) (now (steps .entry)) (now (item .entry)) k search (now (work .entry)) (now (result .entry)) → Clears r (now (item .exit))) ⌝ }
 {
@@ -124,9 +128,10 @@ fn round(
     work: &mut [u32],
     result: &mut [u32],
 ) -> Going
-    requires { ⌜ Linked (now words) (now links) × Rounding lookedBefore (now index) (now steps) (now item) laid search (now work) (now result) ⌝ }
-    ensures { λ r. ⌜ ((v : Rounding lookedBefore (now (index .entry)) (now (steps .entry)) (now (item .entry)) laid search (now (work .entry)) (now (result .entry)))
-        → Rounded (triesIn (now (words .entry))) lookedBefore (now (index .entry)) (now (steps .entry)) (now (item .entry)) laid search (now (work .entry))
+    requires { ⌜ LinkedSome (now words) (now links) × Rounding lookedBefore (now index) (now steps) (now item) laid search (now work) (now result) ⌝ }
+    ensures { λ r. ⌜ ((see : ℕ → Bool) → Linked see (now (words .entry)) (now (links .entry))
+        → (v : Rounding lookedBefore (now (index .entry)) (now (steps .entry)) (now (item .entry)) laid search (now (work .entry)) (now (result .entry)))
+        → Rounded (triesIn see (now (words .entry))) lookedBefore (now (index .entry)) (now (steps .entry)) (now (item .entry)) laid search (now (work .entry))
         (now (result .entry)) v r (now (steps .exit)) (now (work .exit)) (now (result .exit))) ⌝ }
     ensures { λ r. ⌜ (Rounding lookedBefore (now (index .entry)) (now (steps .entry)) (now (item .entry)) laid search (now (work .entry)) (now (result .entry)) → Clears r (now (item .exit))) ⌝ }
 {
@@ -146,9 +151,10 @@ fn drive(
     work: &mut [u32],
     result: &mut [u32],
 ) -> SearchEnd
-    requires { ⌜ Linked (now words) (now links) × Driving (now index) (now steps) (now item) search (now work) (now result) ⌝ }
-    ensures { λ r. ⌜ ((v : Driving (now (index .entry)) (now (steps .entry)) (now (item .entry)) search (now (work .entry)) (now (result .entry)))
-        → DrivenTo (triesIn (now (words .entry))) (now (index .entry)) (now (steps .entry)) (now (item .entry)) search (now (work .entry)) (now (result .entry)) v r
+    requires { ⌜ LinkedSome (now words) (now links) × Driving (now index) (now steps) (now item) search (now work) (now result) ⌝ }
+    ensures { λ r. ⌜ ((see : ℕ → Bool) → Linked see (now (words .entry)) (now (links .entry))
+        → (v : Driving (now (index .entry)) (now (steps .entry)) (now (item .entry)) search (now (work .entry)) (now (result .entry)))
+        → DrivenTo (triesIn see (now (words .entry))) (now (index .entry)) (now (steps .entry)) (now (item .entry)) search (now (work .entry)) (now (result .entry)) v r
         (now (result .exit))) ⌝ }
 {
     let mut on = search;
@@ -175,6 +181,7 @@ fn drive(
 // over, and the work area as it was left.
 fn search_kept(
     index: &[u32],
+    visible: &[u8],
     words: &[u32],
     reference: u32,
     order: SearchOrder,
@@ -184,7 +191,7 @@ fn search_kept(
 ) -> SearchEnd
     requires { ⌜ HoldsGraph (now index) × Readable (now words) × (now result ≡ zeros (length (now result))) ⌝ }
     ensures { λ r. ⌜ ((g : Graph) → Loaded g (now (index .entry)) → Ends r (now (result .exit))
-        (stitchedOf g (now (words .entry)) (requestOf order limits (now (work .entry)) (now (result .entry)) reference))) ⌝ }
+        (stitchedOf (sees (now (visible .entry))) g (now (words .entry)) (requestOf order limits (now (work .entry)) (now (result .entry)) reference))) ⌝ }
 {
     let mut steps = [0u32; STEPS_WORDS];
     let mut item = [0u32; SLOT_WORDS];
@@ -200,7 +207,7 @@ fn search_kept(
     ) {
         Going::On(on) => {
             let mut links = [0u32; links::LINKS];
-            links::link(words, &mut links);
+            links::link(words, visible, &mut links);
             drive(
                 index,
                 words,
@@ -219,6 +226,7 @@ fn search_kept(
 // The same, in a result area with any words.
 fn attempt(
     index: &[u32],
+    visible: &[u8],
     words: &[u32],
     reference: u32,
     order: SearchOrder,
@@ -228,15 +236,25 @@ fn attempt(
 ) -> SearchEnd
     requires { ⌜ HoldsGraph (now index) × Readable (now words) ⌝ }
     ensures { λ r. ⌜ ((g : Graph) → Loaded g (now (index .entry)) → Ends r (now (result .exit))
-        (stitchedOf g (now (words .entry)) (requestOf order limits (now (work .entry)) (now (result .entry)) reference))) ⌝ }
+        (stitchedOf (sees (now (visible .entry))) g (now (words .entry)) (requestOf order limits (now (work .entry)) (now (result .entry)) reference))) ⌝ }
 {
     slots::zero(result);
-    search_kept(index, words, reference, order, limits, work, result)
+    search_kept(
+        index,
+        visible,
+        words,
+        reference,
+        order,
+        limits,
+        work,
+        result,
+    )
 }
 
 // The search with the paths of the reply; both areas as every call leaves them.
 fn search_loaded(
     index: &[u32],
+    visible: &[u8],
     words: &[u32],
     reference: u32,
     order: SearchOrder,
@@ -247,16 +265,26 @@ fn search_loaded(
 ) -> Resolution
     requires { ⌜ HoldsGraph (now index) × Readable (now words) ⌝ }
     ensures { λ r. ⌜ ((g : Graph) → Loaded g (now (index .entry)) → JumpAt (viewOf g)
-        → Does (foundOf g (now (words .entry)) reply (requestOf order limits (now (work .entry)) (now (result .entry)) reference)) r (now (work .exit))
+        → Does (foundOf (sees (now (visible .entry))) g (now (words .entry)) reply (requestOf order limits (now (work .entry)) (now (result .entry)) reference)) r (now (work .exit))
         (now (result .exit))) ⌝ }
 {
-    let driven = attempt(index, words, reference, order, limits, work, result);
+    let driven = attempt(
+        index,
+        visible,
+        words,
+        reference,
+        order,
+        limits,
+        work,
+        result,
+    );
     conclude(index, driven, reply, work, result)
 }
 
 // The database is checked against a graph of so many nodes and files: 35, then 34. Then it is searched.
 fn search_database(
     index: &[u32],
+    visible: &[u8],
     words: &[u32],
     nodes: u32,
     files: u32,
@@ -269,7 +297,7 @@ fn search_database(
 ) -> Resolution
     requires { ⌜ Sized (now index) nodes files ⌝ }
     ensures { λ r. ⌜ ((g : Graph) → Loaded g (now (index .entry)) → JumpAt (viewOf g) → nodes ≡ length (g .nodes) → files ≡ g .files
-        → Does (stitchedOutcome base (replyOf reply) g (requestOf order limits (now (work .entry)) (now (result .entry)) reference)
+        → Does (stitchedOutcome base (replyOf reply) (sees (now (visible .entry))) g (requestOf order limits (now (work .entry)) (now (result .entry)) reference)
         (checkDatabase base knownOwners g (now (words .entry)))) r (now (work .exit)) (now (result .exit))) ⌝ }
 {
     match check::check(words, nodes, files) {
@@ -279,7 +307,17 @@ fn search_database(
             Resolution::Database(r)
         }
         Inspected::Sound => {
-            search_loaded(index, words, reference, order, limits, reply, work, result)
+            search_loaded(
+                index,
+                visible,
+                words,
+                reference,
+                order,
+                limits,
+                reply,
+                work,
+                result,
+            )
         }
     }
 }
@@ -287,6 +325,7 @@ fn search_database(
 // The image is checked into the lent index, then the database; a refused image leaves both areas zero.
 fn search_in(
     image: &[u8],
+    visible: &[u8],
     index: &mut [u32],
     words: &[u32],
     reference: u32,
@@ -297,10 +336,10 @@ fn search_in(
     result: &mut [u32],
 ) -> Resolution
     requires { ⌜ Takes (now image) (now index) ⌝ }
-    ensures { λ r. ⌜ Does (stitchedSearch (replyOf reply) (now (image .entry)) (now (words .entry)) reference order limits (now (work .entry)) (now (result .entry))) r
+    ensures { λ r. ⌜ Does (stitchedSearch (replyOf reply) (now (image .entry)) (now (visible .entry)) (now (words .entry)) reference order limits (now (work .entry)) (now (result .entry))) r
         (now (work .exit)) (now (result .exit)) ⌝ }
 {
-    match storage::check::load_fresh(image, index) {
+    match storage::check::load_seen(image, visible, index) {
         Checked::Refused(r) => {
             slots::zero(work);
             slots::zero(result);
@@ -312,6 +351,7 @@ fn search_in(
             edges: _,
         } => search_database(
             index,
+            visible,
             words,
             nodes,
             files,
@@ -328,6 +368,7 @@ fn search_in(
 // A small image gets a small index: zeroing a large one would take longer than the search.
 fn search_image(
     image: &[u8],
+    visible: &[u8],
     words: &[u32],
     reference: u32,
     order: SearchOrder,
@@ -336,13 +377,14 @@ fn search_image(
     work: &mut [u32],
     result: &mut [u32],
 ) -> Resolution
-    ensures { λ r. ⌜ Does (stitchedSearch (replyOf reply) (now (image .entry)) (now (words .entry)) reference order limits (now (work .entry)) (now (result .entry))) r
+    ensures { λ r. ⌜ Does (stitchedSearch (replyOf reply) (now (image .entry)) (now (visible .entry)) (now (words .entry)) reference order limits (now (work .entry)) (now (result .entry))) r
         (now (work .exit)) (now (result .exit)) ⌝ }
 {
     if storage::check::is_small(image) {
         let mut index = [0u32; blocks::SMALL];
         return search_in(
             image,
+            visible,
             &mut index,
             words,
             reference,
@@ -356,6 +398,7 @@ fn search_image(
     let mut index = [0u32; blocks::INDEX];
     search_in(
         image,
+        visible,
         &mut index,
         words,
         reference,
@@ -370,6 +413,7 @@ fn search_image(
 // Stitched search from a reference, on any bytes, words and numbers: the returned paths.
 pub fn search(
     image: &[u8],
+    visible: &[u8],
     words: &[u32],
     reference: NodeId,
     order: SearchOrder,
@@ -377,13 +421,14 @@ pub fn search(
     work: &mut [u32],
     result: &mut [u32],
 ) -> Resolution
-    ensures { λ r. ⌜ toldResolution r ≡ toldResolution (stitchedSearch returned (now (image .entry)) (now (words .entry)) (reference .0) order limits (now (work .entry))
+    ensures { λ r. ⌜ toldResolution r ≡ toldResolution (stitchedSearch returned (now (image .entry)) (now (visible .entry)) (now (words .entry)) (reference .0) order limits (now (work .entry))
         (now (result .entry)) .answer) ⌝ }
-    ensures { λ _. ⌜ now (work .exit) ≡ stitchedSearch returned (now (image .entry)) (now (words .entry)) (reference .0) order limits (now (work .entry)) (now (result .entry)) .work ⌝ }
-    ensures { λ _. ⌜ now (result .exit) ≡ stitchedSearch returned (now (image .entry)) (now (words .entry)) (reference .0) order limits (now (work .entry)) (now (result .entry)) .result ⌝ }
+    ensures { λ _. ⌜ now (work .exit) ≡ stitchedSearch returned (now (image .entry)) (now (visible .entry)) (now (words .entry)) (reference .0) order limits (now (work .entry)) (now (result .entry)) .work ⌝ }
+    ensures { λ _. ⌜ now (result .exit) ≡ stitchedSearch returned (now (image .entry)) (now (visible .entry)) (now (words .entry)) (reference .0) order limits (now (work .entry)) (now (result .entry)) .result ⌝ }
 {
     search_image(
         image,
+        visible,
         words,
         reference.0,
         order,
@@ -397,6 +442,7 @@ pub fn search(
 // The same search with its recorded paths.
 pub fn search_recorded(
     image: &[u8],
+    visible: &[u8],
     words: &[u32],
     reference: NodeId,
     order: SearchOrder,
@@ -404,13 +450,14 @@ pub fn search_recorded(
     work: &mut [u32],
     result: &mut [u32],
 ) -> Resolution
-    ensures { λ r. ⌜ toldResolution r ≡ toldResolution (stitchedSearch recorded (now (image .entry)) (now (words .entry)) (reference .0) order limits (now (work .entry))
+    ensures { λ r. ⌜ toldResolution r ≡ toldResolution (stitchedSearch recorded (now (image .entry)) (now (visible .entry)) (now (words .entry)) (reference .0) order limits (now (work .entry))
         (now (result .entry)) .answer) ⌝ }
-    ensures { λ _. ⌜ now (work .exit) ≡ stitchedSearch recorded (now (image .entry)) (now (words .entry)) (reference .0) order limits (now (work .entry)) (now (result .entry)) .work ⌝ }
-    ensures { λ _. ⌜ now (result .exit) ≡ stitchedSearch recorded (now (image .entry)) (now (words .entry)) (reference .0) order limits (now (work .entry)) (now (result .entry)) .result ⌝ }
+    ensures { λ _. ⌜ now (work .exit) ≡ stitchedSearch recorded (now (image .entry)) (now (visible .entry)) (now (words .entry)) (reference .0) order limits (now (work .entry)) (now (result .entry)) .work ⌝ }
+    ensures { λ _. ⌜ now (result .exit) ≡ stitchedSearch recorded (now (image .entry)) (now (visible .entry)) (now (words .entry)) (reference .0) order limits (now (work .entry)) (now (result .entry)) .result ⌝ }
 {
     search_image(
         image,
+        visible,
         words,
         reference.0,
         order,

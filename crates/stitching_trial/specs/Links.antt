@@ -1,15 +1,16 @@
 -- The partial paths of each start node as rows of links, and what it means that the rows hold those of a database.
 -- Document 01, "Partial paths": "Stitching tries partial paths from the path's end by ascending number".
-use Prim.Native.Nat.{ℕ, suc, _+_, _<_, _≤_}
+use Prim.Native.Nat.{ℕ, suc, _+_, _-_, _<_, _≤_}
 use mathlib.Core.Path.{_≡_}
-use mathlib.Core.Bool.{true}
+use mathlib.Core.Bool.{Bool, true, false}
 use mathlib.Core.List.{List, [], _∷_}
 use lib.Dec.{eqb, ltb}
 use lib.ListN.{length, getD, set, drop}
-use Rattle.semantics.specs.Lists.{pick, consIf}
+use Rattle.semantics.specs.Lists.{pick, and, consIf}
 use Rattle.semantics.specs.Limits.{base, maxEdges}
 use Rattle.semantics.specs.PartialPaths.{Slot, dead, slot}
-use Rattle.semantics.specs.Database.{nodesIn, knownOwners, slotsIn, wellFormed}
+use Rattle.semantics.specs.Database.{nodesIn, filesIn, knownOwners, slotsIn, wellFormed}
+use Rattle.semantics.specs.Hidden.{sees, seesOwner, seenSlots}
 use Rattle.storage.specs.Index.{NODES}
 use Rattle.database.specs.Records.{InWords, countWord}
 pub mod Laws
@@ -60,15 +61,31 @@ pub record Linking (db : List Slot) (links : List ℕ) (i : ℕ) : Type 0 where
   pub long : length links ≡ LINKS
   pub passes : (n : ℕ) → Passes links (firstLink links n) (startingAt n i (drop i db))
 
--- those that the words hold
-abbrev pub LinkedFrom : List ℕ → List ℕ → ℕ → Type 0
-LinkedFrom words links i = Linking (slotsIn base words) links i
+-- a record with this first word is tried: it is live, and of an owner that is seen
+abbrev pub isTried : (ℕ → Bool) → ℕ → Bool
+isTried see w = and (ltb 0 w) (seesOwner see (w - 1))
+
+-- where the answer is that no file is hidden, none that the words may name is
+abbrev pub ShowsAll : Bool → List ℕ → List ℕ → Type 0
+ShowsAll hides visible words = hides ≡ false → (f : ℕ) → f < filesIn words → sees visible f ≡ true
+
+-- the slots that the words hold, those of hidden files dead
+abbrev pub seenIn : (ℕ → Bool) → List ℕ → List Slot
+seenIn see words = seenSlots see (slotsIn base words)
+
+abbrev pub LinkedFrom : (ℕ → Bool) → List ℕ → List ℕ → ℕ → Type 0
+LinkedFrom see words links i = Linking (seenIn see words) links i
 
 -- all records of such words are
-pub record Linked (words links : List ℕ) : Type 0 where
+pub record Linked (see : ℕ → Bool) (words links : List ℕ) : Type 0 where
   pub readable : Readable words
   pub long : length links ≡ LINKS
-  pub passes : (n : ℕ) → Passes links (firstLink links n) (startingAt n 0 (slotsIn base words))
+  pub passes : (n : ℕ) → Passes links (firstLink links n) (startingAt n 0 (seenIn see words))
+
+-- for some set of files
+pub record LinkedSome (words links : List ℕ) : Type 0 where
+  pub see : ℕ → Bool
+  pub linked : Linked see words links
 
 -- a live record of such words: it lies in them and has at least one edge, at most as many as a path
 pub record Tryable (words : List ℕ) (i : ℕ) : Type 0 where

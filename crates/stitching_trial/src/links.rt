@@ -2,12 +2,16 @@
 // Document 01, "Partial paths": "Stitching tries partial paths from the path's end by ascending number". The links are built once per call,
 // so that an expansion looks at no other record.
 ghost use mathlib.Core.Path.{_≡_};
-ghost use Prim.Native.Nat.{_+_, _<_};
+ghost use mathlib.Core.Bool.{true, false};
+ghost use Prim.Native.Nat.{_+_, _-_, _<_};
 ghost use lib.ListN.{length};
 ghost use Rattle.semantics.specs.Words.{zeros};
 ghost use Rattle.semantics.specs.Database.{usedIn};
-ghost use Rattle.stitching_trial.specs.Links.{LINKS, firstLink, nextLink, Readable, LinkedFrom, Linked};
+ghost use Rattle.semantics.specs.Hidden.{sees, seesOwner};
+ghost use Rattle.stitching_trial.specs.Links.{LINKS, firstLink, nextLink, isTried, Readable, ShowsAll, LinkedFrom, Linked};
 use database::layout;
+use hiding::hiding::hides_some;
+use hiding::hiding::is_visible;
 use semantics::bounds;
 use storage::blocks;
 
@@ -36,26 +40,46 @@ pub fn next(links: &[u32], i: usize) -> u32
     links[NEXT + i]
 }
 
-// A live record goes in front of those with the same start that are linked already.
-fn link_one(words: &[u32], links: &mut [u32], i: usize)
-    requires { ⌜ Readable (now words) × (i < usedIn (now words)) × LinkedFrom (now words) (now links) (i + 1) ⌝ }
-    ensures { λ _. ⌜ LinkedFrom (now (words .entry)) (now (links .exit)) i ⌝ }
+// Is a record with this first word tried? It is live, and belongs to nobody or to a visible file; where no file is hidden, its being live says it.
+fn is_tried(visible: &[u8], hides: bool, owner: u32) -> bool
+    requires { ⌜ (hides ≡ false → 0 < owner → seesOwner (sees (now visible)) (owner - 1) ≡ true) ⌝ }
+    ensures { λ r. ⌜ r ≡ isTried (sees (now (visible .entry))) owner ⌝ }
 {
-    if 0 < layout::owner(words, i) {
+    if owner < 1 {
+        return false;
+    }
+    if !hides {
+        return true;
+    }
+    if owner - 1 == bounds::NOBODY {
+        return true;
+    }
+    is_visible(visible, owner - 1)
+}
+
+// A record that is tried goes in front of those with the same start that are linked already.
+fn link_one(words: &[u32], visible: &[u8], hides: bool, links: &mut [u32], i: usize)
+    requires { ⌜ Readable (now words) × (i < usedIn (now words)) × LinkedFrom (sees (now visible)) (now words) (now links) (i + 1) ⌝ }
+    requires { ⌜ ShowsAll hides (now visible) (now words) ⌝ }
+    ensures { λ _. ⌜ LinkedFrom (sees (now (visible .entry))) (now (words .entry)) (now (links .exit)) i ⌝ }
+{
+    if is_tried(visible, hides, layout::owner(words, i)) {
         let start = layout::start(words, i) as usize;
         links[NEXT + i] = links[start];
         links[start] = i as u32 + 1;
     }
 }
 
-// All used records of a database that was checked, in links that are all zero.
-pub fn link(words: &[u32], links: &mut [u32])
+// All used records of a database that was checked, those of hidden files left out, in links that are all zero.
+// Whether a file is hidden at all is asked once, so that a desk that sees everything pays for no record.
+pub fn link(words: &[u32], visible: &[u8], links: &mut [u32])
     requires { ⌜ Readable (now words) × (now links ≡ zeros LINKS) ⌝ }
-    ensures { λ _. ⌜ Linked (now (words .entry)) (now (links .exit)) ⌝ }
+    ensures { λ _. ⌜ Linked (sees (now (visible .entry))) (now (words .entry)) (now (links .exit)) ⌝ }
 {
+    let hides = hides_some(visible, layout::number(words, layout::FILES_AT) as u32);
     let mut i = layout::number(words, layout::USED_AT);
     while 0 < i {
         i -= 1;
-        link_one(words, links, i);
+        link_one(words, visible, hides, links, i);
     }
 }

@@ -1,24 +1,28 @@
 // The check of a whole image, and the index of the graph that it holds.
 // Document 01, "Turned back": size and length as 2, then 1, 2 by the version's size, 3, the records in order, bytes left over, and last 5 in record order.
 ghost use mathlib.Core.Path.{_≡_};
-ghost use Prim.Native.Nat.{_<_};
+ghost use mathlib.Core.Bool.{true};
+ghost use Prim.Native.Nat.{_*_, _<_, _≤_};
 ghost use lib.ListN.{length};
 ghost use Rattle.storage.specs.References.{Sources};
 ghost use Rattle.semantics.specs.Entries.{graphIn, checkOf};
 ghost use Rattle.semantics.specs.declared.answer.Checked.the-variants as Checked;
 ghost use Rattle.semantics.specs.declared.refusal.ImageRefusal.the-variants as Image;
+ghost use Rattle.semantics.specs.Acceptance.{accepts};
 ghost use Rattle.semantics.specs.Answer.{ok};
 ghost use Rattle.semantics.specs.Calls.{checkCall};
 ghost use Rattle.semantics.specs.Graph.{Graph};
 ghost use Rattle.semantics.specs.Image.{symbolBytes, firstRecord, header, placeOf};
 ghost use Rattle.semantics.specs.Told.{toldChecked};
-ghost use Rattle.storage.specs.Checks.{referencesOf};
+ghost use Rattle.semantics.specs.Hidden.{sees, seen};
+ghost use Rattle.storage.specs.Checks.{referencesOf, Unlinked, shown};
 ghost use Rattle.image.specs.Filling.{Held};
-ghost use Rattle.image.specs.Records.{Headed, Room, graphRead};
-ghost use Rattle.storage.specs.Index.{INDEX, isSmall, Takes, Loaded};
+ghost use Rattle.image.specs.Records.{Headed, graphRead};
+ghost use Rattle.storage.specs.Index.{INDEX, EDGES, BLOCK, Blocks, isSmall, Takes, Loaded};
 use crate::blocks;
 use crate::links;
 use crate::refs;
+use hiding::hiding::hide;
 use image::header;
 use image::reached::Reached;
 use image::scan;
@@ -59,50 +63,29 @@ fn judge_references(image: &[u8], index: &[u32]) -> Checked
     }
 }
 
-// What the records refer to is judged; where all is well, the edges are linked.
-fn refer(image: &[u8], index: &mut [u32]) -> Checked
-    requires { ⌜ Headed (now image) ⌝ }
-    requires { ⌜ Held (graphRead (now image)) (now index) ⌝ }
-    requires { ⌜ Room (now image) (now index) ⌝ }
-    ensures { λ r. ⌜ r ≡ checkCall (referencesOf (now (image .entry))) ⌝ }
-    ensures { λ r. ⌜ ((g : Graph) → referencesOf (now (image .entry)) ≡ ok g → Loaded g (now (index .exit))) ⌝ }
-{
-    let judged = judge_references(image, index);
-    let Checked::Accepted {
-        files: _,
-        nodes: _,
-        edges,
-    } = judged
-    else {
-        return judged;
-    };
-    links::link(index, edges);
-    judged
-}
-
 // The records in order, bytes left over, what the records refer to.
 fn read(image: &[u8], index: &mut [u32]) -> Checked
     requires { ⌜ header symbolBytes (now image) ≡ ok firstRecord ⌝ }
     requires { ⌜ Takes (now image) (now index) ⌝ }
     ensures { λ r. ⌜ r ≡ checkOf (now (image .entry)) ⌝ }
-    ensures { λ r. ⌜ ((g : Graph) → graphIn (now (image .entry)) ≡ ok g → Loaded g (now (index .exit))) ⌝ }
+    ensures { λ r. ⌜ ((g : Graph) → graphIn (now (image .entry)) ≡ ok g → Unlinked g (now (index .exit))) ⌝ }
 {
     match scan::records(image, index) {
         Reached::Next(last) => {
             if last != image.len() {
                 return Checked::Refused(ImageRefusal::Length);
             }
-            refer(image, index)
+            judge_references(image, index)
         }
         Reached::Refused(r) => Checked::Refused(r),
     }
 }
 
-// The check into a fresh index: where the image is accepted, the index then holds its graph.
-pub fn load_fresh(image: &[u8], index: &mut [u32]) -> Checked
+// The check into a fresh index: where the image is accepted, its records stand there and no edge is linked yet.
+fn judge(image: &[u8], index: &mut [u32]) -> Checked
     requires { ⌜ Takes (now image) (now index) ⌝ }
     ensures { λ r. ⌜ r ≡ checkOf (now (image .entry)) ⌝ }
-    ensures { λ r. ⌜ ((g : Graph) → graphIn (now (image .entry)) ≡ ok g → Loaded g (now (index .exit))) ⌝ }
+    ensures { λ r. ⌜ ((g : Graph) → graphIn (now (image .entry)) ≡ ok g → Unlinked g (now (index .exit))) ⌝ }
 {
     match header::header(image) {
         Reached::Next(_) => read(image, index),
@@ -110,7 +93,60 @@ pub fn load_fresh(image: &[u8], index: &mut [u32]) -> Checked
     }
 }
 
-// The same into a large index with any words.
+// What hidden files hold is cleared in a filled index, unless the whole graph is wanted.
+fn hide_unless(whole: bool, index: &mut [u32], visible: &[u8], files: u32, nodes: u32, edges: u32)
+    requires { ⌜ Blocks (now index) ⌝ }
+    requires { ⌜ (nodes ≤ EDGES) × (BLOCK * nodes ≤ length (now index)) ⌝ }
+    requires { ⌜ (edges ≤ EDGES) × (BLOCK * edges ≤ length (now index)) ⌝ }
+    ensures { λ _. ⌜ ((g : Graph) → accepts g ≡ true → files ≡ g .files → nodes ≡ length (g .nodes) → edges ≡ length (g .edges) → Held g (now (index .entry))
+        → Held (shown whole (sees (now (visible .entry))) g) (now (index .exit))) ⌝ }
+{
+    if !whole {
+        hide(index, visible, files, nodes, edges);
+    }
+}
+
+// The same check, and the edges of an accepted image are linked: the index then holds its graph, or what is seen of it. One function for both, so that the
+// check has one caller and is compiled into it: apart, it costs a small search a tenth of its time.
+fn load_shown(image: &[u8], whole: bool, visible: &[u8], index: &mut [u32]) -> Checked
+    requires { ⌜ Takes (now image) (now index) ⌝ }
+    ensures { λ r. ⌜ r ≡ checkOf (now (image .entry)) ⌝ }
+    ensures { λ r. ⌜ ((g : Graph) → graphIn (now (image .entry)) ≡ ok g → Loaded (shown whole (sees (now (visible .entry))) g) (now (index .exit))) ⌝ }
+{
+    let judged = judge(image, index);
+    let Checked::Accepted {
+        files,
+        nodes,
+        edges,
+    } = judged
+    else {
+        return judged;
+    };
+    hide_unless(whole, index, visible, files, nodes, edges);
+    links::link(index, edges);
+    judged
+}
+
+// The graph of an accepted image, whole.
+pub fn load_fresh(image: &[u8], index: &mut [u32]) -> Checked
+    requires { ⌜ Takes (now image) (now index) ⌝ }
+    ensures { λ r. ⌜ r ≡ checkOf (now (image .entry)) ⌝ }
+    ensures { λ r. ⌜ ((g : Graph) → graphIn (now (image .entry)) ≡ ok g → Loaded g (now (index .exit))) ⌝ }
+{
+    let unasked: [u8; 0] = [];
+    load_shown(image, true, &unasked, index)
+}
+
+// The whole image is checked; what hidden files hold is cleared before the edges are linked, so that no search meets it.
+pub fn load_seen(image: &[u8], visible: &[u8], index: &mut [u32]) -> Checked
+    requires { ⌜ Takes (now image) (now index) ⌝ }
+    ensures { λ r. ⌜ r ≡ checkOf (now (image .entry)) ⌝ }
+    ensures { λ r. ⌜ ((g : Graph) → graphIn (now (image .entry)) ≡ ok g → Loaded (seen (sees (now (visible .entry))) g) (now (index .exit))) ⌝ }
+{
+    load_shown(image, false, visible, index)
+}
+
+// As `load_fresh`, into a large index with any words.
 pub fn load(image: &[u8], index: &mut [u32]) -> Checked
     requires { ⌜ length (now index) ≡ INDEX ⌝ }
     ensures { λ r. ⌜ r ≡ checkOf (now (image .entry)) ⌝ }

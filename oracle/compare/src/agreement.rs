@@ -2,12 +2,12 @@
 //! that set stands beside every file's, and no others, direct and stitched recorded
 //! sets agree with no condition on edges" (document 02, order 5); where it is lacking,
 //! stitching records the lists without an edge whose ends both lack a file (document
-//! 01, demand 3).
+//! 01, demand 3). Both are of the visible files alone (order 8), and take the same set.
 
 use crate::budget::{Asked, SLOT, Slots};
 use crate::case::{Call, Case, Outcome};
-use crate::check::check;
 use crate::database::{PartialPath, partial_paths};
+use crate::desks;
 use crate::graph::Graph;
 use crate::ours;
 use crate::partials::{Owner, compute};
@@ -44,8 +44,8 @@ pub fn found(case: &Case, second: &Outcome, ours: &Outcome) -> Option<Agreement>
     if case.call != Call::StitchedRecorded || count_limited + complete_limited > 0 {
         return None;
     }
-    let graph = check(&case.image).ok()?;
-    let with_aliases = holds_all(&graph, &case.words)?;
+    let graph = desks::seen_by(case).ok()?;
+    let with_aliases = holds_all(&graph, case)?;
     let directly = recorded_directly(case, &graph)?;
     let (over, beside): (Lists, Lists) = directly
         .into_iter()
@@ -81,13 +81,15 @@ fn lists(result: &[u32]) -> (Lists, usize) {
     (lists.into_iter().collect(), count)
 }
 
-/// Whether the words hold every file's partial paths, and those that belong to none or
-/// not; None where they hold other slots, or too few.
-fn holds_all(graph: &Graph, words: &[u32]) -> Option<bool> {
+/// Whether the words hold every visible file's partial paths, and those that belong to
+/// none or not; None where they hold other visible slots, or too few. A hidden file has
+/// no partial paths in the graph that is seen.
+fn holds_all(graph: &Graph, case: &Case) -> Option<bool> {
     if graph.files > MOST_FILES {
         return None;
     }
-    let held: BTreeSet<PartialPath> = partial_paths(words).into_iter().flatten().collect();
+    let slots = desks::seen_paths(partial_paths(&case.words), &case.visible);
+    let held: BTreeSet<PartialPath> = slots.into_iter().flatten().collect();
     let mut wanted = BTreeSet::new();
     for file in 0..graph.files as u32 {
         wanted.extend(computed(graph, Owner::File(file))?);
@@ -119,6 +121,7 @@ fn recorded_directly(case: &Case, graph: &Graph) -> Option<Lists> {
         .budget;
     let mut search = Case::new(Call::DirectRecorded, &case.image);
     search.number = case.number;
+    search.visible = case.visible.clone();
     search.asked = vec![
         0,
         u64::from(asked.length.is_some()),

@@ -1,6 +1,7 @@
 //! One call with everything that it is given, and what it leaves behind.
 
 use crate::budget::Asked;
+use crate::graph::MOST_FILES;
 use crate::replayed::Replayed;
 
 #[derive(Clone, Copy, PartialEq, Eq, PartialOrd, Ord, Debug)]
@@ -35,6 +36,19 @@ impl Call {
         matches!(self, Self::ReplaceFile | Self::ReplaceAliases)
     }
 
+    pub fn is_stitched(self) -> bool {
+        matches!(self, Self::Stitched | Self::StitchedRecorded)
+    }
+
+    /// "Each search takes a set of visible files", finding a name too.
+    pub fn takes_set(self) -> bool {
+        let is_other = matches!(
+            self,
+            Self::Direct | Self::DirectRecorded | Self::Linear | Self::LinearRecorded
+        );
+        is_other || self.is_stitched() || self == Self::FindName
+    }
+
     pub fn is_recorded(self) -> bool {
         matches!(
             self,
@@ -48,6 +62,8 @@ impl Call {
 pub struct Case {
     pub call: Call,
     pub image: Vec<u8>,
+    /// The set of visible files; every file, where no other is drawn.
+    pub visible: Vec<u8>,
     /// The reference, the node to be named, the file or the partial path; of the
     /// left path in `shadows`.
     pub number: u32,
@@ -76,6 +92,7 @@ impl Case {
         Self {
             call,
             image: image.to_vec(),
+            visible: vec![1; MOST_FILES],
             number: 0,
             edges: vec![],
             right_number: 0,

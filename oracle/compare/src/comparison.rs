@@ -2,7 +2,7 @@
 
 use crate::agreement::Agreement;
 use crate::case::{Call, Case, Outcome};
-use crate::{agreement, compaction, given, ours, second, turned};
+use crate::{agreement, compaction, given, neighbours, ours, second, turned};
 use std::panic::{AssertUnwindSafe, catch_unwind, set_hook, take_hook};
 
 /// What the three left behind; the given library only where it has the answer.
@@ -24,6 +24,8 @@ pub struct Compared {
     pub agreement: Option<Agreement>,
     /// Whether a stitched search answers as before when its database is compacted first.
     pub is_kept: Option<bool>,
+    /// Whether a search leaves the same where everything that it hides is another.
+    pub is_apart: Option<bool>,
 }
 
 impl Compared {
@@ -37,7 +39,7 @@ impl Compared {
             .as_ref()
             .is_some_and(|turned| *turned != self.ours);
         let disagrees = self.agreement.is_some_and(|found| !found.holds);
-        let is_lost = self.is_kept == Some(false);
+        let is_lost = self.is_kept == Some(false) || self.is_apart == Some(false);
         let is_other = self.ours != self.second || from_given || from_turned;
         is_other || !self.is_undone || disagrees || is_lost
     }
@@ -63,6 +65,7 @@ pub fn compare(case: &Case) -> Option<Compared> {
         is_undone: !case.call.is_rewriting() || turned::is_undone(case, &whole, &ours),
         agreement: agreement::found(case, &whole, &ours),
         is_kept: compaction::is_kept(case, &ours),
+        is_apart: neighbours::is_apart(case, &ours),
         ours,
         second: whole.cut(case),
         given,

@@ -28,6 +28,15 @@ pub fn aliased(random: &mut Random) -> Graph {
     graph
 }
 
+/// One whose files meet at root, likewise.
+pub fn crossing(random: &mut Random) -> Graph {
+    let mut graph = shapes::crossing(random);
+    if random.percent(50) {
+        widen(random, &mut graph);
+    }
+    graph
+}
+
 /// Symbols of 64 bits: those of a row differ in the high half alone, in the low half
 /// alone, about the bounds of both widths, and all of them fit 32 bits.
 const WIDE_SYMBOLS: [[u64; 4]; 4] = [
@@ -56,7 +65,7 @@ fn narrow(random: &mut Random) -> Graph {
     if random.below(1_500) == 0 {
         return shapes::largest(random);
     }
-    match random.weighted(&[64, 17, 5, 6, 6, 1, 6, 6]) {
+    match random.weighted(&[64, 17, 5, 6, 6, 1, 6, 6, 8]) {
         0 => mixed(random),
         1 => shapes::chain(random),
         2 => shapes::tower(random),
@@ -64,7 +73,8 @@ fn narrow(random: &mut Random) -> Graph {
         4 => shapes::fan(random),
         5 => shapes::fileless(random),
         6 => shapes::aliased(random),
-        _ => shapes::namesakes(random),
+        7 => shapes::namesakes(random),
+        _ => shapes::crossing(random),
     }
 }
 

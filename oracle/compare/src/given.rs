@@ -4,7 +4,8 @@
 
 use crate::case::{Call, Case, Outcome};
 use crate::check::Refusal;
-use crate::database::{self, FILES, NODES};
+use crate::database::{self, FILES, NODES, PartialPath};
+use crate::desks::{shows, shows_owner};
 use crate::graph::{JUMP, MOST_FILES, MOST_NODES};
 use crate::load::{Graph, Symbol, load};
 use crate::replayed::{Passage, Replayed};
@@ -161,6 +162,7 @@ fn config(case: &Case) -> StackSearchConfig {
 /// The recorded paths are those of the graph with every precedence 0, where
 /// nothing is shadowed.
 fn searched(case: &Case, mut graph: Graph) -> Result<Outcome, Refusal> {
+    clear_hidden(case, &mut graph);
     if case.call.is_recorded() {
         for edge in graph.edge_ids().collect::<Vec<_>>() {
             graph.set_edge_precedence(edge, 0);
@@ -173,7 +175,7 @@ fn searched(case: &Case, mut graph: Graph) -> Result<Outcome, Refusal> {
                 .map_err(linear_refusal)?
         }
         Call::Stitched | Call::StitchedRecorded => {
-            let database = built(&case.words);
+            let database = built_of(&case.words, |path| shows_owner(&case.visible, path.owner));
             StackResolution::try_compute_from_partials(&graph, &database, reference, config(case))
                 .map_err(path_refusal)?
         }
@@ -210,8 +212,23 @@ fn edges_of(path: &StackPath<Symbol>) -> Vec<u32> {
     edges.collect()
 }
 
+/// "The oracle is given the graph with hidden files cleared and the database without
+/// their partial paths": cleared by the library's own call.
+fn clear_hidden(case: &Case, graph: &mut Graph) {
+    let files = 0..graph.file_count() as u32;
+    for file in files.filter(|&file| !shows(&case.visible, file)) {
+        let cleared = graph.clear_file(StackFileId::from_raw(file));
+        cleared.expect("the graph has the file");
+    }
+}
+
 /// The library's own database with the slots that the words hold.
 fn built(words: &[u32]) -> StackPartialPathDatabase {
+    built_of(words, |_| true)
+}
+
+/// The same without those of which something does not hold; later ones move up.
+fn built_of(words: &[u32], holds: impl Fn(&PartialPath) -> bool) -> StackPartialPathDatabase {
     let (nodes, files) = (words[NODES] as usize, words[FILES] as usize);
     let mut database = StackPartialPathDatabase::door_new(nodes, files);
     for slot in database::partial_paths(words) {
@@ -219,6 +236,9 @@ fn built(words: &[u32]) -> StackPartialPathDatabase {
             database.door_push_dead();
             continue;
         };
+        if !holds(&path) {
+            continue;
+        }
         database.door_push(
             StackFileId::from_raw(path.owner - 1),
             StackNodeId::from_raw(path.start),

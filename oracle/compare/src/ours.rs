@@ -14,19 +14,19 @@ unsafe extern "C" {
         left: u32, left_edges: *const u32, left_edges_len: usize,
         right: u32, right_edges: *const u32, right_edges_len: usize,
         answer: *mut u64, answer_len: usize);
-    fn pozhdaghi_direct(image: *const u8, image_len: usize, reference: u32,
+    fn pozhdaghi_direct(image: *const u8, image_len: usize, visible: *const u8, visible_len: usize, reference: u32,
         asked: *const u64, asked_len: usize, work: *mut u32, work_len: usize,
         result: *mut u32, result_len: usize, answer: *mut u64, answer_len: usize);
-    fn pozhdaghi_direct_recorded(image: *const u8, image_len: usize, reference: u32,
+    fn pozhdaghi_direct_recorded(image: *const u8, image_len: usize, visible: *const u8, visible_len: usize, reference: u32,
         asked: *const u64, asked_len: usize, work: *mut u32, work_len: usize,
         result: *mut u32, result_len: usize, answer: *mut u64, answer_len: usize);
-    fn pozhdaghi_find_name(image: *const u8, image_len: usize, node: u32,
+    fn pozhdaghi_find_name(image: *const u8, image_len: usize, visible: *const u8, visible_len: usize, node: u32,
         asked: *const u64, asked_len: usize, work: *mut u32, work_len: usize,
         result: *mut u32, result_len: usize, answer: *mut u64, answer_len: usize);
-    fn pozhdaghi_linear(image: *const u8, image_len: usize, reference: u32,
+    fn pozhdaghi_linear(image: *const u8, image_len: usize, visible: *const u8, visible_len: usize, reference: u32,
         asked: *const u64, asked_len: usize,
         result: *mut u32, result_len: usize, answer: *mut u64, answer_len: usize);
-    fn pozhdaghi_linear_recorded(image: *const u8, image_len: usize, reference: u32,
+    fn pozhdaghi_linear_recorded(image: *const u8, image_len: usize, visible: *const u8, visible_len: usize, reference: u32,
         asked: *const u64, asked_len: usize,
         result: *mut u32, result_len: usize, answer: *mut u64, answer_len: usize);
     fn pozhdaghi_fresh(image: *const u8, image_len: usize, words: *mut u32, words_len: usize,
@@ -43,10 +43,10 @@ unsafe extern "C" {
         answer: *mut u64, answer_len: usize);
     fn pozhdaghi_lookup(words: *const u32, words_len: usize, number: u32,
         answer: *mut u64, answer_len: usize);
-    fn pozhdaghi_stitched(image: *const u8, image_len: usize, words: *const u32, words_len: usize,
+    fn pozhdaghi_stitched(image: *const u8, image_len: usize, visible: *const u8, visible_len: usize, words: *const u32, words_len: usize,
         reference: u32, asked: *const u64, asked_len: usize, work: *mut u32, work_len: usize,
         result: *mut u32, result_len: usize, answer: *mut u64, answer_len: usize);
-    fn pozhdaghi_stitched_recorded(image: *const u8, image_len: usize,
+    fn pozhdaghi_stitched_recorded(image: *const u8, image_len: usize, visible: *const u8, visible_len: usize,
         words: *const u32, words_len: usize,
         reference: u32, asked: *const u64, asked_len: usize, work: *mut u32, work_len: usize,
         result: *mut u32, result_len: usize, answer: *mut u64, answer_len: usize);
@@ -76,8 +76,9 @@ pub fn run(case: &Case) -> Outcome {
 /// until the call has ended, and those that are written are lent nowhere else.
 #[rustfmt::skip]
 fn call(c: &Case, o: &mut Outcome) {
-    let (image, asked, answer) = (c.image.as_ptr(), c.asked.as_ptr(), o.answer.as_mut_ptr());
-    let (n, asked_n, answer_n) = (c.image.len(), c.asked.len(), o.answer.len());
+    let (image, seen, asked) = (c.image.as_ptr(), c.visible.as_ptr(), c.asked.as_ptr());
+    let (n, seen_n, asked_n) = (c.image.len(), c.visible.len(), c.asked.len());
+    let (answer, answer_n) = (o.answer.as_mut_ptr(), o.answer.len());
     let (words, work, result) = (o.words.as_mut_ptr(), o.work.as_mut_ptr(), o.result.as_mut_ptr());
     let (words_n, work_n, result_n) = (o.words.len(), o.work.len(), o.result.len());
     unsafe {
@@ -89,15 +90,15 @@ fn call(c: &Case, o: &mut Outcome) {
                 c.edges.as_ptr(), c.edges.len(), answer, answer_n),
             Call::Shadows => pozhdaghi_shadows(image, n, c.number, c.edges.as_ptr(), c.edges.len(),
                 c.right_number, c.right_edges.as_ptr(), c.right_edges.len(), answer, answer_n),
-            Call::Direct => pozhdaghi_direct(image, n, c.number, asked, asked_n,
+            Call::Direct => pozhdaghi_direct(image, n, seen, seen_n, c.number, asked, asked_n,
                 work, work_n, result, result_n, answer, answer_n),
-            Call::DirectRecorded => pozhdaghi_direct_recorded(image, n, c.number, asked, asked_n,
+            Call::DirectRecorded => pozhdaghi_direct_recorded(image, n, seen, seen_n, c.number, asked, asked_n,
                 work, work_n, result, result_n, answer, answer_n),
-            Call::FindName => pozhdaghi_find_name(image, n, c.number, asked, asked_n,
+            Call::FindName => pozhdaghi_find_name(image, n, seen, seen_n, c.number, asked, asked_n,
                 work, work_n, result, result_n, answer, answer_n),
-            Call::Linear => pozhdaghi_linear(image, n, c.number, asked, asked_n,
+            Call::Linear => pozhdaghi_linear(image, n, seen, seen_n, c.number, asked, asked_n,
                 result, result_n, answer, answer_n),
-            Call::LinearRecorded => pozhdaghi_linear_recorded(image, n, c.number, asked, asked_n,
+            Call::LinearRecorded => pozhdaghi_linear_recorded(image, n, seen, seen_n, c.number, asked, asked_n,
                 result, result_n, answer, answer_n),
             Call::Fresh => pozhdaghi_fresh(image, n, words, words_n, answer, answer_n),
             Call::ReplaceFile => pozhdaghi_replace_file(image, n, c.number, asked, asked_n,
@@ -107,9 +108,9 @@ fn call(c: &Case, o: &mut Outcome) {
             Call::Convert => pozhdaghi_convert(words, words_n, result, result_n, answer, answer_n),
             Call::Compact => pozhdaghi_compact(words, words_n, result, result_n, answer, answer_n),
             Call::Lookup => pozhdaghi_lookup(words, words_n, c.number, answer, answer_n),
-            Call::Stitched => pozhdaghi_stitched(image, n, words, words_n, c.number,
+            Call::Stitched => pozhdaghi_stitched(image, n, seen, seen_n, words, words_n, c.number,
                 asked, asked_n, work, work_n, result, result_n, answer, answer_n),
-            Call::StitchedRecorded => pozhdaghi_stitched_recorded(image, n, words, words_n,
+            Call::StitchedRecorded => pozhdaghi_stitched_recorded(image, n, seen, seen_n, words, words_n,
                 c.number, asked, asked_n, work, work_n, result, result_n, answer, answer_n),
             Call::Widen => pozhdaghi_widen(image, n, o.area.as_mut_ptr(), o.area.len(), answer, answer_n),
             Call::Narrow => pozhdaghi_narrow(image, n, o.area.as_mut_ptr(), o.area.len(), answer, answer_n),

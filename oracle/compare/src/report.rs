@@ -5,7 +5,8 @@ use crate::case::{Call, Case, Outcome};
 use crate::check::check;
 use crate::comparison::{Compared, compare};
 use crate::database::{has_aliases, lookup, partial_paths};
-use crate::graph::Version;
+use crate::desks;
+use crate::graph::{Graph, Version};
 use crate::names::{Named, find_name};
 use crate::path::replay;
 use crate::replayed::Passage;
@@ -42,6 +43,12 @@ pub struct Counts {
     /// searches put to the compacted words as well.
     compacted: [u64; 2],
     kept: u64,
+    /// Searches that hide a file, those of them that the given Rust answered too, and
+    /// searches put to another graph with the same visible records.
+    hiding: [u64; 2],
+    apart: u64,
+    /// Direct searches that pass over an edge which the path rules would reject.
+    spared: u64,
     /// Replayed paths: all, and those with jumps, symbols, attached scopes, scopes.
     replayed: [u64; 5],
 }
@@ -70,6 +77,12 @@ impl Counts {
         let is_empty_part = case.call == Call::Lookup && lookup(&case.words, case.number).1 == 0;
         self.empty_parts += u64::from(is_empty_part);
         self.kept += u64::from(compared.is_kept.is_some());
+        let hides = |graph: Graph| desks::hides_some(&case.visible, &graph);
+        let is_hiding = case.call.takes_set() && check(&case.image).is_ok_and(hides);
+        self.hiding[0] += u64::from(is_hiding);
+        self.hiding[1] += u64::from(is_hiding && compared.given.is_some());
+        self.apart += u64::from(compared.is_apart.is_some());
+        self.spared += u64::from(compared.number == 0 && desks::spares_rejections(case));
         self.add_what_was_made(case, compared);
     }
 
@@ -116,7 +129,7 @@ impl Counts {
     }
 
     fn add_name(&mut self, case: &Case) {
-        let (graph, asked) = (check(&case.image), case.meaning());
+        let (graph, asked) = (desks::seen_by(case), case.meaning());
         let graph = graph.expect("it was searched");
         let Ok(Named {
             name: Some((reference, path)),
@@ -174,6 +187,7 @@ impl Counts {
         }
         self.print_made();
         self.print_agreements();
+        self.print_desks();
         let [length, count, complete] = self.flags;
         println!("flags: length {length}, path count {count}, complete paths {complete}");
         println!(
@@ -209,6 +223,16 @@ impl Counts {
         );
     }
 
+    fn print_desks(&self) {
+        let [hiding, given] = self.hiding;
+        println!(
+            "searches that hide a file {hiding}, of these also put to the given Rust {given}; \
+             searches also put to a graph with other hidden records {}; direct searches that \
+             pass over an edge which the path rules would reject {}",
+            self.apart, self.spared
+        );
+    }
+
     fn print_agreements(&self) {
         let [[without, missed], [with, over]] = self.agreements;
         println!(
@@ -236,6 +260,9 @@ pub fn show(case: &Case) {
         for (number, edge) in graph.edges.iter().enumerate() {
             println!("  edge {number} {edge:?}");
         }
+    }
+    if case.call.takes_set() {
+        println!("visible {}", hex(&case.visible));
     }
     println!("number {}, edges {:?}", case.number, case.edges);
     if case.call == Call::Shadows {
@@ -271,6 +298,9 @@ fn show_answers(case: &Case) {
     }
     if compared.agreement.is_some_and(|found| !found.holds) {
         println!("direct and stitched search record other sets");
+    }
+    if compared.is_apart == Some(false) {
+        println!("another answer where what it hides is another");
     }
     if compared.is_kept == Some(false) {
         println!("another answer on the compacted words");

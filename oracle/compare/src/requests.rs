@@ -4,6 +4,7 @@
 use crate::budget::{Asked, Budget, SLOT, Slots};
 use crate::case::{Call, Case, LONGEST_ANSWER};
 use crate::check::check;
+use crate::desks;
 use crate::graph::{Graph, Node};
 use crate::names::find_name;
 use crate::partials::{Owner, compute};
@@ -72,6 +73,7 @@ pub fn number_about(random: &mut Random, bound: usize) -> u32 {
 /// Draws order, limits, areas and the length of the answer of a search or a
 /// replacement whose other parts are there. False if it has no end within reason.
 pub fn complete(random: &mut Random, case: &mut Case) -> bool {
+    draw_set(random, case);
     let mut asked = Asked {
         depth_first: random.percent(50),
         length: None,
@@ -103,6 +105,7 @@ pub fn complete(random: &mut Random, case: &mut Case) -> bool {
 /// A search or a replacement without limits, in either order, with as many slots as it
 /// needs. False if it has no end within reason.
 pub fn ask_all(random: &mut Random, case: &mut Case) -> bool {
+    draw_set(random, case);
     case.asked = numbers(Asked {
         depth_first: random.percent(50),
         length: None,
@@ -115,6 +118,13 @@ pub fn ask_all(random: &mut Random, case: &mut Case) -> bool {
         case.result = area(random, needs.kept);
     }
     !needs.is_endless
+}
+
+/// The visible files of a search.
+fn draw_set(random: &mut Random, case: &mut Case) {
+    if case.call.takes_set() {
+        case.visible = desks::draw(random, case);
+    }
 }
 
 /// Mostly whole; the library writes as many numbers as are asked for.
@@ -211,8 +221,8 @@ fn needs(case: &Case) -> Needs {
 /// needs nothing.
 fn needs_of_name(case: &Case) -> Needs {
     let length = case.meaning().length;
-    let named =
-        check(&case.image).and_then(|graph| find_name(&graph, case.number, length, Slots::ENDLESS));
+    let named = desks::seen_by(case)
+        .and_then(|graph| find_name(&graph, case.number, length, Slots::ENDLESS));
     let searched = match named {
         Ok(named) => named.searched,
         Err(refusal) => {

@@ -29,11 +29,12 @@ const FULL: u64 = 33;
 const STITCHED: [Call; 2] = [Call::Stitched, Call::StitchedRecorded];
 
 pub fn scene(random: &mut Random) -> Vec<Case> {
-    let kind = random.weighted(&[30, 30, 25, 15, 12, 15, 8, 10]);
-    let graph = if kind == 5 && random.percent(80) {
-        draw::aliased(random)
-    } else {
-        draw::graph(random)
+    let kind = random.weighted(&[30, 30, 25, 15, 12, 15, 8, 10, 15]);
+    let is_shaped = random.percent(80);
+    let graph = match kind {
+        5 if is_shaped => draw::aliased(random),
+        8 if is_shaped => draw::crossing(random),
+        _ => draw::graph(random),
     };
     let mut cases = match kind {
         0 => searches(random, &graph),
@@ -43,7 +44,8 @@ pub fn scene(random: &mut Random) -> Vec<Case> {
         4 => rewritings(random, &graph),
         5 => aliases(random, &graph),
         6 => conversions(random, &graph),
-        _ => compactions(random, &graph),
+        7 => compactions(random, &graph),
+        _ => desks(random, &graph),
     };
     cases.push(Case::new(Call::Check, &graph.image()));
     cases
@@ -61,6 +63,20 @@ fn searches(random: &mut Random, graph: &Graph) -> Vec<Case> {
         cases.extend(name(random, graph, &image));
         cases.push(judgement(random, graph, &image));
         cases.push(replay(random, graph, &image));
+    }
+    cases
+}
+
+/// The same search under one set and another, mostly where files meet at root.
+fn desks(random: &mut Random, graph: &Graph) -> Vec<Case> {
+    let image = graph.image();
+    let mut cases = Vec::new();
+    for _ in 0..8 {
+        let call = *random.one_of(&SEARCHES);
+        cases.extend(search(random, graph, &image, call, &[]));
+    }
+    for _ in 0..2 {
+        cases.extend(name(random, graph, &image));
     }
     cases
 }

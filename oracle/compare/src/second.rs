@@ -6,6 +6,7 @@ use crate::check::{Refusal, check};
 use crate::compaction::{PAIR, compact};
 use crate::conversion::convert;
 use crate::database::{check_database, fresh, lookup, partial_paths, replace};
+use crate::desks;
 use crate::graph::Version;
 use crate::names::find_name;
 use crate::partials::Owner;
@@ -73,19 +74,15 @@ fn shadows(case: &Case) -> Result<Outcome, Refusal> {
 
 /// What a search finds in areas of so many slots.
 pub fn found(case: &Case, slots: Slots) -> Result<Found, Refusal> {
-    let graph = check(&case.image)?;
+    let graph = desks::seen_by(case)?;
     let asked = case.meaning();
     match case.call {
         Call::Linear | Call::LinearRecorded => linear(&graph, case.number, asked, slots.results),
         Call::Stitched | Call::StitchedRecorded => {
+            // every slot, those of hidden files too
             check_database(&graph, &case.words)?;
-            stitched(
-                &graph,
-                &partial_paths(&case.words),
-                case.number,
-                asked,
-                slots,
-            )
+            let paths = desks::seen_paths(partial_paths(&case.words), &case.visible);
+            stitched(&graph, &paths, case.number, asked, slots)
         }
         _ => direct(&graph, case.number, asked, slots),
     }
@@ -114,7 +111,7 @@ fn searched(case: &Case) -> Result<Outcome, Refusal> {
 
 /// "The path is put in the first result slot, all else zero."
 fn named(case: &Case) -> Result<Outcome, Refusal> {
-    let graph = check(&case.image)?;
+    let graph = desks::seen_by(case)?;
     let named = find_name(&graph, case.number, case.meaning().length, lent(case))?;
     let Some((reference, path)) = named.name else {
         return Ok(Outcome::new(case, vec![0, 0]));

@@ -348,6 +348,47 @@ fn beside_root(random: &mut Random, graph: &mut Graph, files: usize) {
     }
 }
 
+/// Names and what they may meet behind root, in several files (document 02, order 8): a
+/// search that comes to root passes over all that hidden files have there, be it something
+/// that the path rules take or something that they reject.
+pub fn crossing(random: &mut Random) -> Graph {
+    let files = random.within(2, 4);
+    let mut graph = start(files);
+    for file in 0..files as u32 {
+        add_crossing_file(random, &mut graph, file);
+    }
+    shuffle(random, &mut graph.edges);
+    graph
+}
+
+/// File 0 has a name, others may have one.
+fn add_crossing_file(random: &mut Random, graph: &mut Graph, file: u32) {
+    if file == 0 || random.percent(40) {
+        let name = add(graph, push(file, true));
+        join(graph, name, ROOT, precedence(random));
+    }
+    for _ in 0..random.within(1, 3) {
+        behind_root(random, graph, file);
+    }
+}
+
+/// A node that root leads to; few lead back, as each way back multiplies the paths.
+fn behind_root(random: &mut Random, graph: &mut Graph, file: u32) {
+    let symbol = *random.one_of(&[SYMBOL, SCOPED]);
+    let flag = random.percent(80);
+    let node = match random.below(6) {
+        0 => scope(file, true),
+        1 => Node::PopScoped { file, symbol, flag },
+        2 => Node::DropScopes { file },
+        _ => Node::Pop { file, symbol, flag },
+    };
+    let number = add(graph, node);
+    join(graph, ROOT, number, precedence(random));
+    if random.percent(20) {
+        join(graph, number, ROOT, precedence(random));
+    }
+}
+
 /// In any order: the set's edges have any numbers.
 fn shuffle<T>(random: &mut Random, items: &mut [T]) {
     for last in (1..items.len()).rev() {

@@ -290,7 +290,7 @@ fn shorter_areas(case: &Case) -> Cases<'_> {
     Box::new(works.chain(results).chain(areas).chain(zero))
 }
 
-/// Fewer limits and lower ones, shorter edge lists, a whole answer.
+/// Fewer limits and lower ones, shorter edge lists, fewer visible files, a whole answer.
 fn simpler(case: &Case) -> Cases<'_> {
     let whole = Case {
         answer_length: crate::case::LONGEST_ANSWER,
@@ -317,5 +317,13 @@ fn simpler(case: &Case) -> Cases<'_> {
         less.right_edges.remove(at);
         less
     });
-    Box::new(std::iter::once(whole).chain(asked).chain(left).chain(right))
+    let sets = (0..case.visible.len()).rev().flat_map(move |at| {
+        let mut shorter = case.clone();
+        shorter.visible.truncate(at);
+        let mut less = case.clone();
+        less.visible[at] = 0;
+        [shorter, less]
+    });
+    let parts = asked.chain(left).chain(right).chain(sets);
+    Box::new(std::iter::once(whole).chain(parts))
 }

@@ -8,7 +8,7 @@ mod common;
 mod told;
 
 use common::{area, blank, database, is_zero, slots, Slot};
-use pozhdaghi::{Limits, Order, Refusal, Request, Resolution};
+use pozhdaghi::{Limits, Order, Refusal, Request, Resolution, Visible};
 
 /// Slots of every area, more than any line of the list needs.
 const ROOM: usize = 128;
@@ -133,16 +133,18 @@ fn searched(
     result: &mut [u32],
 ) -> Result<Resolution, Refusal> {
     match letter {
-        "D" => pozhdaghi::direct(image, node, request, work, result),
-        "d" => pozhdaghi::direct_recorded(image, node, request, work, result),
-        "S" => pozhdaghi::stitched(image, words, node, request, work, result),
-        "s" => pozhdaghi::stitched_recorded(image, words, node, request, work, result),
+        "D" => pozhdaghi::direct(image, Visible::All, node, request, work, result),
+        "d" => pozhdaghi::direct_recorded(image, Visible::All, node, request, work, result),
+        "S" => pozhdaghi::stitched(image, Visible::All, words, node, request, work, result),
+        "s" => {
+            pozhdaghi::stitched_recorded(image, Visible::All, words, node, request, work, result)
+        }
         _ => {
             // No work area is lent.
             work.fill(0);
             match letter {
-                "L" => pozhdaghi::linear(image, node, request, result),
-                "l" => pozhdaghi::linear_recorded(image, node, request, result),
+                "L" => pozhdaghi::linear(image, Visible::All, node, request, result),
+                "l" => pozhdaghi::linear_recorded(image, Visible::All, node, request, result),
                 _ => panic!("no search: {letter}"),
             }
         }

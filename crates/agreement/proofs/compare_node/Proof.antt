@@ -10,14 +10,8 @@ node-requires c κs = search needs
 is-reference-requires : tie.Need-is-reference-requires
 is-reference-requires c κs = search needs
 
-unlimited-requires : tie.Need-unlimited-requires
-unlimited-requires c κs = search needs
-
-unlimited-requires-2 : tie.Need-unlimited-requires-2
-unlimited-requires-2 c κs = search needs
-
-record-both-requires : tie.Need-record-both-requires
-record-both-requires c κs = search needs
+record-seen-requires : tie.Need-record-seen-requires
+record-seen-requires c κs = search needs
 
 slice-aggregate-tell : tie.Need-slice-aggregate-tell
 slice-aggregate-tell c = search needs
@@ -25,9 +19,9 @@ slice-aggregate-tell c = search needs
 tell-requires : tie.Need-tell-requires
 tell-requires c κs =
     let c₁ = c .before .before .before .before .before .before .before .before .before .before in
-    let record-both = c₁ .record-both in
-    let p = c₁ .before .before .before .before .before .before .before .before .before .before .before .before .before .before .before .before .before .pre in
-    record-both .kept .1 .1 .1 .1 .1 .1 .0 ∙ p .1
+    let record-seen = c₁ .record-seen in
+    let p = c₁ .before .before .before .before .before .before .before .before .before .before .before .before .before .before .before .pre in
+    record-seen .kept .1 .1 .1 .1 .0 ∙ p .1
 
 slice-aggregate-tell-2 : tie.Need-slice-aggregate-tell-2
 slice-aggregate-tell-2 c = search needs
@@ -35,9 +29,9 @@ slice-aggregate-tell-2 c = search needs
 tell-requires-2 : tie.Need-tell-requires-2
 tell-requires-2 c κs =
     let c₁ = c .before .before .before .before .before .before .before .before .before .before .before .before .before in
-    let record-both = c₁ .record-both in
-    let p = c₁ .before .before .before .before .before .before .before .before .before .before .before .before .before .before .before .before .before .pre in
-    record-both .kept .1 .1 .1 .1 .1 .1 .1 .1 .0 ∙ p .2
+    let record-seen = c₁ .record-seen in
+    let p = c₁ .before .before .before .before .before .before .before .before .before .before .before .before .before .before .before .pre in
+    record-seen .kept .1 .1 .1 .1 .1 .1 .0 ∙ p .2
 
 same-length : tie.Need-same-length
 same-length c = search needs
@@ -63,9 +57,7 @@ compare-node-spec =
     (tie.spec
     node-requires
     is-reference-requires
-    unlimited-requires
-    unlimited-requires-2
-    record-both-requires
+    record-seen-requires
     slice-aggregate-tell
     tell-requires
     slice-aggregate-tell-2

@@ -3,7 +3,7 @@
 use Prim.Native.Nat.{ℕ, _+_, _*_, _≤_}
 use native.Mathlib.Omega.{arith}
 use mathlib.Core.Path.{_≡_, refl, sym, ap, _∙_}
-use mathlib.Core.Bool.{true, false}
+use mathlib.Core.Bool.{Bool, true, false}
 use mathlib.Core.List.{List, [], _∷_}
 use lib.ListN.{length, length-append, length-replicate}
 use Rattle.semantics.specs.ReplayedPaths.{stepAt, readPath}
@@ -18,7 +18,10 @@ use Rattle.semantics.specs.Limits.{base, maxEdges, stepLength, stepsLength}
 use Rattle.semantics.specs.Answer.{Answer, ok, refuse}
 use Rattle.semantics.specs.Answer.Laws.{ok-inj, andThen-ok}
 use Rattle.semantics.specs.Graph.{Graph, View, viewOf, isReference}
+use Rattle.semantics.specs.Acceptance.{accepts}
 use Rattle.semantics.specs.Acceptance.Laws.{jump-only, jump-there}
+use Rattle.semantics.specs.Hidden.{seen}
+use Rattle.semantics.specs.Hidden.Laws.{seen-accepted}
 use Rattle.semantics.specs.Image.{checkImage}
 use Rattle.semantics.specs.Image.Laws.{image-accepted}
 use Rattle.semantics.specs.Path as Model
@@ -38,9 +41,16 @@ use Rattle.path.specs.Values.Laws.{reads, reads-empty}
 use Rattle.path.specs.Replays.{valueOf, replayValue, Answers, judgedAs}
 use Rattle.path.specs.Replays.Laws.{nodes-are, edges-are, value-loaded}
 
+jump-at : (g : Graph) → accepts g ≡ true → JumpAt (viewOf g)
+jump-at g a = record { there = jump-there g a; only = jump-only g a }
+
 -- an accepted graph has its jump at node 1
 pub accepted-jump : (widths : ℕ → ℕ) (im : List ℕ) (g : Graph) → checkImage widths im ≡ ok g → JumpAt (viewOf g)
-accepted-jump widths im g h = let a = image-accepted widths im g h in record { there = jump-there g a; only = jump-only g a }
+accepted-jump widths im g h = jump-at g (image-accepted widths im g h)
+
+-- and so has what a desk sees of it
+pub seen-jump : (see : ℕ → Bool) (widths : ℕ → ℕ) (im : List ℕ) (g : Graph) → checkImage widths im ≡ ok g → JumpAt (viewOf (seen see g))
+seen-jump see widths im g h = jump-at (seen see g) (seen-accepted see g (image-accepted widths im g h))
 
 -- REPLAY: what is told, what is read, and the value whole
 abbrev Given : Answer ImageRefusal Graph → ℕ → List ℕ → R.ReplayOutcome → Type 0

@@ -25,6 +25,8 @@ use Rattle.semantics.specs.Graph.{Graph, viewOf}
 use Rattle.semantics.specs.Enumeration.{State}
 use Rattle.semantics.specs.PartialPaths.{Route, Slot, filePartials, aliasRoutes}
 use Rattle.semantics.specs.PartialPaths.Laws.{same-holds}
+use Rattle.semantics.specs.Hidden.{sees, seen, seenSlots}
+use Rattle.semantics.specs.Hidden.Laws.{seen-live}
 use Rattle.semantics.specs.Stitching.{stitched}
 use Rattle.semantics.specs.Stitching.Laws.{same-stitched}
 use Rattle.semantics.specs.Demand.{fileOwners, allOwners}
@@ -33,7 +35,7 @@ use Rattle.semantics.specs.Database.Compaction.{compactWords, compactCal
 use Rattle.semantics.specs.Database.Compaction.Laws.{Compacts, compact-done, compact-live, compact-formed, same-nodes, same-files, compact-used, compact-capacity}
 use Rattle.semantics.specs.Calls.{Request, FileRequest, Outcome, Reply, settingOf, fileSettingOf, searchOutcome, stitchedOutcome, stitchedCall, filingOutcome, computationOutcome, replacementOutcome, replaceCall, aliasOutcome, aliasCall}
 use Rattle.semantics.specs.Calls.Whole.{Finished, stitchedRecorded, Premises, AliasPremises}
-use Rattle.semantics.specs.Entries.{graphIn, stitchedSearch, compactDatabase}
+use Rattle.semantics.specs.Entries.{seenIn, stitchedSearch, compactDatabase}
 
 -- 35, 34 and the slots, each by itself
 checkedBy : Bool → Bool → List Slot → Answer DatabaseRefusal (List Slot)
@@ -61,51 +63,51 @@ check-after bd known g ws len =
     ∙ ap (λ n. checkedBy (wellFormed bd known ws) (inGraph g (nodesIn ws) n) (slotsIn bd w)) (same-files bd known ws len)
 
 -- EVERY STITCHED SEARCH, returned or recorded, refused or not: the answer and every word, whatever the compaction answered
-pub compact-same : (bd : Bounds) (reply : Reply) (known : ℕ → ℕ → Bool) (image : Answer ImageRefusal Graph) (ws : List ℕ) (len : ℕ) (q : Request)
-    → stitchedCall bd reply known image ((compactCall bd known ws len) .database) q ≡ stitchedCall bd reply known image ws q
+pub compact-same : (bd : Bounds) (reply : Reply) (known : ℕ → ℕ → Bool) (see : ℕ → Bool) (image : Answer ImageRefusal Graph) (ws : List ℕ) (len : ℕ) (q : Request)
+    → stitchedCall bd reply known see image ((compactCall bd known ws len) .database) q ≡ stitchedCall bd reply known see image ws q
 unfolding stitchedCall
-compact-same bd reply known (refuse x) ws len q = refl
-compact-same bd reply known (ok g) ws len q =
-    ap (stitchedOutcome bd reply g q) (check-after bd known g ws len)
+compact-same bd reply known see (refuse x) ws len q = refl
+compact-same bd reply known see (ok g) ws len q =
+    ap (stitchedOutcome bd reply see g q) (check-after bd known g ws len)
     ∙ by (wellFormed bd known ws) (inGraph g (nodesIn ws) (filesIn ws))
-    ∙ ap (stitchedOutcome bd reply g q) (sym (check-is bd known g ws))
+    ∙ ap (stitchedOutcome bd reply see g q) (sym (check-is bd known g ws))
   where
-    searched : searchOutcome bd reply q (stitched bd (q .limits .length) (settingOf bd q) (viewOf g) (slotsIn bd ((compactCall bd known ws len) .database)) (q .node)) ≡ searchOutcome bd reply q (stitched bd (q .limits .length) (settingOf bd q) (viewOf g) (slotsIn bd ws) (q .node))
-    searched = ap (searchOutcome bd reply q) (sym (same-stitched bd (q .limits .length) (settingOf bd q) (viewOf g) (slotsIn bd ws) (slotsIn bd ((compactCall bd known ws len) .database)) (q .node) (compact-live bd known ws len)))
+    searched : searchOutcome bd reply q (stitched bd (q .limits .length) (settingOf bd q) (viewOf g) (seenSlots see (slotsIn bd ((compactCall bd known ws len) .database))) (q .node)) ≡ searchOutcome bd reply q (stitched bd (q .limits .length) (settingOf bd q) (viewOf g) (seenSlots see (slotsIn bd ws)) (q .node))
+    searched = ap (searchOutcome bd reply q) (sym (same-stitched bd (q .limits .length) (settingOf bd q) (viewOf g) (seenSlots see (slotsIn bd ws)) (seenSlots see (slotsIn bd ((compactCall bd known ws len) .database))) (q .node) (seen-live see (slotsIn bd ws) (slotsIn bd ((compactCall bd known ws len) .database)) (compact-live bd known ws len))))
 
-    by : (b c : Bool) → stitchedOutcome bd reply g q (checkedBy b c (slotsIn bd ((compactCall bd known ws len) .database))) ≡ stitchedOutcome bd reply g q (checkedBy b c (slotsIn bd ws))
+    by : (b c : Bool) → stitchedOutcome bd reply see g q (checkedBy b c (slotsIn bd ((compactCall bd known ws len) .database))) ≡ stitchedOutcome bd reply see g q (checkedBy b c (slotsIn bd ws))
     by true true = unfold checkedBy in unfold okIf in unfold stitchedOutcome in searched
     by true false = unfold checkedBy in unfold okIf in refl
     by false c = unfold checkedBy in unfold okIf in refl
 
 -- of the entries
-pub search-compacted : (reply : Reply) (im words list : List ℕ) (r : ℕ) (order : SearchOrder) (limits : SearchLimits) (ws rs : List ℕ)
-    → stitchedSearch reply im ((compactDatabase words list) .database) r order limits ws rs ≡ stitchedSearch reply im words r order limits ws rs
-search-compacted reply im words list r order limits ws rs = compact-same _ reply knownOwners (graphIn im) words (length list) _
+pub search-compacted : (reply : Reply) (im visible words list : List ℕ) (r : ℕ) (order : SearchOrder) (limits : SearchLimits) (ws rs : List ℕ)
+    → stitchedSearch reply im visible ((compactDatabase words list) .database) r order limits ws rs ≡ stitchedSearch reply im visible words r order limits ws rs
+search-compacted reply im visible words list r order limits ws rs = compact-same _ reply knownOwners (sees visible) (seenIn im visible) words (length list) _
 
 -- THE PREMISES OF DEMAND 3 SURVIVE IT, those of order 5 too
-module _ (w : ℕ → ℕ) (bd : Bounds) (im words : List ℕ) (q q′ : Request) (len : ℕ) where
-  still-finished : Finished (stitchedRecorded w bd im words q′) → Finished (stitchedRecorded w bd im ((compactCall bd knownOwners words len) .database) q′)
-  still-finished f = subst (λ (o : Outcome Resolution). Finished o) (sym (compact-same bd _ knownOwners _ words len q′)) f
+module _ (w : ℕ → ℕ) (bd : Bounds) (see : ℕ → Bool) (im words : List ℕ) (q q′ : Request) (len : ℕ) where
+  still-finished : Finished (stitchedRecorded w bd see im words q′) → Finished (stitchedRecorded w bd see im ((compactCall bd knownOwners words len) .database) q′)
+  still-finished f = subst (λ (o : Outcome Resolution). Finished o) (sym (compact-same bd _ knownOwners see _ words len q′)) f
 
-  pub compact-premises : Premises w bd im words q q′ → Premises w bd im ((compactCall bd knownOwners words len) .database) q q′
+  pub compact-premises : Premises w bd see im words q q′ → Premises w bd see im ((compactCall bd knownOwners words len) .database) q q′
   compact-premises p = record {
     graph = p .graph;
     accepted = p .accepted;
     same-reference = p .same-reference;
     same-length-limit = p .same-length-limit;
-    database-holds = same-holds (compact-live bd knownOwners words len) (fileOwners (p .graph)) bd (viewOf (p .graph)) (p .database-holds);
+    database-holds = same-holds (seen-live see (slotsIn bd words) (slotsIn bd ((compactCall bd knownOwners words len) .database)) (compact-live bd knownOwners words len)) (fileOwners (seen see (p .graph))) bd (viewOf (seen see (p .graph))) (p .database-holds);
     direct-finished = p .direct-finished;
     stitched-finished = still-finished (p .stitched-finished);
   }
 
-  pub compact-alias-premises : AliasPremises w bd im words q q′ → AliasPremises w bd im ((compactCall bd knownOwners words len) .database) q q′
+  pub compact-alias-premises : AliasPremises w bd see im words q q′ → AliasPremises w bd see im ((compactCall bd knownOwners words len) .database) q q′
   compact-alias-premises p = record {
     graph = p .graph;
     accepted = p .accepted;
     same-reference = p .same-reference;
     same-length-limit = p .same-length-limit;
-    database-holds = same-holds (compact-live bd knownOwners words len) (allOwners (p .graph)) bd (viewOf (p .graph)) (p .database-holds);
+    database-holds = same-holds (seen-live see (slotsIn bd words) (slotsIn bd ((compactCall bd knownOwners words len) .database)) (compact-live bd knownOwners words len)) (allOwners (seen see (p .graph))) bd (viewOf (seen see (p .graph))) (p .database-holds);
     direct-finished = p .direct-finished;
     stitched-finished = still-finished (p .stitched-finished);
   }

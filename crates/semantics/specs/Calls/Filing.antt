@@ -24,7 +24,8 @@ use Rattle.semantics.specs.PartialPaths.{Route, Slot, slot, filePartials
 use Rattle.semantics.specs.PartialPaths.Laws.{file-partials, same-none}
 use Rattle.semantics.specs.Demand.{fileOwners, allOwners, OwnersIn, NoAliases, Computed, of-file, of-aliases, Built, given, after, closed, Holds}
 use Rattle.semantics.specs.Demand.Aliases.{computed-sound}
-use Rattle.semantics.specs.Demand.Filled.{kept-aliases, built-holds, built-holds-all}
+use Rattle.semantics.specs.Demand.Filled.{built-visible, built-visible-all, kept-aliases, built-holds, built-holds-all}
+use Rattle.semantics.specs.Hidden.Holds.{HoldsVisible}
 use Rattle.semantics.specs.Acceptance.{accepts}
 use Rattle.semantics.specs.Database.{slotsIn, checkDatabase, freshWords, hasRoom, replaceWords, knownOwners}
 use Rattle.semantics.specs.Database.Laws.{fresh-slots, slots-replaced, whole-records}
@@ -197,3 +198,15 @@ module _ (bd : Bounds) (g : Graph) (good : accepts g ≡ true) where
 
     pub aliases-filed : List·Memᴰ nobody done → Holds (allOwners g) bd (viewOf g) (slotsIn bd words)
     aliases-filed set = aliases-refiled _ words done (b .replaced) all set
+
+  -- WITH ONLY SOME FILES VISIBLE: it is enough that the visible ones were replaced
+  module _ (see : ℕ → Bool) (before words done : List ℕ) (b : Refiled bd (ok g) before words done) (all : (f : ℕ) → f < g .files → see f ≡ true → List·Memᴰ f done) where
+    pub refiled-visible : NoAliases (slotsIn bd words) → Checked bd knownOwners g words → HoldsVisible see g (fileOwners g) bd (slotsIn bd words)
+    refiled-visible none k = built-visible bd g good see (slotsIn bd words) done (refiled-built (refiled-owners b k) b) all none
+
+    pub aliases-visible : List·Memᴰ nobody done → HoldsVisible see g (allOwners g) bd (slotsIn bd words)
+    aliases-visible set = built-visible-all bd g good see (slotsIn bd words) done (refiled-built (first-owners b nobody set) b) all set
+
+  module _ (see : ℕ → Bool) (words done : List ℕ) (b : Filed bd (ok g) words done) (all : (f : ℕ) → f < g .files → see f ≡ true → List·Memᴰ f done) where
+    pub filed-visible : (List·Memᴰ nobody done → ⊥) → HoldsVisible see g (fileOwners g) bd (slotsIn bd words)
+    filed-visible out = built-visible bd g good see (slotsIn bd words) done (refiled-built (fresh-owners (b .lent) (b .created)) (b .replaced)) all (filed-none words done b out)

@@ -29,6 +29,7 @@ use Rattle.semantics.specs.Recorded.Laws.{recorded-shorter}
 use Rattle.semantics.specs.Direct.{direct, tries}
 use Rattle.semantics.specs.Direct.Laws.{direct-ok, direct-exact}
 use Rattle.semantics.specs.PartialPaths.{Slot}
+use Rattle.semantics.specs.Hidden.{seenSlots}
 use Rattle.semantics.specs.Stitching.{stitched, slotTries}
 use Rattle.semantics.specs.Stitching.Laws.{stitched-ok, stitched-exact}
 use Rattle.semantics.specs.Demand.{Owners, fileOwners, allOwners, Demand, DemandAll, Valid, Holds, Suited}
@@ -84,24 +85,24 @@ unfolding searchOutcome
 searched-done bd q n t (ok s) e = record { state = s; found = refl; stats = cc; result = refl }
 searched-done bd q n t (refuse r) e = absurd (let z : _≡_ {A = Bool} true false = cc in true≢false z)
 
-stitched-done : (bd : Bounds) (known : ℕ → ℕ → Bool) (g : Graph) (words : List ℕ) (q : Request) (n : ℕ) (t : SearchStats) → (stitchedCall bd recorded known (ok g) words q) .answer ≡ Resolution.Done n t
-    → Answered bd (q .result) (stitched bd (q .limits .length) (settingOf bd q) (viewOf g) (slotsIn bd words) (q .node)) t (stitchedCall bd recorded known (ok g) words q)
+stitched-done : (bd : Bounds) (known : ℕ → ℕ → Bool) (see : ℕ → Bool) (g : Graph) (words : List ℕ) (q : Request) (n : ℕ) (t : SearchStats) → (stitchedCall bd recorded known see (ok g) words q) .answer ≡ Resolution.Done n t
+    → Answered bd (q .result) (stitched bd (q .limits .length) (settingOf bd q) (viewOf g) (seenSlots see (slotsIn bd words)) (q .node)) t (stitchedCall bd recorded known see (ok g) words q)
 unfolding stitchedCall stitchedOutcome
-stitched-done bd known g words q n t e = on (checkDatabase bd known g words) refl e
+stitched-done bd known see g words q n t e = on (checkDatabase bd known g words) refl e
   where
-    on : (a : Answer DatabaseRefusal (List Slot)) → checkDatabase bd known g words ≡ a → (stitchedOutcome bd recorded g q a) .answer ≡ Resolution.Done n t
-        → Answered bd (q .result) (stitched bd (q .limits .length) (settingOf bd q) (viewOf g) (slotsIn bd words) (q .node)) t (stitchedOutcome bd recorded g q a)
+    on : (a : Answer DatabaseRefusal (List Slot)) → checkDatabase bd known g words ≡ a → (stitchedOutcome bd recorded see g q a) .answer ≡ Resolution.Done n t
+        → Answered bd (q .result) (stitched bd (q .limits .length) (settingOf bd q) (viewOf g) (seenSlots see (slotsIn bd words)) (q .node)) t (stitchedOutcome bd recorded see g q a)
     on (ok db) k h =
-        subst (λ x. Answered bd (q .result) (stitched bd (q .limits .length) (settingOf bd q) (viewOf g) x (q .node)) t (stitchedOutcome bd recorded g q (ok db))) (sym (checked bd known g words db k))
-        (searched-done bd q n t (stitched bd (q .limits .length) (settingOf bd q) (viewOf g) db (q .node)) h)
+        subst (λ x. Answered bd (q .result) (stitched bd (q .limits .length) (settingOf bd q) (viewOf g) (seenSlots see x) (q .node)) t (stitchedOutcome bd recorded see g q (ok db))) (sym (checked bd known g words db k))
+        (searched-done bd q n t (stitched bd (q .limits .length) (settingOf bd q) (viewOf g) (seenSlots see db) (q .node)) h)
     on (refuse r) k h = absurd (let z : _≡_ {A = Bool} true false = cc in true≢false z)
 
 -- the used slots of the two calls
 abbrev pub directLists : Bounds → Graph → Request → List (List ℕ)
 directLists bd g q = listsIn (slotWords bd) ((directCall bd recorded (ok g) q) .result)
 
-abbrev pub stitchedLists : Bounds → Graph → List ℕ → Request → List (List ℕ)
-stitchedLists bd g words q = listsIn (slotWords bd) ((stitchedCall bd recorded knownOwners (ok g) words q) .result)
+abbrev pub stitchedLists : Bounds → (ℕ → Bool) → Graph → List ℕ → Request → List (List ℕ)
+stitchedLists bd see g words q = listsIn (slotWords bd) ((stitchedCall bd recorded knownOwners see (ok g) words q) .result)
 
 -- what is recorded stands in the slots
 direct-slots : (bd : Bounds) (g : Graph) (q : Request) (u : State Path) → direct bd (q .limits .length) (settingOf bd q) (viewOf g) (q .node) ≡ ok u → (directCall bd recorded (ok g) q) .result ≡ area (slotWords bd) (q .result) (edgeLists (recorded u)) → directLists bd g q ≡ edgeLists (recorded u)
@@ -112,25 +113,25 @@ direct-slots bd g q u h e =
     ∙ slots-hold bd (q .result) u (enumerate-room (wholeSlots (slotWords bd) (q .result)) Search.NoResultSlot (settingOf bd q) refl (tries Search.TooLong bd (q .limits .length) (viewOf g)) (bd .expansions) (a .0 ∷ []) u (a .2))
     (λ l m. valid-fits bd (q .limits .length) (viewOf g) (q .node) l (x .sound l m)) (recorded-shorter u)
 
-stitched-slots : (O : Owners) (bd : Bounds) (g : Graph) (words : List ℕ) (q : Request) (u : State Path) → Suited (viewOf g) O → Holds O bd (viewOf g) (slotsIn bd words)
-    → stitched bd (q .limits .length) (settingOf bd q) (viewOf g) (slotsIn bd words) (q .node) ≡ ok u → (stitchedCall bd recorded knownOwners (ok g) words q) .result ≡ area (slotWords bd) (q .result) (edgeLists (recorded u)) → stitchedLists bd g words q ≡ edgeLists (recorded u)
-stitched-slots O bd g words q u good holds h e =
-    let a = stitched-ok O bd (q .limits .length) (settingOf bd q) (viewOf g) (q .node) (slotsIn bd words) u h in
-    let x = stitched-exact O bd (q .limits .length) (settingOf bd q) (viewOf g) (q .node) (slotsIn bd words) u holds good h in
+stitched-slots : (O : Owners) (bd : Bounds) (see : ℕ → Bool) (g : Graph) (words : List ℕ) (q : Request) (u : State Path) → Suited (viewOf g) O → Holds O bd (viewOf g) (seenSlots see (slotsIn bd words))
+    → stitched bd (q .limits .length) (settingOf bd q) (viewOf g) (seenSlots see (slotsIn bd words)) (q .node) ≡ ok u → (stitchedCall bd recorded knownOwners see (ok g) words q) .result ≡ area (slotWords bd) (q .result) (edgeLists (recorded u)) → stitchedLists bd see g words q ≡ edgeLists (recorded u)
+stitched-slots O bd see g words q u good holds h e =
+    let a = stitched-ok O bd (q .limits .length) (settingOf bd q) (viewOf g) (q .node) (seenSlots see (slotsIn bd words)) u h in
+    let x = stitched-exact O bd (q .limits .length) (settingOf bd q) (viewOf g) (q .node) (seenSlots see (slotsIn bd words)) u holds good h in
     ap (listsIn (slotWords bd)) e
-    ∙ slots-hold bd (q .result) u (enumerate-room (wholeSlots (slotWords bd) (q .result)) Search.NoResultSlot (settingOf bd q) refl (slotTries bd (q .limits .length) (viewOf g) (slotsIn bd words)) (bd .expansions) (a .0 ∷ []) u (a .2))
+    ∙ slots-hold bd (q .result) u (enumerate-room (wholeSlots (slotWords bd) (q .result)) Search.NoResultSlot (settingOf bd q) refl (slotTries bd (q .limits .length) (viewOf g) (seenSlots see (slotsIn bd words))) (bd .expansions) (a .0 ∷ []) u (a .2))
     (λ l m. valid-fits bd (q .limits .length) (viewOf g) (q .node) l (x .sound l m .0)) (recorded-shorter u)
 
 -- same accepted graph and reference, the same length limit; neither call was refused or set its path-count or complete-count flag
-module _ (bd : Bounds) (g : Graph) (good : accepts g ≡ true) (q q′ : Request) (words : List ℕ) (node : q .node ≡ q′ .node) (limit : q .limits .length ≡ q′ .limits .length) (n n′ : ℕ) (t t′ : SearchStats)
+module _ (bd : Bounds) (see : ℕ → Bool) (g : Graph) (good : accepts g ≡ true) (q q′ : Request) (words : List ℕ) (node : q .node ≡ q′ .node) (limit : q .limits .length ≡ q′ .limits .length) (n n′ : ℕ) (t t′ : SearchStats)
     (hd : (directCall bd recorded (ok g) q) .answer ≡ Resolution.Done n t) (dn : t .countLimited ≡ false) (dk : t .completeLimited ≡ false)
-    (hs : (stitchedCall bd recorded knownOwners (ok g) words q′) .answer ≡ Resolution.Done n′ t′) (sn : t′ .countLimited ≡ false) (sk : t′ .completeLimited ≡ false) where
+    (hs : (stitchedCall bd recorded knownOwners see (ok g) words q′) .answer ≡ Resolution.Done n′ t′) (sn : t′ .countLimited ≡ false) (sk : t′ .completeLimited ≡ false) where
   directed : Answered bd (q .result) (direct bd (q .limits .length) (settingOf bd q) (viewOf g) (q .node)) t (directCall bd recorded (ok g) q)
   unfolding directCall
   directed = searched-done bd q n t (direct bd (q .limits .length) (settingOf bd q) (viewOf g) (q .node)) hd
 
-  stitchedTo : Answered bd (q′ .result) (stitched bd (q′ .limits .length) (settingOf bd q′) (viewOf g) (slotsIn bd words) (q′ .node)) t′ (stitchedCall bd recorded knownOwners (ok g) words q′)
-  stitchedTo = stitched-done bd knownOwners g words q′ n′ t′ hs
+  stitchedTo : Answered bd (q′ .result) (stitched bd (q′ .limits .length) (settingOf bd q′) (viewOf g) (seenSlots see (slotsIn bd words)) (q′ .node)) t′ (stitchedCall bd recorded knownOwners see (ok g) words q′)
+  stitchedTo = stitched-done bd knownOwners see g words q′ n′ t′ hs
 
   -- the state of either search, its flags, and what stands in its slots
   record Ended (a : Answer SearchRefusal (State Path)) (lists : List (List ℕ)) : Type 0 where
@@ -150,34 +151,34 @@ module _ (bd : Bounds) (g : Graph) (good : accepts g ≡ true) (q q′ : Request
   }
 
   -- as asked of direct search
-  stitched-ended : (O : Owners) → Suited (viewOf g) O → Holds O bd (viewOf g) (slotsIn bd words) → Ended (stitched bd (q .limits .length) (settingOf bd q′) (viewOf g) (slotsIn bd words) (q .node)) (stitchedLists bd g words q′)
+  stitched-ended : (O : Owners) → Suited (viewOf g) O → Holds O bd (viewOf g) (seenSlots see (slotsIn bd words)) → Ended (stitched bd (q .limits .length) (settingOf bd q′) (viewOf g) (seenSlots see (slotsIn bd words)) (q .node)) (stitchedLists bd see g words q′)
   stitched-ended O fit holds =
       let s = stitchedTo in
       record {
         state = s .state;
-        found = subst (λ z. stitched bd (q .limits .length) (settingOf bd q′) (viewOf g) (slotsIn bd words) z ≡ ok (s .state)) (sym node) (subst (λ z. stitched bd z (settingOf bd q′) (viewOf g) (slotsIn bd words) (q′ .node) ≡ ok (s .state)) (sym limit) (s .found));
+        found = subst (λ z. stitched bd (q .limits .length) (settingOf bd q′) (viewOf g) (seenSlots see (slotsIn bd words)) z ≡ ok (s .state)) (sym node) (subst (λ z. stitched bd z (settingOf bd q′) (viewOf g) (seenSlots see (slotsIn bd words)) (q′ .node) ≡ ok (s .state)) (sym limit) (s .found));
         uncounted = ap (λ (z : SearchStats). z .countLimited) (s .stats) ∙ sn;
         uncut = ap (λ (z : SearchStats). z .completeLimited) (s .stats) ∙ sk;
-        slots = stitched-slots O bd g words q′ (s .state) fit holds (s .found) (s .result);
+        slots = stitched-slots O bd see g words q′ (s .state) fit holds (s .found) (s .result);
       }
 
   -- the database holds the files' partial paths
-  pub demand : Holds (fileOwners g) bd (viewOf g) (slotsIn bd words) → Demand bd (viewOf g) (q .node) (q .limits .length) (directLists bd g q) (stitchedLists bd g words q′)
+  pub demand : Holds (fileOwners g) bd (viewOf g) (seenSlots see (slotsIn bd words)) → Demand bd (viewOf g) (q .node) (q .limits .length) (directLists bd g q) (stitchedLists bd see g words q′)
   demand holds =
       let d = direct-ended in
       let s = stitched-ended (fileOwners g) (suited g good) holds in
-      subst (λ z. Demand bd (viewOf g) (q .node) (q .limits .length) z (stitchedLists bd g words q′)) (sym (d .slots))
+      subst (λ z. Demand bd (viewOf g) (q .node) (q .limits .length) z (stitchedLists bd see g words q′)) (sym (d .slots))
       (subst (λ z. Demand bd (viewOf g) (q .node) (q .limits .length) (edgeLists (recorded (d .state))) z) (sym (s .slots))
-      (demand-slots g (suited g good) bd (q .limits .length) (settingOf bd q) (settingOf bd q′) (q .node) (slotsIn bd words) holds (d .state) (s .state) (d .found) (d .uncounted) (d .uncut) (s .found) (s .uncounted) (s .uncut)))
+      (demand-slots g (suited g good) bd (q .limits .length) (settingOf bd q) (settingOf bd q′) (q .node) (seenSlots see (slotsIn bd words)) holds (d .state) (s .state) (d .found) (d .uncounted) (d .uncut) (s .found) (s .uncounted) (s .uncut)))
 
   -- and the alias set
-  pub demand-all : Holds (allOwners g) bd (viewOf g) (slotsIn bd words) → DemandAll bd (viewOf g) (q .node) (q .limits .length) (directLists bd g q) (stitchedLists bd g words q′)
+  pub demand-all : Holds (allOwners g) bd (viewOf g) (seenSlots see (slotsIn bd words)) → DemandAll bd (viewOf g) (q .node) (q .limits .length) (directLists bd g q) (stitchedLists bd see g words q′)
   demand-all holds =
       let d = direct-ended in
       let s = stitched-ended (allOwners g) (suited-all g good) holds in
-      subst (λ z. DemandAll bd (viewOf g) (q .node) (q .limits .length) z (stitchedLists bd g words q′)) (sym (d .slots))
+      subst (λ z. DemandAll bd (viewOf g) (q .node) (q .limits .length) z (stitchedLists bd see g words q′)) (sym (d .slots))
       (subst (λ z. DemandAll bd (viewOf g) (q .node) (q .limits .length) (edgeLists (recorded (d .state))) z) (sym (s .slots))
-      (demand-slots-all g good bd (q .limits .length) (settingOf bd q) (settingOf bd q′) (q .node) (slotsIn bd words) holds (d .state) (s .state) (d .found) (d .uncounted) (d .uncut) (s .found) (s .uncounted) (s .uncut)))
+      (demand-slots-all g good bd (q .limits .length) (settingOf bd q) (settingOf bd q′) (q .node) (seenSlots see (slotsIn bd words)) holds (d .state) (s .state) (d .found) (d .uncounted) (d .uncut) (s .found) (s .uncounted) (s .uncut)))
 
 -- the result area keeps its length
 module _ (bd : Bounds) (kept : State Path → List Path) (shorter : (u : State Path) → length (kept u) ≤ length (u .kept)) where
@@ -192,12 +193,12 @@ module _ (bd : Bounds) (kept : State Path → List Path) (shorter : (u : State P
       (λ u h. let a = direct-ok bd (q .limits .length) (settingOf bd q) (viewOf g) (q .node) u h in enumerate-room (wholeSlots (slotWords bd) (q .result)) Search.NoResultSlot (settingOf bd q) refl (tries Search.TooLong bd (q .limits .length) (viewOf g)) (bd .expansions) (a .0 ∷ []) u (a .2))
   direct-length (refuse r) q = length-replicate (q .result) 0
 
-  pub stitched-length : (known : ℕ → ℕ → Bool) (image : Answer ImageRefusal Graph) (words : List ℕ) (q : Request) → length ((stitchedCall bd kept known image words q) .result) ≡ q .result
+  pub stitched-length : (known : ℕ → ℕ → Bool) (see : ℕ → Bool) (image : Answer ImageRefusal Graph) (words : List ℕ) (q : Request) → length ((stitchedCall bd kept known see image words q) .result) ≡ q .result
   unfolding stitchedCall stitchedOutcome
-  stitched-length known (ok g) words q = on (checkDatabase bd known g words)
+  stitched-length known see (ok g) words q = on (checkDatabase bd known g words)
     where
-      on : (a : Answer DatabaseRefusal (List Slot)) → length ((stitchedOutcome bd kept g q a) .result) ≡ q .result
-      on (ok db) = searched-length q (stitched bd (q .limits .length) (settingOf bd q) (viewOf g) db (q .node))
-          (λ u h. let a = stitched-ok (fileOwners g) bd (q .limits .length) (settingOf bd q) (viewOf g) (q .node) db u h in enumerate-room (wholeSlots (slotWords bd) (q .result)) Search.NoResultSlot (settingOf bd q) refl (slotTries bd (q .limits .length) (viewOf g) db) (bd .expansions) (a .0 ∷ []) u (a .2))
+      on : (a : Answer DatabaseRefusal (List Slot)) → length ((stitchedOutcome bd kept see g q a) .result) ≡ q .result
+      on (ok db) = searched-length q (stitched bd (q .limits .length) (settingOf bd q) (viewOf g) (seenSlots see db) (q .node))
+          (λ u h. let a = stitched-ok (fileOwners g) bd (q .limits .length) (settingOf bd q) (viewOf g) (q .node) (seenSlots see db) u h in enumerate-room (wholeSlots (slotWords bd) (q .result)) Search.NoResultSlot (settingOf bd q) refl (slotTries bd (q .limits .length) (viewOf g) (seenSlots see db)) (bd .expansions) (a .0 ∷ []) u (a .2))
       on (refuse r) = length-replicate (q .result) 0
-  stitched-length known (refuse r) words q = length-replicate (q .result) 0
+  stitched-length known see (refuse r) words q = length-replicate (q .result) 0

@@ -21,6 +21,7 @@ use Rattle.semantics.specs.Enumeration.{State}
 use Rattle.semantics.specs.Direct.{direct}
 use Rattle.semantics.specs.Linear.{linear}
 use Rattle.semantics.specs.PartialPaths.{Route, Slot, filePartials, aliasRoutes}
+use Rattle.semantics.specs.Hidden.{seenSlots}
 use Rattle.semantics.specs.Stitching.{stitched}
 use Rattle.semantics.specs.Words.{zeros}
 use Rattle.semantics.specs.Database.{checkDatabase, hasRoom}
@@ -52,15 +53,15 @@ module _ (bd : Bounds) where
     direct-zeroed (ok g) q = searched-zeroed q (direct bd (q .limits .length) (settingOf bd q) (viewOf g) (q .node))
     direct-zeroed (refuse x) q = record { work = refl; result = λ h. refl }
 
-    slots-zeroed : (g : Graph) (q : Request) (a : Answer DatabaseRefusal (List Slot)) → Zeroed toldResolution (q .work) (q .result) (stitchedOutcome bd reply g q a)
+    slots-zeroed : (see : ℕ → Bool) (g : Graph) (q : Request) (a : Answer DatabaseRefusal (List Slot)) → Zeroed toldResolution (q .work) (q .result) (stitchedOutcome bd reply see g q a)
     unfolding stitchedOutcome
-    slots-zeroed g q (ok db) = searched-zeroed q (stitched bd (q .limits .length) (settingOf bd q) (viewOf g) db (q .node))
-    slots-zeroed g q (refuse r) = record { work = refl; result = λ h. refl }
+    slots-zeroed see g q (ok db) = searched-zeroed q (stitched bd (q .limits .length) (settingOf bd q) (viewOf g) (seenSlots see db) (q .node))
+    slots-zeroed see g q (refuse r) = record { work = refl; result = λ h. refl }
 
-    pub stitched-zeroed : (known : ℕ → ℕ → Bool) (image : Answer ImageRefusal Graph) (words : List ℕ) (q : Request) → Zeroed toldResolution (q .work) (q .result) (stitchedCall bd reply known image words q)
+    pub stitched-zeroed : (known : ℕ → ℕ → Bool) (see : ℕ → Bool) (image : Answer ImageRefusal Graph) (words : List ℕ) (q : Request) → Zeroed toldResolution (q .work) (q .result) (stitchedCall bd reply known see image words q)
     unfolding stitchedCall
-    stitched-zeroed known (ok g) words q = slots-zeroed g q (checkDatabase bd known g words)
-    stitched-zeroed known (refuse x) words q = record { work = refl; result = λ h. refl }
+    stitched-zeroed known see (ok g) words q = slots-zeroed see g q (checkDatabase bd known g words)
+    stitched-zeroed known see (refuse x) words q = record { work = refl; result = λ h. refl }
 
     linearly-zeroed : (q : LinearRequest) (a : Answer LinearRefusal (State Path)) → Zeroed toldLinearResolution 0 (q .result) (linearOutcome bd reply q a)
     unfolding linearOutcome

@@ -29,6 +29,7 @@ use Rattle.semantics.specs.Enumeration.{Setting, State, Try, slots, enum
 use Rattle.semantics.specs.Enumeration.Waiting.{lent, waited, WithSlots, waiting-other}
 use Rattle.semantics.specs.Direct.{direct, tries}
 use Rattle.semantics.specs.PartialPaths.{Route, Slot, partials, routeTries, routeAt, startRoutes, belongs, ownedBy, fileRoutes, ifKnown, filePartials, aliasRoutes, partialStats}
+use Rattle.semantics.specs.Hidden.{seenSlots}
 use Rattle.semantics.specs.Stitching.{stitched, slotTries}
 use Rattle.semantics.specs.Words.{wholeSlots}
 use Rattle.semantics.specs.Database.{checkDatabase, hasRoom}
@@ -102,25 +103,25 @@ module _ (bd : Bounds) (reply : Reply) where
       (searched-other bd reply q work (x .0) t (x .2) (direct bd lim (settingOf bd (lending work q)) (viewOf g) (q .node)) k)
   direct-waiting (refuse r) q n t e work = absurd (let z : _≡_ {A = Bool} true false = cc in true≢false z)
 
-  stitched-found : (g : Graph) (q : Request) (n : ℕ) (t : SearchStats) (db : List Slot) → (stitchedOutcome bd reply g q (ok db)) .answer ≡ Resolution.Done n t → (work : ℕ)
-      → SearchWith (t .waited) (slotsFor bd work) (lending work q) (stitchedOutcome bd reply g q (ok db)) (stitchedOutcome bd reply g (lending work q) (ok db))
+  stitched-found : (see : ℕ → Bool) (g : Graph) (q : Request) (n : ℕ) (t : SearchStats) (db : List Slot) → (stitchedOutcome bd reply see g q (ok db)) .answer ≡ Resolution.Done n t → (work : ℕ)
+      → SearchWith (t .waited) (slotsFor bd work) (lending work q) (stitchedOutcome bd reply see g q (ok db)) (stitchedOutcome bd reply see g (lending work q) (ok db))
   unfolding stitchedOutcome
-  stitched-found g q n t db e work =
+  stitched-found see g q n t db e work =
       let lim = q .limits .length in
-      let x = searched-done bd reply q n t (stitched bd lim (settingOf bd q) (viewOf g) db (q .node)) e in
-      let k = stitched-other (settingOf bd q) (slotsFor bd (q .work)) (slotsFor bd work) (x .0) bd lim (viewOf g) db (q .node) (x .1) in
-      subst (λ (a : Answer SearchRefusal (State Path)). SearchWith (t .waited) (slotsFor bd work) (lending work q) (searchOutcome bd reply q a) (stitchedOutcome bd reply g (lending work q) (ok db))) (sym (x .1))
-      (searched-other bd reply q work (x .0) t (x .2) (stitched bd lim (settingOf bd (lending work q)) (viewOf g) db (q .node)) k)
+      let x = searched-done bd reply q n t (stitched bd lim (settingOf bd q) (viewOf g) (seenSlots see db) (q .node)) e in
+      let k = stitched-other (settingOf bd q) (slotsFor bd (q .work)) (slotsFor bd work) (x .0) bd lim (viewOf g) (seenSlots see db) (q .node) (x .1) in
+      subst (λ (a : Answer SearchRefusal (State Path)). SearchWith (t .waited) (slotsFor bd work) (lending work q) (searchOutcome bd reply q a) (stitchedOutcome bd reply see g (lending work q) (ok db))) (sym (x .1))
+      (searched-other bd reply q work (x .0) t (x .2) (stitched bd lim (settingOf bd (lending work q)) (viewOf g) (seenSlots see db) (q .node)) k)
 
-  pub stitched-waiting : (known : ℕ → ℕ → Bool) (image : Answer ImageRefusal Graph) (words : List ℕ) (q : Request) (n : ℕ) (t : SearchStats) → (stitchedCall bd reply known image words q) .answer ≡ Resolution.Done n t → (work : ℕ)
-      → SearchWith (t .waited) (slotsFor bd work) (lending work q) (stitchedCall bd reply known image words q) (stitchedCall bd reply known image words (lending work q))
+  pub stitched-waiting : (known : ℕ → ℕ → Bool) (see : ℕ → Bool) (image : Answer ImageRefusal Graph) (words : List ℕ) (q : Request) (n : ℕ) (t : SearchStats) → (stitchedCall bd reply known see image words q) .answer ≡ Resolution.Done n t → (work : ℕ)
+      → SearchWith (t .waited) (slotsFor bd work) (lending work q) (stitchedCall bd reply known see image words q) (stitchedCall bd reply known see image words (lending work q))
   unfolding stitchedCall stitchedOutcome
-  stitched-waiting known (ok g) words q n t e work = on (checkDatabase bd known g words) e
+  stitched-waiting known see (ok g) words q n t e work = on (checkDatabase bd known g words) e
     where
-      on : (a : Answer DatabaseRefusal (List Slot)) → (stitchedOutcome bd reply g q a) .answer ≡ Resolution.Done n t → SearchWith (t .waited) (slotsFor bd work) (lending work q) (stitchedOutcome bd reply g q a) (stitchedOutcome bd reply g (lending work q) a)
-      on (ok db) h = stitched-found g q n t db h work
+      on : (a : Answer DatabaseRefusal (List Slot)) → (stitchedOutcome bd reply see g q a) .answer ≡ Resolution.Done n t → SearchWith (t .waited) (slotsFor bd work) (lending work q) (stitchedOutcome bd reply see g q a) (stitchedOutcome bd reply see g (lending work q) a)
+      on (ok db) h = stitched-found see g q n t db h work
       on (refuse r) h = absurd (let z : _≡_ {A = Bool} true false = cc in true≢false z)
-  stitched-waiting known (refuse r) words q n t e work = absurd (let z : _≡_ {A = Bool} true false = cc in true≢false z)
+  stitched-waiting known see (refuse r) words q n t e work = absurd (let z : _≡_ {A = Bool} true false = cc in true≢false z)
 
 -- ---- THE PARTIAL PATHS OF A FILE, AND THE ALIAS SET
 

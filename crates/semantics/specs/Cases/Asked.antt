@@ -25,6 +25,7 @@ use Rattle.semantics.specs.Words.{zeros, listsIn}
 use Rattle.semantics.specs.Database.{slotsIn, knownOwners, lookupPart, wordsOf}
 use Rattle.semantics.specs.Database.Compaction.{Compacted, compactCall}
 use Rattle.semantics.specs.Calls.{Request, LinearRequest, FileRequest, Outcome, Change, ReplayedPath, checkCall, replayCall, completeCall, shadowsCall, directCall, stitchedCall, linearCall, freshCall, replaceCall, aliasRequest, aliasCall}
+use Rattle.semantics.specs.Hidden.{everyFile}
 use Rattle.semantics.specs.Finding.{FindRequest, findCall}
 use Rattle.semantics.specs.Cases.Graphs.{joined}
 
@@ -117,7 +118,7 @@ recording order length count complete im = recordedBy base (request base order l
 
 unfoldable pub stitch : (State Path → List Path) → Bounds → Request → List ℕ → List ℕ → Outcome Resolution
 unfolding stitchedCall checkImage
-stitch reply bd q im words = stitchedCall bd reply knownOwners (checkImage symbolBytes im) words q
+stitch reply bd q im words = stitchedCall bd reply knownOwners everyFile (checkImage symbolBytes im) words q
 
 unfoldable pub stitchedReturned : Bounds → Request → List ℕ → List ℕ → List (List ℕ)
 unfolding shown stitch returned

@@ -20,6 +20,7 @@ use Rattle.semantics.specs.Told.{toldChecked, toldReplayed, toldJudgemen
 use Rattle.semantics.specs.Database.{lookupPart}
 use Rattle.semantics.specs.Calls.{edge, jump, noPath, checkCall, replayCall, completeCall, shadowsCall, directCall, linearCall, stitchedCall, freshCall, replaceCall, aliasCall}
 use Rattle.semantics.specs.Finding.{findCall}
+use Rattle.semantics.specs.Hidden.{seenImage}
 use Rattle.semantics.specs.Rewriting.{rewriteCall}
 use Rattle.semantics.specs.Asked.{orderAsked, limitsAsked, lengthAsked, expansionsAsked}
 use Rattle.semantics.specs.Written.{written}
@@ -104,7 +105,7 @@ writing-cases = refl
 
 -- EACH ENTRY: its arguments in their places, every number of what is asked another one
 pub entered : List (Row (List ℕ))
-unfolding checkCall replayCall completeCall shadowsCall directCall linearCall stitchedCall findCall rewriteCall freshCall replaceCall aliasCall lookupPart checkImage firstFiled returned recorded
+unfolding checkCall replayCall completeCall shadowsCall directCall linearCall stitchedCall findCall seenImage rewriteCall freshCall replaceCall aliasCall lookupPart checkImage firstFiled returned recorded
 entered =
     (toldChecked (checkOf imageA) gives 0 ∷ 1 ∷ 6 ∷ 3 ∷ [])
     ∷ (toldReplayed (replayOf imageA 2 (0 ∷ 2 ∷ []) .answer) gives 15 ∷ 5 ∷ [])
@@ -113,21 +114,26 @@ entered =
     ∷ (toldJudgement (shadowsOf imageB 2 (1 ∷ 3 ∷ []) 2 (0 ∷ 2 ∷ [])) gives 0 ∷ 1 ∷ [])
     ∷ (toldJudgement (shadowsOf imageB 2 (0 ∷ 2 ∷ []) 2 (1 ∷ 3 ∷ [])) gives 0 ∷ 0 ∷ [])
     -- direct search: depth-first with an expansion limit of 3, then breadth-first with a length limit; returned and recorded
-    ∷ (toldResolution (directAsked returned imageB 2 (1 ∷ 0 ∷ 0 ∷ 1 ∷ 3 ∷ []) (zeros (8 * slotLength)) (zeros (8 * slotLength)) .answer) gives 0 ∷ 1 ∷ 3 ∷ 2 ∷ 0 ∷ 0 ∷ 0 ∷ 1 ∷ 0 ∷ 3 ∷ [])
-    ∷ (toldResolution (directAsked returned imageA 2 (0 ∷ 1 ∷ 1 ∷ []) (zeros (8 * slotLength)) (zeros (8 * slotLength)) .answer) gives 0 ∷ 0 ∷ 2 ∷ 0 ∷ 0 ∷ 0 ∷ 1 ∷ 0 ∷ 0 ∷ 1 ∷ [])
-    ∷ (toldResolution (directAsked recorded imageB 2 [] (zeros (8 * slotLength)) (zeros (8 * slotLength)) .answer) gives 0 ∷ 4 ∷ 7 ∷ 4 ∷ 0 ∷ 0 ∷ 0 ∷ 0 ∷ 0 ∷ 4 ∷ [])
+    ∷ (toldResolution (directAsked returned imageB (1 ∷ []) 2 (1 ∷ 0 ∷ 0 ∷ 1 ∷ 3 ∷ []) (zeros (8 * slotLength)) (zeros (8 * slotLength)) .answer) gives 0 ∷ 1 ∷ 3 ∷ 2 ∷ 0 ∷ 0 ∷ 0 ∷ 1 ∷ 0 ∷ 3 ∷ [])
+    ∷ (toldResolution (directAsked returned imageA (1 ∷ []) 2 (0 ∷ 1 ∷ 1 ∷ []) (zeros (8 * slotLength)) (zeros (8 * slotLength)) .answer) gives 0 ∷ 0 ∷ 2 ∷ 0 ∷ 0 ∷ 0 ∷ 1 ∷ 0 ∷ 0 ∷ 1 ∷ [])
+    ∷ (toldResolution (directAsked recorded imageB (1 ∷ []) 2 [] (zeros (8 * slotLength)) (zeros (8 * slotLength)) .answer) gives 0 ∷ 4 ∷ 7 ∷ 4 ∷ 0 ∷ 0 ∷ 0 ∷ 0 ∷ 0 ∷ 4 ∷ [])
     -- the work area is the one that waits, the result area the one that keeps
-    ∷ (toldResolution (directAsked returned imageB 2 [] (zeros slotLength) (zeros (8 * slotLength)) .answer) gives 31 ∷ [])
-    ∷ (toldResolution (directAsked returned imageB 2 [] (zeros (8 * slotLength)) (zeros slotLength) .answer) gives 32 ∷ [])
-    ∷ (toldLinearResolution (linearAsked returned imageA 2 (9 ∷ 1 ∷ 1 ∷ []) (zeros slotLength) .answer) gives 0 ∷ 0 ∷ 2 ∷ 0 ∷ 0 ∷ 0 ∷ 1 ∷ 0 ∷ 0 ∷ 0 ∷ [])
-    ∷ (toldResolution (stitchedAsked returned imageA (firstFiled imageA) 2 [] (zeros (8 * slotLength)) (zeros (8 * slotLength)) .answer) gives 0 ∷ 1 ∷ 4 ∷ 2 ∷ 2 ∷ 0 ∷ 0 ∷ 0 ∷ 0 ∷ 2 ∷ [])
-    ∷ (toldResolution (stitchedAsked returned imageA (9 ∷ 8 ∷ 1 ∷ 0 ∷ []) 2 [] (zeros 3) (zeros 5) .answer) gives 35 ∷ [])
+    ∷ (toldResolution (directAsked returned imageB (1 ∷ []) 2 [] (zeros slotLength) (zeros (8 * slotLength)) .answer) gives 31 ∷ [])
+    ∷ (toldResolution (directAsked returned imageB (1 ∷ []) 2 [] (zeros (8 * slotLength)) (zeros slotLength) .answer) gives 32 ∷ [])
+    ∷ (toldLinearResolution (linearAsked returned imageA (1 ∷ []) 2 (9 ∷ 1 ∷ 1 ∷ []) (zeros slotLength) .answer) gives 0 ∷ 0 ∷ 2 ∷ 0 ∷ 0 ∷ 0 ∷ 1 ∷ 0 ∷ 0 ∷ 0 ∷ [])
+    ∷ (toldResolution (stitchedAsked returned imageA (1 ∷ []) (firstFiled imageA) 2 [] (zeros (8 * slotLength)) (zeros (8 * slotLength)) .answer) gives 0 ∷ 1 ∷ 4 ∷ 2 ∷ 2 ∷ 0 ∷ 0 ∷ 0 ∷ 0 ∷ 2 ∷ [])
+    ∷ (toldResolution (stitchedAsked returned imageA (1 ∷ []) (9 ∷ 8 ∷ 1 ∷ 0 ∷ []) 2 [] (zeros 3) (zeros 5) .answer) gives 35 ∷ [])
     -- a name: of what is asked the limit on length alone; the node, then the area that waits and the one that keeps
-    ∷ (toldFinding (nameAsked imageA 4 (9 ∷ 1 ∷ 2 ∷ 1 ∷ 0 ∷ 1 ∷ 0 ∷ []) (zeros (8 * slotLength)) (zeros (8 * slotLength)) .answer) gives 0 ∷ 1 ∷ 2 ∷ [])
-    ∷ (toldFinding (nameAsked imageA 4 (0 ∷ 1 ∷ 1 ∷ []) (zeros (8 * slotLength)) (zeros (8 * slotLength)) .answer) gives 0 ∷ 0 ∷ [])
-    ∷ (toldFinding (nameAsked imageA 3 [] (zeros slotLength) (zeros slotLength) .answer) gives 37 ∷ 3 ∷ [])
-    ∷ (toldFinding (nameAsked imageB 4 [] (zeros slotLength) (zeros (8 * slotLength)) .answer) gives 31 ∷ [])
-    ∷ (toldFinding (nameAsked imageB 4 [] (zeros (8 * slotLength)) (zeros slotLength) .answer) gives 32 ∷ [])
+    ∷ (toldFinding (nameAsked imageA (1 ∷ []) 4 (9 ∷ 1 ∷ 2 ∷ 1 ∷ 0 ∷ 1 ∷ 0 ∷ []) (zeros (8 * slotLength)) (zeros (8 * slotLength)) .answer) gives 0 ∷ 1 ∷ 2 ∷ [])
+    ∷ (toldFinding (nameAsked imageA (1 ∷ []) 4 (0 ∷ 1 ∷ 1 ∷ []) (zeros (8 * slotLength)) (zeros (8 * slotLength)) .answer) gives 0 ∷ 0 ∷ [])
+    ∷ (toldFinding (nameAsked imageA (1 ∷ []) 3 [] (zeros slotLength) (zeros slotLength) .answer) gives 37 ∷ 3 ∷ [])
+    ∷ (toldFinding (nameAsked imageB (1 ∷ []) 4 [] (zeros slotLength) (zeros (8 * slotLength)) .answer) gives 31 ∷ [])
+    ∷ (toldFinding (nameAsked imageB (1 ∷ []) 4 [] (zeros (8 * slotLength)) (zeros slotLength) .answer) gives 32 ∷ [])
+    -- the set of visible files stands behind the image: with none in it each node of A is hidden
+    ∷ (toldResolution (directAsked returned imageA [] 2 [] (zeros slotLength) (zeros slotLength) .answer) gives 10 ∷ 2 ∷ [])
+    ∷ (toldLinearResolution (linearAsked recorded imageA [] 2 [] (zeros slotLength) .answer) gives 10 ∷ 2 ∷ [])
+    ∷ (toldResolution (stitchedAsked recorded imageA [] (firstFiled imageA) 2 [] (zeros slotLength) (zeros slotLength) .answer) gives 10 ∷ 2 ∷ [])
+    ∷ (toldFinding (nameAsked imageA [] 4 [] (zeros slotLength) (zeros slotLength) .answer) gives 10 ∷ 4 ∷ [])
     -- a rewrite: the image, then the lent bytes, of which the number alone is read; each call its own direction
     ∷ (toldRewriting (widenImage imageA (9 ∷ zeros 88) .answer) gives 0 ∷ 89 ∷ [])
     ∷ (toldRewriting (widenImage imageA (zeros 88) .answer) gives 32 ∷ [])

@@ -17,6 +17,7 @@ use Rattle.semantics.specs.Recorded.{recorded}
 use Rattle.semantics.specs.Words.{zeros}
 use Rattle.semantics.specs.Database.{knownOwners}
 use Rattle.semantics.specs.Calls.{stitchedCall}
+use Rattle.semantics.specs.Hidden.{everyFile}
 use Rattle.semantics.specs.Cases.Rows.{Row, _gives_, Agreed, refused, returned_expanded_complete_rejected_cycles_flags_paths_, noFlag, lengthFlag, countFlag, completeFlag}
 use Rattle.semantics.specs.Cases.Graphs.{imageA, imageB, imageD, imageE, imageF, live, imageOf, reference, removedEdge, goingOn}
 use Rattle.semantics.specs.Cases.Asked.{bounded, request, requestIn, stitchedReturned, stitchedRecorded, stitchedAreas, databaseOf, held, heldIn, firstFiled, shown}
@@ -50,7 +51,7 @@ unfit = record { files = 1; nodes = N.Root ∷ N.JumpToScope ∷ N.Push (fileId 
 
 joiningOn : Graph → List ℕ → List (List ℕ)
 unfolding stitchedCall recorded shown
-joiningOn g words = shown base (stitchedCall base recorded knownOwners (ok g) words (request base BreadthFirst Absent Absent Absent 8 8))
+joiningOn g words = shown base (stitchedCall base recorded knownOwners everyFile (ok g) words (request base BreadthFirst Absent Absent Absent 8 8))
 
 pub stitches : List (Row (List (List ℕ)))
 unfolding joining joiningIn joiningUnder joiningOn stitchedReturned firstFiled

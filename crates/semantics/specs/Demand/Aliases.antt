@@ -54,13 +54,13 @@ module _ (g : Graph) (good : accepts g ≡ true) where
   pub not-file : nobody < g .files → ⊥
   not-file l = omega (arith, l, few-files g good)
 
-  other : (f : ℕ) → f < g .files → eqb f nobody ≡ false
-  other f l = bool-false (eqb f nobody) (λ h. let z : f ≡ 65534 = eqb-true f nobody h in omega (arith, z, l, few-files g good))
+  pub not-nobody : (f : ℕ) → f < g .files → eqb f nobody ≡ false
+  not-nobody f l = bool-false (eqb f nobody) (λ h. let z : f ≡ 65534 = eqb-true f nobody h in omega (arith, z, l, few-files g good))
 
   -- so a file has the edges that it had
   pub owned-file : (f e : ℕ) → f < g .files → ownedBy (viewOf g) f e ≡ belongs (viewOf g) f e
   unfolding ownedBy
-  owned-file f e l = ap (λ b. pick b (isFileless (viewOf g) ((viewOf g) .edge e)) (belongs (viewOf g) f e)) (other f l)
+  owned-file f e l = ap (λ b. pick b (isFileless (viewOf g) ((viewOf g) .edge e)) (belongs (viewOf g) f e)) (not-nobody f l)
 
   at-target : (e : ℕ) (s t : NodeId) (p : ℤ) (a b : ℕ) → (viewOf g) .edge e ≡ E.Live s t p → ownedBy (viewOf g) a e ≡ true → fileOf ((viewOf g) .node (t .0)) ≡ some b → a ≡ b
   unfolding ownedBy isFileless

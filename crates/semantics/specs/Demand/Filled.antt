@@ -16,6 +16,8 @@ use Rattle.semantics.specs.PartialPaths.Laws.{clear-from, clear-keeps, s
 use Rattle.semantics.specs.Demand.{fileOwners, allOwners, Partial, Built, given, after, closed, NoAliases, Holds}
 use Rattle.semantics.specs.Demand.Aliases.{file-to-all, all-to-file, computed-known, computed-sound, computed-whole}
 use Rattle.semantics.specs.Acceptance.{accepts}
+use Rattle.semantics.specs.Hidden.{seesOwner}
+use Rattle.semantics.specs.Hidden.Holds.{HoldsVisible, file-visible}
 
 -- a slot of the alias set that stands after a replacement of a file stood before it
 pub kept-aliases : (f s t : ℕ) (es : List ℕ) (db : List Slot) (u : State Route) → (nobody ≡ f → ⊥) → List·Memᴰ (slot nobody s t es) (replaced f db u) → List·Memᴰ (slot nobody s t es) db
@@ -92,3 +94,22 @@ module _ (bd : Bounds) (g : Graph) (good : accepts g ≡ true) where
         owner : (f : ℕ) → (allOwners g) .Known f → List·Memᴰ f done
         owner f (inl l) = all f l
         owner f (inr z) = subst (λ x. List·Memᴰ x done) (sym z) set
+
+  -- with only some files visible: every visible one was replaced, and the slots of hidden files may hold anything
+  module _ (see : ℕ → Bool) (db : List Slot) (done : List ℕ) (b : Built bd g db done) (all : (f : ℕ) → f < g .files → see f ≡ true → List·Memᴰ f done) where
+    pub built-visible : NoAliases db → HoldsVisible see g (fileOwners g) bd db
+    built-visible none = record {
+      every = λ f r l visible p. built-every b f r (all f l (file-visible see g good f l visible)) (file-to-all g good bd Absent f r l p);
+      only = λ f s t es visible m. let y = built-only b f s t es m in ⊎-elim (λ (l : f < g .files). (l, all-to-file g good bd Absent f (record { start = s; current = t; edges = es }) l (y .1 (all f l (file-visible see g good f l visible)))))
+          (λ (z : f ≡ nobody). absurd (none s t es (subst (λ x. List·Memᴰ (slot x s t es) db) z m))) (y .0);
+    }
+
+    pub built-visible-all : List·Memᴰ nobody done → HoldsVisible see g (allOwners g) bd db
+    built-visible-all set = record {
+      every = λ f r l visible p. built-every b f r (owner f l visible) p;
+      only = λ f s t es visible m. let y = built-only b f s t es m in (y .0, y .1 (owner f (y .0) visible));
+    }
+      where
+        owner : (f : ℕ) → (allOwners g) .Known f → seesOwner see f ≡ true → List·Memᴰ f done
+        owner f (inl l) visible = all f l (file-visible see g good f l visible)
+        owner f (inr z) visible = subst (λ x. List·Memᴰ x done) (sym z) set

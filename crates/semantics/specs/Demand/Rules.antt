@@ -43,7 +43,7 @@ pub record ExactlyAll (lim : Limit) (g : View) (r : ℕ) (D S : List (List ℕ))
   pub stitched : (l : List ℕ) → (List·Memᴰ l S → ByRules lim g r l) × (ByRules lim g r l → List·Memᴰ l S)
 
 -- a path starts where it began
-all-start : (bd : Bounds) (g : View) (es : List ℕ) (p q : Path) → appendAll bd g p es ≡ ok q → q .start ≡ p .start
+pub all-start : (bd : Bounds) (g : View) (es : List ℕ) (p q : Path) → appendAll bd g p es ≡ ok q → q .start ≡ p .start
 unfolding appendAll
 all-start bd g [] p q h = ap (λ (x : Path). x .start) (sym (ok-inj p q h))
 all-start bd g (e ∷ es) p q h =

@@ -25,8 +25,8 @@ use Rattle.semantics.specs.Limits.{Bounds, slotWords}
 use Rattle.semantics.specs.Limits.Laws.{within-zero}
 use Rattle.semantics.specs.Answer.{Answer, ok, refuse, andThen}
 use Rattle.semantics.specs.Answer.Laws.{ok-inj, ok-refuse, andThen-ok}
-use Rattle.semantics.specs.Graph.{nodeId, Graph, View, viewOf, traits, isReference, isDefinition, isExported, Lawful}
-use Rattle.semantics.specs.Graph.Laws.{viewOf-lawful}
+use Rattle.semantics.specs.Graph.{nodeId, Graph, View, viewOf, traits, isReference, isDefinition, isExported, Ascending, Lawful}
+use Rattle.semantics.specs.Graph.Laws.{viewOf-lawful, consIf-ascends, ascending-same}
 use Rattle.semantics.specs.Path.{Path, appendUnder, appendAll, replay, isComplete}
 use Rattle.semantics.specs.Path.Laws.{begun, begun-incomplete, append-ok, appendUnder-ok, replay-ok, Arrival, at-root, at-jump, in-file, arrives, complete-is}
 use Rattle.semantics.specs.Enumeration.{Setting, State}
@@ -445,6 +445,17 @@ searched-reference g r m =
     let a = mem-reference (g .nodes) 0 r m in
     let z : a .0 ≡ r = omega (arith, a .1) in
     subst (λ (k : ℕ). isReference (getD (g .nodes) k N.Removed) ≡ true) z (a .2)
+
+-- they are in ascending order
+references-ascend : (ns : List Node) (i : ℕ) → Ascending (referencesFrom i ns)
+unfolding referencesFrom
+references-ascend [] i = tt
+references-ascend (n ∷ ns) i = consIf-ascends (isReference n) i (referencesFrom (suc i) ns) (λ y m. let a = mem-reference ns (suc i) y m in omega (arith, a .1)) (references-ascend ns (suc i))
+
+-- so graphs with the same references by number are searched from the same list, however many nodes they have
+pub same-references : (g h : Graph) → ((n : ℕ) → (viewOf g) .node n ≡ (viewOf h) .node n) → referencesFrom 0 (g .nodes) ≡ referencesFrom 0 (h .nodes)
+same-references g h same = ascending-same (referencesFrom 0 (g .nodes)) (referencesFrom 0 (h .nodes)) (references-ascend (g .nodes) 0) (references-ascend (h .nodes) 0)
+    (λ r m. reference-searched h r (sym (ap isReference (same r)) ∙ searched-reference g r m)) (λ r m. reference-searched g r (ap isReference (same r) ∙ searched-reference h r m))
 
 module _ (bd : Bounds) (g : Graph) (q : FindRequest) where
   abbrev waitingOf : ℕ

@@ -7,7 +7,7 @@ use mathlib.Core.Path.{_≡_, refl, sym, _∙_, ap}
 use mathlib.Core.Logic.{_⊎_, inl, inr, ⊎-elim}
 use mathlib.Core.Bool.{Bool, true, false, true≢false, false≢true}
 use mathlib.Core.Option.{some}
-use mathlib.Core.List.{List, [], _∷_, List·Memᴰ, List·Memᴰ·head, List·Memᴰ·not-nil}
+use mathlib.Core.List.{List, [], _∷_, List·Memᴰ, List·Memᴰ·head, List·Memᴰ·tail, List·Memᴰ·not-nil, List·Memᴰ·cases-cons}
 use lib.Dec.{eqb}
 use lib.ListN.{getD}
 use lib.IntN.{ℤ}
@@ -48,7 +48,7 @@ out-is n i e (E.Live s t p ∷ es) m =
     ⊎-elim (λ h. record { place = 0; target = t; precedence = p; number = h .0 ∙ sym (add-zero i); found = ap (λ x. E.Live (nodeId x) t p) (eqb-true (s .0) n (h .1)) })
     (λ k. out-later (E.Live s t p) es n i e (out-is n (suc i) e es k)) (consIf-cases (eqb (s .0) n) i e (outgoing n (suc i) es) m)
 
-consIf-ascends : (b : Bool) (x : ℕ) (l : List ℕ) → ((y : ℕ) → List·Memᴰ y l → x < y) → Ascending l → Ascending (consIf b x l)
+pub consIf-ascends : (b : Bool) (x : ℕ) (l : List ℕ) → ((y : ℕ) → List·Memᴰ y l → x < y) → Ascending l → Ascending (consIf b x l)
 consIf-ascends true x l h a = (h, a)
 consIf-ascends false x l h a = a
 
@@ -137,3 +137,22 @@ fileless-shared (N.Pop f s d) l e = absurd (false≢true e)
 fileless-shared (N.PushScoped f s a r) l e = absurd (false≢true e)
 fileless-shared (N.PopScoped f s d) l e = absurd (false≢true e)
 fileless-shared (N.DropScopes f) l e = absurd (false≢true e)
+
+-- ascending lists with the same numbers are equal
+pub ascending-same : (l m : List ℕ) → Ascending l → Ascending m → ((x : ℕ) → List·Memᴰ x l → List·Memᴰ x m) → ((x : ℕ) → List·Memᴰ x m → List·Memᴰ x l) → l ≡ m
+ascending-same [] [] a b f g = refl
+ascending-same [] (y ∷ m) a b f g = absurd (List·Memᴰ·not-nil (g y (List·Memᴰ·head refl)))
+ascending-same (x ∷ l) [] a b f g = absurd (List·Memᴰ·not-nil (f x (List·Memᴰ·head refl)))
+ascending-same (x ∷ l) (y ∷ m) a b f g = joined (ascending-same l m (a .1) (b .1) onward back)
+  where
+    heads : x ≡ y
+    heads = ⊎-elim (λ e. e) (λ k. ⊎-elim (λ (e : y ≡ x). sym e) (λ j. absurd (let p = b .0 x k in let q = a .0 y j in omega (arith, p, q))) (List·Memᴰ·cases-cons (g y (List·Memᴰ·head refl)))) (List·Memᴰ·cases-cons (f x (List·Memᴰ·head refl)))
+
+    onward : (z : ℕ) → List·Memᴰ z l → List·Memᴰ z m
+    onward z k = ⊎-elim (λ (e : z ≡ y). absurd (let p = a .0 z k in omega (arith, p, e, heads))) (λ j. j) (List·Memᴰ·cases-cons (f z (List·Memᴰ·tail k)))
+
+    back : (z : ℕ) → List·Memᴰ z m → List·Memᴰ z l
+    back z k = ⊎-elim (λ (e : z ≡ x). absurd (let p = b .0 z k in omega (arith, p, e, heads))) (λ j. j) (List·Memᴰ·cases-cons (g z (List·Memᴰ·tail k)))
+
+    joined : l ≡ m → x ∷ l ≡ y ∷ m
+    joined e = let h = heads in cc

@@ -26,17 +26,17 @@ use Rattle.semantics.specs.Path.Rules.{apply-applies, apply-fails, appen
 use Rattle.semantics.specs.Rules.{with, Applies, root, jump, scope, push, push-scoped, pop, pop-scoped, drop-scopes, Fails, removed, unknown-scope, empty, other, unexpected, missing, Steps, onto, through, Stops, unknown-edge, wrong-source, target, no-scope, lost-scope}
 
 -- every list that is attached to a symbol has the property
-abbrev Attached : (List ℕ → Type 0) → List Symbol → Type 0
+abbrev pub Attached : (List ℕ → Type 0) → List Symbol → Type 0
 Attached B [] = Unit {0}
 Attached B (x ∷ X) = ((Z : List ℕ) → x .scopes ≡ some Z → B Z) × Attached B X
 
 -- the scope stack has the one property, every attached list the other
-record Scoped (A B : List ℕ → Type 0) (S : Stacks) : Type 0 where
+pub record Scoped (A B : List ℕ → Type 0) (S : Stacks) : Type 0 where
   pub stack : A (S .scopes)
   pub lists : Attached B (S .symbols)
 
 -- how the two properties before a node lead to those after it
-record Carries (g : View) (A B A′ B′ : List ℕ → Type 0) : Type 0 where
+pub record Carries (g : View) (A B A′ B′ : List ℕ → Type 0) : Type 0 where
   pub stays : (Y : List ℕ) → A Y → A′ Y
   pub keeps : (Z : List ℕ) → B Z → B′ Z
   pub attaches : (s : ℕ) (Y : List ℕ) → isExported (g .node s) ≡ true → A Y → B′ (s ∷ Y)
@@ -72,10 +72,10 @@ module _ (g : View) (A B A′ B′ : List ℕ → Type 0) (c : Carries g A B A�
       let u : Scoped A B (with X (m ∷ Y)) = subst (Scoped A B) k s in
       record { stack = c .lands m Y (u .stack); lists = attached-keeps B B′ (c .keeps) X (u .lists) }
 
-  append-scoped : (p q : Path) (e : ℕ) → append g p e ≡ ok q → Scoped A B (p .stacks) → Scoped A′ B′ (q .stacks)
+  pub append-scoped : (p q : Path) (e : ℕ) → append g p e ≡ ok q → Scoped A B (p .stacks) → Scoped A′ B′ (q .stacks)
   append-scoped p q e h s = steps-scoped p e (q .end) (q .stacks) (append-steps g p e q h) s
 
-  begun-scoped : (r : ℕ) (p : Path) → fromReference g r ≡ ok p → A [] → Scoped A′ B′ (p .stacks)
+  pub begun-scoped : (r : ℕ) (p : Path) → fromReference g r ≡ ok p → A [] → Scoped A′ B′ (p .stacks)
   unfolding fromReference startUnless startReference
   begun-scoped r p h a = on ((traits (g .node r)) .removed) h
     where
@@ -131,11 +131,11 @@ pub attached-base : (g : View) (r : ℕ) (es : List ℕ) (q : Path) → replay b
 attached-base g r es q h x m Z e = omega (arith, attached-short base g r es q h x m Z e)
 
 -- 19 NEVER ARISES: on an accepted graph every scope on the stacks is exported
-abbrev Exported : View → List ℕ → Type 0
+abbrev pub Exported : View → List ℕ → Type 0
 Exported g [] = Unit {0}
 Exported g (s ∷ Y) = (isExported (g .node s) ≡ true) × Exported g Y
 
-exporting : (g : View) → Carries g (Exported g) (Exported g) (Exported g) (Exported g)
+pub exporting : (g : View) → Carries g (Exported g) (Exported g) (Exported g) (Exported g)
 exporting g = record { stays = λ Y h. h; keeps = λ Z h. h; attaches = λ s Y x h. (x, h); takes = λ Z h. h; clears = tt; lands = λ s Y h. h .1 }
 
 module _ (g : Graph) (good : accepts g ≡ true) (n : NodeId) where

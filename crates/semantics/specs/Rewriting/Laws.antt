@@ -32,7 +32,8 @@ use Rattle.semantics.specs.Words.{zeros}
 use Rattle.semantics.specs.Limits.{Bounds}
 use Rattle.semantics.specs.Path.{Path}
 use Rattle.semantics.specs.Enumeration.{State}
-use Rattle.semantics.specs.Calls.{Request, LinearRequest, FileRequest, checkCall, replayCall, completeCall, shadowsCall, directCall, linearCall, stitchedCall, freshCall, replaceCall}
+use Rattle.semantics.specs.Hidden.{seenImage}
+use Rattle.semantics.specs.Calls.{Request, LinearRequest, FileRequest, checkCall, replayCall, completeCall, shadowsCall, directCall, linearCall, stitchedCall, freshCall, replaceCall, aliasCall}
 use Rattle.semantics.specs.Finding.{FindRequest, findCall}
 use Rattle.semantics.specs.Calls.Refused.{IsRefused}
 use Rattle.semantics.specs.Rewriting.{Rewritten, refusedBytes, firstWide, written, writtenUnless, rewriteCall, rewriteAs, widen, narrow}
@@ -362,18 +363,19 @@ back-never-long im g len e k = on (firstWide 4 im firstRecord (g .nodes)) (sym (
     on none j = written-short 63499 (encodeImage 1 4 g) len (back-fits 1 g (image-accepted (only symbolBytes 2) im g e)) j
     on (some p) j = image-wide Image.Length p (sym j)
 
--- EVERY CALL ANSWERS THE SAME where two images hold one graph: each answer, and each word left behind
+-- EVERY CALL ANSWERS THE SAME where two images hold one graph, whatever files it may see: each answer, and each word left behind
 pub record Alike (x y : Answer ImageRefusal Graph) : Type 0 where
   pub check : checkCall x ≡ checkCall y
   pub replay : (bd : Bounds) (r : ℕ) (es : List ℕ) → replayCall bd x r es ≡ replayCall bd y r es
   pub complete : (bd : Bounds) (r : ℕ) (es : List ℕ) → completeCall bd x r es ≡ completeCall bd y r es
   pub shadows : (bd : Bounds) (l : ℕ) (ls : List ℕ) (r : ℕ) (rs : List ℕ) → shadowsCall bd x l ls r rs ≡ shadowsCall bd y l ls r rs
-  pub direct : (bd : Bounds) (reply : State Path → List Path) (q : Request) → directCall bd reply x q ≡ directCall bd reply y q
-  pub linear : (bd : Bounds) (reply : State Path → List Path) (q : LinearRequest) → linearCall bd reply x q ≡ linearCall bd reply y q
-  pub stitched : (bd : Bounds) (reply : State Path → List Path) (known : ℕ → ℕ → Bool) (words : List ℕ) (q : Request) → stitchedCall bd reply known x words q ≡ stitchedCall bd reply known y words q
-  pub find : (bd : Bounds) (q : FindRequest) → findCall bd x q ≡ findCall bd y q
+  pub direct : (bd : Bounds) (reply : State Path → List Path) (see : ℕ → Bool) (q : Request) → directCall bd reply (seenImage see x) q ≡ directCall bd reply (seenImage see y) q
+  pub linear : (bd : Bounds) (reply : State Path → List Path) (see : ℕ → Bool) (q : LinearRequest) → linearCall bd reply (seenImage see x) q ≡ linearCall bd reply (seenImage see y) q
+  pub stitched : (bd : Bounds) (reply : State Path → List Path) (known : ℕ → ℕ → Bool) (see : ℕ → Bool) (words : List ℕ) (q : Request) → stitchedCall bd reply known see (seenImage see x) words q ≡ stitchedCall bd reply known see (seenImage see y) words q
+  pub find : (bd : Bounds) (see : ℕ → Bool) (q : FindRequest) → findCall bd (seenImage see x) q ≡ findCall bd (seenImage see y) q
   pub fresh : (words : List ℕ) → freshCall x words ≡ freshCall y words
   pub replace : (bd : Bounds) (known : ℕ → ℕ → Bool) (q : FileRequest) (words : List ℕ) → replaceCall bd known x q words ≡ replaceCall bd known y q words
+  pub aliases : (bd : Bounds) (known : ℕ → ℕ → Bool) (q : FileRequest) (words : List ℕ) → aliasCall bd known x q words ≡ aliasCall bd known y q words
 
 pub alike : (x y : Answer ImageRefusal Graph) → x ≡ y → Alike x y
 alike x y e =
@@ -382,12 +384,13 @@ alike x y e =
       replay = λ bd r es. ap (λ (a : Answer ImageRefusal Graph). replayCall bd a r es) e;
       complete = λ bd r es. ap (λ (a : Answer ImageRefusal Graph). completeCall bd a r es) e;
       shadows = λ bd l ls r rs. ap (λ (a : Answer ImageRefusal Graph). shadowsCall bd a l ls r rs) e;
-      direct = λ bd reply q. ap (λ (a : Answer ImageRefusal Graph). directCall bd reply a q) e;
-      linear = λ bd reply q. ap (λ (a : Answer ImageRefusal Graph). linearCall bd reply a q) e;
-      stitched = λ bd reply known words q. ap (λ (a : Answer ImageRefusal Graph). stitchedCall bd reply known a words q) e;
-      find = λ bd q. ap (λ (a : Answer ImageRefusal Graph). findCall bd a q) e;
+      direct = λ bd reply see q. ap (λ (a : Answer ImageRefusal Graph). directCall bd reply (seenImage see a) q) e;
+      linear = λ bd reply see q. ap (λ (a : Answer ImageRefusal Graph). linearCall bd reply (seenImage see a) q) e;
+      stitched = λ bd reply known see words q. ap (λ (a : Answer ImageRefusal Graph). stitchedCall bd reply known see (seenImage see a) words q) e;
+      find = λ bd see q. ap (λ (a : Answer ImageRefusal Graph). findCall bd (seenImage see a) q) e;
       fresh = λ words. ap (λ (a : Answer ImageRefusal Graph). freshCall a words) e;
       replace = λ bd known q words. ap (λ (a : Answer ImageRefusal Graph). replaceCall bd known a q words) e;
+      aliases = λ bd known q words. ap (λ (a : Answer ImageRefusal Graph). aliasCall bd known a q words) e;
     }
 
 pub same-image : (widths : ℕ → ℕ) (from to : ℕ) (im : List ℕ) (len n : ℕ) → AllBytes im → 0 < widths to → (rewriteAs widths from to im len) .answer ≡ Rewriting.Done n

@@ -3,6 +3,7 @@
 use Prim.Native.Nat.{ℕ, suc, _+_, _-_, _<_, _≤_}
 use native.Mathlib.Omega.{arith}
 use mathlib.Core.Path.{_≡_, refl, sym, ap, subst, _∙_}
+use mathlib.Core.Bool.{Bool}
 use mathlib.Core.List.{List, map}
 use lib.ListN.{length, take, drop}
 use Rattle.semantics.specs.ReplayedPaths.{stepAt}
@@ -14,7 +15,6 @@ use Rattle.semantics.specs.Path.{Path}
 use Rattle.semantics.specs.Enumeration.{State, Try, one, each}
 use Rattle.semantics.specs.Enumeration.Statistics.{one-moved}
 use Rattle.semantics.specs.Stitching.{judgeSlot}
-use Rattle.semantics.specs.Database.{slotsIn}
 use Rattle.search_state.specs.declared.search.Search as S
 use Rattle.search_state.specs.declared.search.Going.{Going}
 use Rattle.search_state.specs.declared.search.Going.the-variants.{On, Refused}
@@ -23,9 +23,8 @@ use Rattle.search_state.specs.Progresses.{frameOf}
 use Rattle.search_state.specs.Reps.{settingOf, Rep, Tells}
 use Rattle.search_state.specs.Reps.Laws.{tells-on, tells-refused}
 use Rattle.database.specs.Records.{edgeWords}
-use Rattle.database.specs.Records.Laws.{count-slots}
-use Rattle.stitching_trial.specs.Links.{RECORDS, firstLink, nextLink, Passes, startingAt, Linked, Tryable, Each}
-use Rattle.stitching_trial.specs.Links.Laws.{readable-used, starting-length, starting-tryable, tries-are, passes-end, passes-next, left, left-less}
+use Rattle.stitching_trial.specs.Links.{RECORDS, firstLink, nextLink, Passes, startingAt, seenIn, Linked, Tryable, Each}
+use Rattle.stitching_trial.specs.Links.Laws.{readable-used, count-seen, starting-length, starting-tryable, tries-are, passes-end, passes-next, left, left-less}
 use Rattle.stitching_trial.specs.Trials.{KeptTo}
 use Rattle.search_state.specs.Items.{Clear}
 use Rattle.search_state.specs.Searches.{Clears}
@@ -33,13 +32,13 @@ use Rattle.search_state.specs.Runs.{each-one, each-stop}
 use Rattle.stitching.specs.StitchedAnswers.{triesIn}
 use Rattle.stitching.specs.Expansions.{Given, Tried, Expanded}
 
-module _ {words links : List ℕ} (linked : Linked words links) (most : ℕ) (index steps₀ item₀ : List ℕ) (k : ℕ) (s : S.Search) (ws₀ rs₀ : List ℕ) (v : Given most index steps₀ item₀ k s ws₀ rs₀) where
+module _ {see : ℕ → Bool} {words links : List ℕ} (linked : Linked see words links) (most : ℕ) (index steps₀ item₀ : List ℕ) (k : ℕ) (s : S.Search) (ws₀ rs₀ : List ℕ) (v : Given most index steps₀ item₀ k s ws₀ rs₀) where
   abbrev judgeOf : ℕ → Try SearchRefusal Path
   judgeOf i = judgeSlot base (frameOf s .limits .length) (viewOf (v .graph)) (v .path) (edgeWords base i words)
 
   -- the enumeration's answer to all of them
   abbrev wholeOf : Answer SearchRefusal (State Path)
-  wholeOf = each (settingOf (frameOf s)) (v .model) (triesIn words (frameOf s .limits .length) (viewOf (v .graph)) (v .path))
+  wholeOf = each (settingOf (frameOf s)) (v .model) (triesIn see words (frameOf s .limits .length) (viewOf (v .graph)) (v .path))
 
   -- at the head of the loop
   pub record Mid (on : S.Search) (steps item ws rs : List ℕ) (link : ℕ) : Type 0 where
@@ -58,9 +57,9 @@ module _ {words links : List ℕ} (linked : Linked words links) (most : ℕ) (in
 
   pub mid-start : {n : ℕ} → n ≡ stepAt steps₀ k .end → {link : ℕ} → link ≡ firstLink links n → Mid s steps₀ item₀ ws₀ rs₀ link
   mid-start e q =
-      let is = startingAt (v .path .end) 0 (slotsIn base words) in
+      let is = startingAt (v .path .end) 0 (seenIn see words) in
       let u = readable-used (linked .readable) in
-      let h : length is ≤ RECORDS = let l = starting-length (v .path .end) 0 (slotsIn base words) in let c = count-slots base words in omega (arith, l, c, u) in
+      let h : length is ≤ RECORDS = let l = starting-length (v .path .end) 0 (seenIn see words) in let c = count-seen see words in omega (arith, l, c, u) in
       record {
         state = v .model;
         frame = refl;
@@ -70,10 +69,10 @@ module _ {words links : List ℕ} (linked : Linked words links) (most : ℕ) (in
         kept = λ j p l t. t;
         rest = is;
         passes = subst (λ (x : ℕ). Passes links x is) (sym (q ∙ ap (firstLink links) (e ∙ v .stepped .end))) (linked .passes (v .path .end));
-        tryable = starting-tryable (linked .readable) (v .path .end);
+        tryable = starting-tryable see (linked .readable) (v .path .end);
         fewer = h;
         looked = omega (arith, v .small, h);
-        same = ap (each (settingOf (frameOf s)) (v .model)) (sym (tries-are (linked .readable) (frameOf s .limits .length) (viewOf (v .graph)) (v .path)));
+        same = ap (each (settingOf (frameOf s)) (v .model)) (sym (tries-are see (linked .readable) (frameOf s .limits .length) (viewOf (v .graph)) (v .path)));
       }
 
   module _ {on : S.Search} {steps item ws rs : List ℕ} {link : ℕ} (long : length steps ≡ length steps₀) (slot : length item ≡ length item₀) (mid : Mid on steps item ws rs link) where
@@ -132,7 +131,7 @@ module _ {words links : List ℕ} (linked : Linked words links) (most : ℕ) (in
             same = sym (each-one (settingOf (frameOf s)) (mid .state) (u .0) (judgeOf (link - 1)) (map judgeOf (r .0)) (u .1)) ∙ ap (λ (x : List ℕ). each (settingOf (frameOf s)) (mid .state) (map judgeOf x)) (sym (r .1)) ∙ mid .same;
           }
 
-      pub mid-refused : (x : SearchRefusal) → a ≡ Refused x → Expanded words most index steps₀ item₀ k s ws₀ rs₀ v a steps′ ws′ rs′
+      pub mid-refused : (x : SearchRefusal) → a ≡ Refused x → Expanded words most index steps₀ item₀ k s ws₀ rs₀ v see a steps′ ws′ rs′
       mid-refused x e =
           let u = tells-refused (viewOf (v .graph)) (v .reference) (frameOf s) a ws′ rs′ (one (settingOf (frameOf s)) (mid .state) (judgeOf (link - 1))) x told e in
           let r = passes-next links link (mid .rest) h (mid .passes) in
@@ -144,7 +143,7 @@ module _ {words links : List ℕ} (linked : Linked words links) (most : ℕ) (in
             kept = kept-on;
           }
 
-    pub mid-end : link ≤ 0 → Expanded words most index steps₀ item₀ k s ws₀ rs₀ v (On on) steps ws rs
+    pub mid-end : link ≤ 0 → Expanded words most index steps₀ item₀ k s ws₀ rs₀ v see (On on) steps ws rs
     unfolding each
     mid-end h =
         let z : link ≡ 0 = omega (arith, h) in

@@ -3,6 +3,7 @@
 use Prim.Native.Nat.{ℕ, _+_, _-_, _≤_}
 use native.Mathlib.Omega.{arith}
 use mathlib.Core.Path.{_≡_, ap, _∙_}
+use mathlib.Core.Bool.{Bool}
 use mathlib.Core.List.{List}
 use lib.ListN.{length, take, drop, getD, length-map}
 use Rattle.semantics.specs.declared.search.Limit.{Limit}
@@ -10,26 +11,24 @@ use Rattle.semantics.specs.Limits.{base}
 use Rattle.semantics.specs.Graph.{View}
 use Rattle.semantics.specs.Path.{Path}
 use Rattle.semantics.specs.Stitching.{judgeSlot}
-use Rattle.semantics.specs.Database.{slotsIn}
 use Rattle.search_state.specs.declared.search.Search as S
 use Rattle.search_state.specs.declared.search.Going.{Going}
 use Rattle.search_state.specs.Retraces.{Retraces, Retraced}
 use Rattle.database.specs.Records.{edgeWords}
-use Rattle.database.specs.Records.Laws.{count-slots}
-use Rattle.stitching_trial.specs.Links.{RECORDS, startingAt, Readable}
-use Rattle.stitching_trial.specs.Links.Laws.{readable-used, starting-length, tries-are}
+use Rattle.stitching_trial.specs.Links.{RECORDS, startingAt, seenIn, Readable}
+use Rattle.stitching_trial.specs.Links.Laws.{readable-used, count-seen, starting-length, tries-are}
 use Rattle.search_rounds.specs.Drives.{Rounding, Rounded}
 use Rattle.search_rounds.specs.Drives.Laws.{round-long, round-clear, round-count, round-held, round-traced}
 use Rattle.stitching.specs.StitchedAnswers.{triesIn}
 use Rattle.stitching.specs.Expansions.{Given, Expanded}
 
 -- an expansion looks at no more partial paths than there are slots
-pub tries-few : {words : List ℕ} → Readable words → (lim : Limit) (g : View) (p : Path) → length (triesIn words lim g p) ≤ RECORDS
-tries-few {words} r lim g p =
-    let is = startingAt (p .end) 0 (slotsIn base words) in
-    let n : length (triesIn words lim g p) ≡ length is = ap length (tries-are r lim g p) ∙ length-map is (λ i. judgeSlot base lim g p (edgeWords base i words)) in
-    let l = starting-length (p .end) 0 (slotsIn base words) in
-    let c = count-slots base words in
+pub tries-few : (see : ℕ → Bool) {words : List ℕ} → Readable words → (lim : Limit) (g : View) (p : Path) → length (triesIn see words lim g p) ≤ RECORDS
+tries-few see {words} r lim g p =
+    let is = startingAt (p .end) 0 (seenIn see words) in
+    let n : length (triesIn see words lim g p) ≡ length is = ap length (tries-are see r lim g p) ∙ length-map is (λ i. judgeSlot base lim g p (edgeWords base i words)) in
+    let l = starting-length (p .end) 0 (seenIn see words) in
+    let c = count-seen see words in
     let u = readable-used r in
     omega (arith, n, l, c, u)
 
@@ -52,7 +51,7 @@ module _ (words : List ℕ) {most : ℕ} {index steps item : List ℕ} {n : ℕ}
     small = v .small;
   }
 
-  pub rounded : {a : Going} {steps″ ws′ rs′ : List ℕ} → Expanded words most index steps′ item k s ws rs round-given a steps″ ws′ rs′ → Rounded (triesIn words) most index steps item n s ws rs v a steps″ ws′ rs′
+  pub rounded : {see : ℕ → Bool} {a : Going} {steps″ ws′ rs′ : List ℕ} → Expanded words most index steps′ item k s ws rs round-given see a steps″ ws′ rs′ → Rounded (triesIn see words) most index steps item n s ws rs v a steps″ ws′ rs′
   unfolding round-given
   rounded x =
       let l = round-traced v at steps′ t in

@@ -42,20 +42,20 @@ use Rattle.database.specs.declared.check.Inspected.{Inspected}
 use Rattle.database.specs.declared.check.Inspected.the-variants as Inspected
 use Rattle.database.specs.Checks.{inspected}
 use Rattle.database.specs.Checks.Laws.{inspected-refused, inspected-sound}
-use Rattle.stitching_trial.specs.Links.{Readable}
+use Rattle.stitching_trial.specs.Links.{seenIn, Readable}
 use Rattle.search_rounds.specs.declared.conclusion.SearchEnd.{SearchEnd}
 use Rattle.search_rounds.specs.Drives.{Ends}
 use Rattle.stitching.specs.StitchedAnswers.{stitchedOf, foundOf}
 use Rattle.search_rounds.specs.Starts.{fromStart}
 
 -- the definition starts with the path of the reference alone
-stitched-start : (g : Graph) (words : List ℕ) (q : Request) → fromStart (settingOf base q) (slotTries base (q .limits .length) (viewOf g) (slotsIn base words)) (viewOf g) (q .node) ≡ stitchedOf g words q
+stitched-start : (see : ℕ → Bool) (g : Graph) (words : List ℕ) (q : Request) → fromStart (settingOf base q) (slotTries base (q .limits .length) (viewOf g) (seenIn see words)) (viewOf g) (q .node) ≡ stitchedOf see g words q
 unfolding stitched
-stitched-start g words q = refl
+stitched-start see g words q = refl
 
 -- what the search from that path on ends in, the definition ends in
-pub stitched-ends : (g : Graph) (words : List ℕ) (q : Request) (d : SearchEnd) (rs : List ℕ) → Ends d rs (fromStart (settingOf base q) (slotTries base (q .limits .length) (viewOf g) (slotsIn base words)) (viewOf g) (q .node)) → Ends d rs (stitchedOf g words q)
-stitched-ends g words q d rs h = subst (λ (t : Answer SearchRefusal (State Path)). Ends d rs t) (stitched-start g words q) h
+pub stitched-ends : (see : ℕ → Bool) (g : Graph) (words : List ℕ) (q : Request) (d : SearchEnd) (rs : List ℕ) → Ends d rs (fromStart (settingOf base q) (slotTries base (q .limits .length) (viewOf g) (seenIn see words)) (viewOf g) (q .node)) → Ends d rs (stitchedOf see g words q)
+stitched-ends see g words q d rs h = subst (λ (t : Answer SearchRefusal (State Path)). Ends d rs t) (stitched-start see g words q) h
 
 -- ---- the kept paths replay
 
@@ -70,18 +70,18 @@ module _ (lim : Limit) (g : View) (db : List Slot) (r : ℕ) where
   leads-replayed {p} {x} e (here m) = step-replayed p x true e m
   leads-replayed {p} {x} e (on {u = y} b m l) = leads-replayed (step-replayed p y b e m) l
 
-pub kept-replays : (g : Graph) (words : List ℕ) (q : Request) (u : State Path) → stitchedOf g words q ≡ ok u → Replays base (viewOf g) (u .kept)
+pub kept-replays : (see : ℕ → Bool) (g : Graph) (words : List ℕ) (q : Request) (u : State Path) → stitchedOf see g words q ≡ ok u → Replays base (viewOf g) (u .kept)
 unfolding appendAll
-kept-replays g words q u h x m =
-    let a = stitched-ok (fileOwners g) base (q .limits .length) (settingOf base q) (viewOf g) (q .node) (slotsIn base words) u h in
-    let k = enumerate-sound (settingOf base q) (slotTries base (q .limits .length) (viewOf g) (slotsIn base words)) maxExpansions (a .0 ∷ []) u (a .2) x m in
+kept-replays see g words q u h x m =
+    let a = stitched-ok (fileOwners g) base (q .limits .length) (settingOf base q) (viewOf g) (q .node) (seenIn see words) u h in
+    let k = enumerate-sound (settingOf base q) (slotTries base (q .limits .length) (viewOf g) (seenIn see words)) maxExpansions (a .0 ∷ []) u (a .2) x m in
     (q .node, from (a .0) (a .1) (k .0) (k .1) (k .2))
   where
-    from : (p : Path) → fromReference (viewOf g) (q .node) ≡ ok p → (w : Path) → List·Memᴰ w (p ∷ []) → Leads (slotTries base (q .limits .length) (viewOf g) (slotsIn base words)) w x → replay base (viewOf g) (q .node) (x .edges) ≡ ok x
+    from : (p : Path) → fromReference (viewOf g) (q .node) ≡ ok p → (w : Path) → List·Memᴰ w (p ∷ []) → Leads (slotTries base (q .limits .length) (viewOf g) (seenIn see words)) w x → replay base (viewOf g) (q .node) (x .edges) ≡ ok x
     from p f w i l =
         let b = begun (viewOf g) (q .node) p f in
         let e : replay base (viewOf g) (q .node) (p .edges) ≡ ok p = subst (λ (y : List ℕ). replay base (viewOf g) (q .node) y ≡ ok p) (sym (b .edges)) (replay-of base (viewOf g) (q .node) [] p p f refl) in
-        ⊎-elim (λ (z : w ≡ p). leads-replayed (q .limits .length) (viewOf g) (slotsIn base words) (q .node) e (subst (λ (y : Path). Leads (slotTries base (q .limits .length) (viewOf g) (slotsIn base words)) y x) z l)) (λ (z : List·Memᴰ w []). absurd (List·Memᴰ·not-nil z)) (List·Memᴰ·cases-cons i)
+        ⊎-elim (λ (z : w ≡ p). leads-replayed (q .limits .length) (viewOf g) (seenIn see words) (q .node) e (subst (λ (y : Path). Leads (slotTries base (q .limits .length) (viewOf g) (seenIn see words)) y x) z l)) (λ (z : List·Memᴰ w []). absurd (List·Memᴰ·not-nil z)) (List·Memᴰ·cases-cons i)
 
 -- ---- the database
 
@@ -103,22 +103,22 @@ module _ (g : Graph) (words : List ℕ) {i : Inspected} (is : i ≡ inspected (c
   pub checked-readable : {index : List ℕ} → Loaded g index → i ≡ Inspected.Sound → Readable words
   checked-readable loaded e = let n = fits-graph e in record { formed = inspected-sound base knownOwners g words (sym e ∙ is) .0; nodes = omega (arith, n, loaded .nodes) }
 
-  module _ (reply : Reply) (q : Request) where
-    pub database-refused : (r : DatabaseRefusal) → i ≡ Inspected.Refused r → {ws rs : List ℕ} → ws ≡ zeros (q .work) → rs ≡ zeros (q .result) → Does (stitchedOutcome base (replyOf reply) g q (checkDatabase base knownOwners g words)) (Resolution.Database r) ws rs
+  module _ (see : ℕ → Bool) (reply : Reply) (q : Request) where
+    pub database-refused : (r : DatabaseRefusal) → i ≡ Inspected.Refused r → {ws rs : List ℕ} → ws ≡ zeros (q .work) → rs ≡ zeros (q .result) → Does (stitchedOutcome base (replyOf reply) see g q (checkDatabase base knownOwners g words)) (Resolution.Database r) ws rs
     unfolding stitchedOutcome
     database-refused r e w z = rw (inspected-refused base knownOwners g words r (sym e ∙ is)) (refl, w, z)
 
-    pub database-does : i ≡ Inspected.Sound → (a : Resolution) (ws rs : List ℕ) → Does (foundOf g words reply q) a ws rs → Does (stitchedOutcome base (replyOf reply) g q (checkDatabase base knownOwners g words)) a ws rs
+    pub database-does : i ≡ Inspected.Sound → (a : Resolution) (ws rs : List ℕ) → Does (foundOf see g words reply q) a ws rs → Does (stitchedOutcome base (replyOf reply) see g q (checkDatabase base knownOwners g words)) a ws rs
     unfolding stitchedOutcome
     database-does e a ws rs h = rw (inspected-sound base knownOwners g words (sym e ∙ is) .1) h
 
 -- ---- the image
 
-module _ (reply : Reply) (words : List ℕ) (q : Request) {y : Answer ImageRefusal Graph} where
-  pub image-refused : (x : ImageRefusal) → y ≡ refuse x → {ws rs : List ℕ} → ws ≡ zeros (q .work) → rs ≡ zeros (q .result) → Does (stitchedCall base (replyOf reply) knownOwners y words q) (Resolution.Image x) ws rs
+module _ (see : ℕ → Bool) (reply : Reply) (words : List ℕ) (q : Request) {y : Answer ImageRefusal Graph} where
+  pub image-refused : (x : ImageRefusal) → y ≡ refuse x → {ws rs : List ℕ} → ws ≡ zeros (q .work) → rs ≡ zeros (q .result) → Does (stitchedCall base (replyOf reply) knownOwners see y words q) (Resolution.Image x) ws rs
   unfolding stitchedCall
   image-refused x e w r = rw e (refl, w, r)
 
-  pub image-does : (g : Graph) → y ≡ ok g → (a : Resolution) (ws rs : List ℕ) → Does (stitchedOutcome base (replyOf reply) g q (checkDatabase base knownOwners g words)) a ws rs → Does (stitchedCall base (replyOf reply) knownOwners y words q) a ws rs
+  pub image-does : (g : Graph) → y ≡ ok g → (a : Resolution) (ws rs : List ℕ) → Does (stitchedOutcome base (replyOf reply) see g q (checkDatabase base knownOwners g words)) a ws rs → Does (stitchedCall base (replyOf reply) knownOwners see y words q) a ws rs
   unfolding stitchedCall
   image-does g e a ws rs h = rw e h

@@ -8,26 +8,28 @@ use native.Mathlib.Decide.{decLt, ℕ-discrete}
 use mathlib.Core.Path.{_≡_, refl, sym, ap, subst, _∙_}
 use mathlib.Core.Bool.{Bool, true, false}
 use mathlib.Core.List.{List, [], _∷_, map}
-use borrow.Author.Tests.{lt-ltb, le-ltb, eq-eqb, ne-eqb}
-use lib.Dec.{eqb}
-use lib.ListN.{length, getD, set, drop, length-set, length-replicate, getD-replicate, drop-of-length-le}
+use borrow.Author.Tests.{lt-ltb, le-ltb, eq-eqb, ne-eqb, ltb-true}
+use lib.Dec.{eqb, ltb}
+use lib.ListN.{length, getD, set, drop, length-set, length-map, length-replicate, getD-replicate, drop-of-length-le}
 use lib.Seq.{drop-cons, getD-set-same, getD-set-other}
 use Rattle.semantics.specs.declared.search.Limit.{Limit}
 use Rattle.semantics.specs.declared.refusal.SearchRefusal.{SearchRefusal}
-use Rattle.semantics.specs.Lists.{pick, consIf}
-use Rattle.semantics.specs.Limits.{Bounds, base}
+use Rattle.semantics.specs.Lists.{pick, and, or, consIf}
+use Rattle.semantics.specs.Lists.Laws.{and-true, or-true}
+use Rattle.semantics.specs.Limits.{Bounds, base, nobody}
 use Rattle.semantics.specs.Graph.{View}
 use Rattle.semantics.specs.Path.{Path}
 use Rattle.semantics.specs.Enumeration.{Try}
 use Rattle.semantics.specs.PartialPaths.{Slot, dead, slot}
 use Rattle.semantics.specs.Words.{zeros}
-use Rattle.semantics.specs.Database.{usedIn, knownOwners, slotsIn}
+use Rattle.semantics.specs.Database.{usedIn, filesIn, knownOwners, slotsIn}
 use Rattle.semantics.specs.Stitching.{judgeSlot, slotTries}
+use Rattle.semantics.specs.Hidden.{sees, seesOwner, slotIf, seenSlot}
 use Rattle.storage.specs.Index.{NODES}
 use Rattle.database.specs.Records.{InWords, ownerWord, startWord, endWord, edgeWords}
 use Rattle.database.specs.Records.Laws.{within, slot-dead, count-slots}
 use Rattle.database.specs.Checks.Laws.{capacity-most, formed-used, formed-whole, formed-live, formed-slot}
-use Rattle.stitching_trial.specs.Links.{RECORDS, NEXT, LINKS, cell, firstLink, nextLink, Passes, putLink, startingAt, Readable, Linking, LinkedFrom, Linked, Tryable, Each}
+use Rattle.stitching_trial.specs.Links.{RECORDS, NEXT, LINKS, cell, firstLink, nextLink, Passes, putLink, startingAt, isTried, ShowsAll, seenIn, Readable, Linking, LinkedFrom, Linked, Tryable, Each}
 
 -- ---- one word of a row
 
@@ -92,7 +94,38 @@ module _ {words : List ℕ} (r : Readable words) where
         on (yes l) = (l, same (ownerWord base i words - 1) (startWord base i words) (endWord base i words) (edgeWords base i words) (sym q ∙ readable-slot l))
         on (no l) = absurd (never (sym (slot-dead base i words h (omega (arith, l))) ∙ q))
 
+-- ---- what is seen of the slots
+
+getD-map : {A : Type 0} (f : A → A) (d : A) (l : List A) (k : ℕ) → f d ≡ d → getD (map f l) k d ≡ f (getD l k d)
+getD-map f d [] k h = sym h
+getD-map f d (x ∷ l) zero h = refl
+getD-map f d (x ∷ l) (suc k) h = getD-map f d l k h
+
+module _ (see : ℕ → Bool) where
+  pub count-seen : (words : List ℕ) → length (seenIn see words) ≡ usedIn words
+  count-seen words = length-map (slotsIn base words) (seenSlot see) ∙ count-slots base words
+
+  seen-at : (words : List ℕ) (i : ℕ) → getD (seenIn see words) i dead ≡ seenSlot see (getD (slotsIn base words) i dead)
+  unfolding seenSlot
+  seen-at words i = getD-map (seenSlot see) dead (slotsIn base words) i refl
+
+  -- a live slot that is seen is the slot itself
+  seen-is : (x : Slot) (f s e : ℕ) (es : List ℕ) → seenSlot see x ≡ slot f s e es → x ≡ slot f s e es
+  unfolding seenSlot slotIf
+  seen-is dead f s e es q = q
+  seen-is (slot g a b ds) f s e es q = on (seesOwner see g) q
+    where
+      never : dead ≡ slot f s e es → ⊥
+      never z = let y : _≡_ {A = ℕ} 0 1 = cc in omega arith
+
+      on : (x : Bool) → slotIf x (slot g a b ds) ≡ slot f s e es → slot g a b ds ≡ slot f s e es
+      on true k = k
+      on false k = absurd (never k)
+
 -- ---- the numbers of the slots that start at a node
+
+readable-seen : (see : ℕ → Bool) {words : List ℕ} → Readable words → (i : ℕ) → i < usedIn words → (f s e : ℕ) (es : List ℕ) → getD (seenIn see words) i dead ≡ slot f s e es → (0 < ownerWord base i words) × (es ≡ edgeWords base i words)
+readable-seen see {words} r i h f s e es q = readable-is r i h f s e es (seen-is see (getD (slotsIn base words) i dead) f s e es (sym (seen-at see words i) ∙ q))
 
 consIf-length : (b : Bool) (x : ℕ) (l : List ℕ) → length (consIf b x l) ≤ suc (length l)
 consIf-length true x l = omega arith
@@ -123,11 +156,11 @@ module _ (P : ℕ → Type 0) where
 starting-above : (n i : ℕ) (ss : List Slot) → Each (λ j. i ≤ j) (startingAt n i ss)
 starting-above n i ss = starting-each (λ j. i ≤ j) n i ss (λ k f s e es l q. omega arith)
 
-pub starting-tryable : {words : List ℕ} → Readable words → (n : ℕ) → Each (Tryable words) (startingAt n 0 (slotsIn base words))
-starting-tryable {words} r n = starting-each (Tryable words) n 0 (slotsIn base words) (λ k f s e es l q. subst (Tryable words) (sym (zero-add k)) (live k f s e es (omega (arith, l, count-slots base words)) q))
+pub starting-tryable : (see : ℕ → Bool) {words : List ℕ} → Readable words → (n : ℕ) → Each (Tryable words) (startingAt n 0 (seenIn see words))
+starting-tryable see {words} r n = starting-each (Tryable words) n 0 (seenIn see words) (λ k f s e es l q. subst (Tryable words) (sym (zero-add k)) (live k f s e es (omega (arith, l, count-seen see words)) q))
   where
-    live : (k f s e : ℕ) (es : List ℕ) → k < usedIn words → getD (slotsIn base words) k dead ≡ slot f s e es → Tryable words k
-    live k f s e es h q = readable-try r k h (readable-is r k h f s e es q .0)
+    live : (k f s e : ℕ) (es : List ℕ) → k < usedIn words → getD (seenIn see words) k dead ≡ slot f s e es → Tryable words k
+    live k f s e es h q = readable-try r k h (readable-seen see r k h f s e es q .0)
 
 -- ---- what is tried on a path
 
@@ -148,11 +181,11 @@ module _ (bd : Bounds) (lim : Limit) (g : View) (p : Path) (edges : ℕ → List
       ap (consIf (eqb b (p .end)) (judgeSlot bd lim g p ds)) (tries-from (suc i) ss (λ k f s e es l q. h (suc k) f s e es (omega (arith, l)) q ∙ ap edges (let z : i + suc k ≡ suc i + k = omega arith in z)))
       ∙ consIf-map (eqb b (p .end)) i (startingAt (p .end) (suc i) ss) (h zero a b c ds (omega arith) refl ∙ ap edges (add-zero i))
 
-pub tries-are : {words : List ℕ} → Readable words → (lim : Limit) (g : View) (p : Path)
-    → slotTries base lim g (slotsIn base words) p ≡ map (λ i. judgeSlot base lim g p (edgeWords base i words)) (startingAt (p .end) 0 (slotsIn base words))
-tries-are {words} r lim g p =
-    tries-from base lim g p (λ i. edgeWords base i words) 0 (slotsIn base words)
-    (λ k f s e es l q. readable-is r k (omega (arith, l, count-slots base words)) f s e es q .1 ∙ ap (λ (j : ℕ). edgeWords base j words) (sym (zero-add k)))
+pub tries-are : (see : ℕ → Bool) {words : List ℕ} → Readable words → (lim : Limit) (g : View) (p : Path)
+    → slotTries base lim g (seenIn see words) p ≡ map (λ i. judgeSlot base lim g p (edgeWords base i words)) (startingAt (p .end) 0 (seenIn see words))
+tries-are see {words} r lim g p =
+    tries-from base lim g p (λ i. edgeWords base i words) 0 (seenIn see words)
+    (λ k f s e es l q. readable-seen see r k (omega (arith, l, count-seen see words)) f s e es q .1 ∙ ap (λ (j : ℕ). edgeWords base j words) (sym (zero-add k)))
 
 -- ---- one record more is linked
 
@@ -232,17 +265,65 @@ module _ {db : List Slot} {links : List ℕ} (i : ℕ) (h : i < length db) (was 
     passes = λ n. rw (from-here, q) (passes-more links (was .long) i s k b n (startingAt n (suc i) (drop (suc i) db)) (starting-above n (suc i) (drop (suc i) db)) (behind n));
   }
 
-module _ {words : List ℕ} (links : List ℕ) (r : Readable words) (i : ℕ) (h : i < usedIn words) (was : LinkedFrom words links (i + 1)) where
-  in-slots : i < length (slotsIn base words)
-  in-slots = omega (arith, h, count-slots base words)
+-- what the first word of a record says
+pub tried-live : (see : ℕ → Bool) (w : ℕ) → isTried see w ≡ true → (0 < w) × (seesOwner see (w - 1) ≡ true)
+tried-live see w e = let a = and-true (ltb 0 w) (seesOwner see (w - 1)) e in (ltb-true 0 w (a .0), a .1)
 
-  pub linked-dead : ownerWord base i words ≤ 0 → LinkedFrom words links i
-  linked-dead e = slot-unlinked i in-slots was (slot-dead base i words h (omega (arith, e)))
+-- as the code asks it
+pub told-tried : (see : ℕ → Bool) (words : List ℕ) (i : ℕ) {w : ℕ} {b x : Bool} → w ≡ ownerWord base i words → b ≡ isTried see w → b ≡ x → isTried see (ownerWord base i words) ≡ x
+told-tried see words i e q t = ap (isTried see) (sym e) ∙ sym q ∙ t
 
-  pub linked-live : 0 < ownerWord base i words → LinkedFrom words (putLink i (startWord base i words) links) i
+pub tried-start : (see : ℕ → Bool) {words : List ℕ} (r : Readable words) (i : ℕ) → i < usedIn words → isTried see (ownerWord base i words) ≡ true → startWord base i words < NODES
+tried-start see {words} r i h e = readable-start r i h (tried-live see (ownerWord base i words) e .0)
+
+-- where no file is hidden, every owner that the words name is seen
+owner-seen : (see : ℕ → Bool) (files f : ℕ) → knownOwners files f ≡ true → ((k : ℕ) → k < files → see k ≡ true) → seesOwner see f ≡ true
+owner-seen see files f known all = on (decLt f files)
+  where
+    on : Dec (f < files) → seesOwner see f ≡ true
+    on (yes h) = rw (all f h) (or-true (eqb f nobody))
+    on (no h) = rw (sym (ap (λ (b : Bool). or b (eqb f nobody)) (le-ltb f files (omega (arith, h)))) ∙ known)
+
+pub shown : {words : List ℕ} (r : Readable words) (i : ℕ) → i < usedIn words → {hides : Bool} (visible : List ℕ) → ShowsAll hides visible words
+    → {w : ℕ} → w ≡ ownerWord base i words → hides ≡ false → 0 < w → seesOwner (sees visible) (w - 1) ≡ true
+shown {words} r i h {hides} visible all {w} e none l =
+    let v = formed-live base knownOwners words (r .formed) i (w - 1) h (sym e ∙ (let z : w ≡ suc (w - 1) = omega (arith, l) in z)) in
+    owner-seen (sees visible) (filesIn words) (w - 1) (v .named) (all none)
+
+module _ (see : ℕ → Bool) (w : ℕ) where
+  pub live-tried : 1 ≤ w → (0 < w → seesOwner see (w - 1) ≡ true) → true ≡ isTried see w
+  live-tried h all = simp (lt-ltb 0 w (omega (arith, h)), all (omega (arith, h)))
+
+  pub none-tried : w < 1 → false ≡ isTried see w
+  none-tried h = simp (le-ltb 0 w (omega (arith, h)))
+
+  pub nobody-tried : 1 ≤ w → w - 1 ≡ nobody → true ≡ isTried see w
+  nobody-tried h e = simp (lt-ltb 0 w (omega (arith, h)), eq-eqb (w - 1) nobody e)
+
+  pub file-tried : 1 ≤ w → (w - 1 ≡ nobody → ⊥) → see (w - 1) ≡ isTried see w
+  file-tried h d = simp (lt-ltb 0 w (omega (arith, h)), ne-eqb (w - 1) nobody d)
+
+module _ (see : ℕ → Bool) {words : List ℕ} (links : List ℕ) (r : Readable words) (i : ℕ) (h : i < usedIn words) (was : LinkedFrom see words links (i + 1)) where
+  in-slots : i < length (seenIn see words)
+  in-slots = omega (arith, h, count-seen see words)
+
+  pub linked-dead : isTried see (ownerWord base i words) ≡ false → LinkedFrom see words links i
+  unfolding seenSlot slotIf
+  linked-dead e = slot-unlinked i in-slots was (seen-at see words i ∙ on (decLt 0 (ownerWord base i words)))
+    where
+      on : Dec (0 < ownerWord base i words) → seenSlot see (getD (slotsIn base words) i dead) ≡ dead
+      on (no l) = ap (seenSlot see) (slot-dead base i words h (omega (arith, l)))
+      on (yes l) =
+          let z : seesOwner see (ownerWord base i words - 1) ≡ false = sym (ap (λ (b : Bool). and b (seesOwner see (ownerWord base i words - 1))) (lt-ltb 0 (ownerWord base i words) l)) ∙ e in
+          ap (seenSlot see) (readable-slot r i h l) ∙ ap (λ (b : Bool). slotIf b (slot (ownerWord base i words - 1) (startWord base i words) (endWord base i words) (edgeWords base i words))) z
+
+  pub linked-live : isTried see (ownerWord base i words) ≡ true → LinkedFrom see words (putLink i (startWord base i words) links) i
+  unfolding seenSlot slotIf
   linked-live e =
-      slot-linked i in-slots was (ownerWord base i words - 1) (startWord base i words) (endWord base i words) (edgeWords base i words) (readable-slot r i h e)
-      (omega (arith, h, readable-used r)) (readable-start r i h e)
+      let l = tried-live see (ownerWord base i words) e in
+      slot-linked i in-slots was (ownerWord base i words - 1) (startWord base i words) (endWord base i words) (edgeWords base i words)
+      (seen-at see words i ∙ ap (seenSlot see) (readable-slot r i h (l .0)) ∙ ap (λ (b : Bool). slotIf b (slot (ownerWord base i words - 1) (startWord base i words) (endWord base i words) (edgeWords base i words))) (l .1))
+      (omega (arith, h, readable-used r)) (readable-start r i h (l .0))
 
 -- ---- the loop
 
@@ -258,15 +339,15 @@ linking-none db {links} e i q = record {
     none n (yes l) = first-in links n l ∙ ap (λ (x : List ℕ). getD x n 0) e ∙ getD-replicate LINKS n 0 0 (omega (arith, l))
     none n (no l) = cell-out links 0 NODES n (omega (arith, l))
 
-pub link-start : (words : List ℕ) {links : List ℕ} → links ≡ zeros LINKS → {i : ℕ} → i ≡ usedIn words → LinkedFrom words links i
-link-start words {links} e {i} q = linking-none (slotsIn base words) e i (omega (arith, q, count-slots base words))
+pub link-start : (see : ℕ → Bool) (words : List ℕ) {links : List ℕ} → links ≡ zeros LINKS → {i : ℕ} → i ≡ usedIn words → LinkedFrom see words links i
+link-start see words {links} e {i} q = linking-none (seenIn see words) e i (omega (arith, q, count-seen see words))
 
 -- from number 0 on all are
 pub linking-all : {db : List Slot} {links : List ℕ} {i : ℕ} → i ≤ 0 → Linking db links i → (n : ℕ) → Passes links (firstLink links n) (startingAt n 0 db)
 linking-all {db} {links} {i} h k n = let z : i ≡ 0 = omega (arith, h) in subst (λ (j : ℕ). Passes links (firstLink links n) (startingAt n j (drop j db))) z (k .passes n)
 
-pub link-end : {words : List ℕ} (links : List ℕ) → Readable words → (i : ℕ) → i ≤ 0 → LinkedFrom words links i → Linked words links
-link-end {words} links r i h k = record { readable = r; long = k .long; passes = linking-all h k }
+pub link-end : (see : ℕ → Bool) {words : List ℕ} (links : List ℕ) → Readable words → (i : ℕ) → i ≤ 0 → LinkedFrom see words links i → Linked see words links
+link-end see links r i h k = record { readable = r; long = k .long; passes = linking-all h k }
 
 -- ---- following the links: 0 ends it, every other link is the next record plus 1
 

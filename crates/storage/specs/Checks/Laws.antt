@@ -3,7 +3,7 @@
 use Prim.Native.Nat.{ℕ, _<_, _≤_}
 use native.Mathlib.Omega.{arith}
 use mathlib.Core.Path.{_≡_, refl, sym, ap, _∙_, subst}
-use mathlib.Core.Bool.{Bool}
+use mathlib.Core.Bool.{Bool, true, false}
 use mathlib.Core.List.{List}
 use borrow.Author.Tests.{eq-eqb, ne-eqb}
 use lib.Dec.{eqb}
@@ -17,18 +17,21 @@ use Rattle.semantics.specs.declared.answer.Checked.the-variants as Checked
 use Rattle.semantics.specs.Calls.{checkCall}
 use Rattle.semantics.specs.Lists.{pick}
 use Rattle.semantics.specs.Answer.{Answer, ok, refuse, andThen}
-use Rattle.semantics.specs.Answer.Laws.{ok-inj, refuse-ok}
+use Rattle.semantics.specs.Acceptance.{accepts}
+use Rattle.semantics.specs.Answer.Laws.{ok-inj, refuse-ok, andThen-ok}
+use Rattle.semantics.specs.Hidden.Laws.{seen-nodes, seen-edges, seen-accepted}
+use Rattle.hiding.specs.Hiding.Whole.{edge-at}
 use Rattle.semantics.specs.Graph.{Graph, viewOf}
 use Rattle.semantics.specs.Image.{symbolBytes, widthIn, firstRecord, firstEdge, filesOf, nodesOf, edgesOf, header, nodeRecord, edgeRecord, scan, placeOf, edgeMisfit, graphOf, references, checkImage}
 use Rattle.storage.specs.Index.{Loaded}
 use Rattle.image.specs.Filling.{Held}
 use Rattle.storage.specs.Links.{Linked}
 use Rattle.storage.specs.Links.Laws.{nothing-linked}
-use Rattle.image.specs.Records.{Headed, recordsOf, graphRead}
+use Rattle.image.specs.Records.{Headed, Room, recordsOf, graphRead}
 use Rattle.image.specs.Records.Laws.{length-nodes, length-edges}
 use Rattle.storage.specs.References.{First, nodeTest, edgeTest, Sources}
 use Rattle.storage.specs.References.Laws.{nodes-fit, node-misfit, edges-fit, edge-misfit, sources-fit}
-use Rattle.storage.specs.Checks.{referencesOf}
+use Rattle.storage.specs.Checks.{referencesOf, Unlinked, shown}
 
 -- THE PARTS BEHIND ONE ANOTHER
 then-assoc : {A B C : Type 0} (x : Answer ImageRefusal A) (f : A → Answer ImageRefusal B) (h : B → Answer ImageRefusal C) → andThen x (λ a. andThen (f a) h) ≡ andThen (andThen x f) h
@@ -100,8 +103,60 @@ module _ (im : List ℕ) {n k : ℕ} (isNodes : n ≡ nodesOf im) (f : First (no
       pub sources-known : (l : List ℕ) → Held (graphRead im) l → m ≤ e → Sources l
       sources-known l k h = sources-fit (graphRead im) l k m (omega (arith, count-edges im)) (λ j b. d .before j (omega arith))
 
-pub ready : {im : List ℕ} (l : List ℕ) {m : ℕ} → Headed im → m ≡ edgesOf im → Held (graphRead im) l → Linked (graphRead im) l m
-ready {im} l {m} h e k = nothing-linked (graphRead im) l m (omega (arith, count-edges im)) (omega (arith, count-nodes im, h .nodes)) (omega (arith, count-edges im, h .edges)) k
+-- the graph of an accepted image is the one that was put into the index
+read-is : (im : List ℕ) (g : Graph) → referencesOf im ≡ ok g → graphRead im ≡ g
+read-is im g e = let x = andThen-ok (references im (graphRead im)) (λ y. ok (graphRead im)) g e in ok-inj (graphRead im) g (x .2)
+
+-- what the check leaves
+pub unlinked : (im l : List ℕ) → Headed im → Room im l → Held (graphRead im) l → ((g : Graph) → referencesOf im ≡ ok g → Sources l) → (g : Graph) → referencesOf im ≡ ok g → Unlinked g l
+unlinked im l h r k s g e =
+    subst (λ (x : Graph). Unlinked x l) (read-is im g e)
+    (record {
+      held = k;
+      sources = s g e;
+      nodes = omega (arith, count-nodes im, h .nodes);
+      edges = omega (arith, count-edges im, h .edges);
+      node-room = omega (arith, count-nodes im, r .nodes);
+      edge-room = omega (arith, count-edges im, r .edges);
+    })
+
+-- of what is shown: as many records, and accepted
+module _ (whole : Bool) (see : ℕ → Bool) (g : Graph) where
+  shown-nodes : length ((shown whole see g) .nodes) ≡ length (g .nodes)
+  shown-nodes = on whole
+    where
+      on : (b : Bool) → length ((shown b see g) .nodes) ≡ length (g .nodes)
+      on true = refl
+      on false = seen-nodes see g
+
+  pub shown-edges : length ((shown whole see g) .edges) ≡ length (g .edges)
+  shown-edges = on whole
+    where
+      on : (b : Bool) → length ((shown b see g) .edges) ≡ length (g .edges)
+      on true = refl
+      on false = seen-edges see g
+
+  shown-accepted : accepts g ≡ true → accepts (shown whole see g) ≡ true
+  shown-accepted good = on whole
+    where
+      on : (b : Bool) → accepts (shown b see g) ≡ true
+      on true = good
+      on false = seen-accepted see g good
+
+-- what is shown of it, when its hidden files are cleared
+pub unlinked-shown : {g : Graph} {l : List ℕ} (whole : Bool) (see : ℕ → Bool) (m : List ℕ) → accepts g ≡ true → Unlinked g l → length m ≡ length l → Held (shown whole see g) m → Unlinked (shown whole see g) m
+unlinked-shown {g} {l} whole see m good u n k = record {
+  held = k;
+  sources = sources-fit (shown whole see g) m k (length ((shown whole see g) .edges)) (omega arith) (λ e b. edge-at (shown whole see g) (shown-accepted whole see g good) e);
+  nodes = omega (arith, shown-nodes whole see g, u .nodes);
+  edges = omega (arith, shown-edges whole see g, u .edges);
+  node-room = omega (arith, shown-nodes whole see g, u .node-room, n);
+  edge-room = omega (arith, shown-edges whole see g, u .edge-room, n);
+}
+
+-- what linking is handed
+pub ready : {g : Graph} {l : List ℕ} {m : ℕ} → Unlinked g l → m ≡ length (g .edges) → Linked g l m
+ready {g} {l} {m} u e = nothing-linked g l m (omega arith) (u .nodes) (u .edges) (u .held)
 
 -- THE ANSWER
 pub told-refused : {x : Answer ImageRefusal Graph} (r : ImageRefusal) → x ≡ refuse r → Checked.Refused r ≡ checkCall x
@@ -117,15 +172,6 @@ told-accepted im a b c e =
     files : (graphRead im) .files ≡ filesOf im
     files = unfold graphOf in refl
 
--- an image is accepted only with the graph that was put into the index
-pub accepted-graph : (im : List ℕ) (f n m : ℕ) → Checked.Accepted f n m ≡ checkCall (referencesOf im) → (referencesOf im ≡ ok (graphRead im)) × (m ≡ edgesOf im)
-unfolding checkCall
-accepted-graph im f n m e = on (references im (graphRead im)) refl e
-  where
-    on : (x : Answer ImageRefusal ℕ) → references im (graphRead im) ≡ x → Checked.Accepted f n m ≡ checkCall (andThen x (λ y. ok (graphRead im))) → (referencesOf im ≡ ok (graphRead im)) × (m ≡ edgesOf im)
-    on (ok y) q k = (ap (λ z. andThen z (λ w. ok (graphRead im))) q, let z : m ≡ length ((graphRead im) .edges) = cc in z ∙ count-edges im)
-    on (refuse r) q k = absurd (let z : _≡_ {A = ℕ} 0 1 = cc in omega arith)
-
 -- a refused one has none
 pub refused-graph : {x : Answer ImageRefusal Graph} {a : C.Checked} (r : ImageRefusal) → a ≡ checkCall x → a ≡ Checked.Refused r → (g : Graph) → x ≡ ok g → ⊥
 unfolding checkCall
@@ -139,6 +185,6 @@ none-known r e g q = absurd (refuse-ok r g (sym e ∙ q))
 pub none-loaded : {l : List ℕ} {x : Answer ImageRefusal Graph} (r : ImageRefusal) → x ≡ refuse r → (g : Graph) → x ≡ ok g → Loaded g l
 none-loaded r e g q = absurd (refuse-ok r g (sym e ∙ q))
 
--- the graph of an accepted image is the one that was put into the index
+-- what is said of the graph that an accepted image holds
 pub one-loaded : (L : Graph → Type 0) {x : Answer ImageRefusal Graph} (h : Graph) → x ≡ ok h → L h → (g : Graph) → x ≡ ok g → L g
 one-loaded L h e k g q = subst L (ok-inj h g (sym e ∙ q)) k

@@ -1,9 +1,9 @@
 -- A record from the words of its number, and the indexes that take an image.
 -- Serves document 01, "Graph image": each word is a field of its record.
-use Prim.Native.Nat.{ℕ, zero, suc, _+_, _*_, _-_, _%_, _<_, _≤_}
+use Prim.Native.Nat.{ℕ, _+_, _*_, _-_, _%_, _<_, _≤_}
 use native.Mathlib.Omega.{arith}
 use native.Mathlib.Decide.{decLt}
-use mathlib.Core.Path.{_≡_, refl, sym, ap, _∙_, subst}
+use mathlib.Core.Path.{_≡_, refl, sym, ap, _∙_}
 use mathlib.Core.Logic.{inl, inr}
 use mathlib.Core.Bool.{Bool, true, false}
 use mathlib.Core.List.{List, [], _∷_}
@@ -13,17 +13,16 @@ use lib.Dec.{eqb, leb, ltb}
 use lib.IntN.{ℤ}
 use lib.ListN.{length, getD, replicate, length-replicate, getD-replicate, List·getD-eq-default}
 use Rattle.semantics.specs.declared.graph.NodeId.{NodeId}
-use Rattle.semantics.specs.declared.graph.Node.{Node}
 use Rattle.semantics.specs.declared.graph.Node.the-variants as N
 use Rattle.semantics.specs.declared.graph.Edge.the-variants as E
 use Rattle.semantics.specs.Bytes.{signed}
 use Rattle.semantics.specs.Lists.{pick, or, has}
 use Rattle.semantics.specs.Lists.Laws.{or-true, and-true}
-use Rattle.semantics.specs.Graph.{nodeId, fileId, fileOf, isFile, lacksFile, isReference, isDefinition, isExported, isStart, isEndpoint}
+use Rattle.semantics.specs.Graph.{nodeId, fileOf, isFile, lacksFile, isReference, isDefinition, isExported, isStart, isEndpoint}
 use Rattle.semantics.specs.Image.{firstRecord, nodesOf, edgesOf}
-pub use Rattle.image.specs.Index.Laws.{cell-out, cell-same, cell-other}
+pub use Rattle.image.specs.Index.Laws.{cell-out, cell-same, cell-other, no-kind, known-kind, by-kind}
 use Rattle.semantics.specs.Halves.{joined}
-use Rattle.storage.specs.Index.{BLOCK, KIND, FLAG, FILE, SYMBOL, SYMBOL-HIGH, SCOPE, SOURCE, TARGET, PRECEDENCE, INDEX, FEW, SMALL, cell, nodeOf, edgeOf, symbolRow, nodeRow, edgeRow, targetRow, isPlain, Fresh, Takes, isSmall}
+use Rattle.storage.specs.Index.{BLOCK, KIND, FLAG, FILE, SYMBOL, SYMBOL-HIGH, SCOPE, SOURCE, TARGET, PRECEDENCE, INDEX, FEW, SMALL, cell, nodeOf, edgeOf, nodeRow, edgeRow, targetRow, isPlain, Fresh, Takes, isSmall}
 
 -- A RECORD'S WORDS, in its block and behind the last one
 pub node-in : (l : List ℕ) (n kind : ℕ) → getD l (BLOCK * n + KIND) 0 ≡ kind
@@ -42,13 +41,6 @@ edge-in l e = refl
 pub edge-out : (l : List ℕ) (e : ℕ) → length l ≤ BLOCK * e → E.Removed ≡ edgeRow l e
 unfolding edgeRow edgeOf
 edge-out l e h = rw (cell-out l SOURCE e h)
-
--- an unknown kind is a removed node
-pub no-kind : (kind flag file symbol scope : ℕ) → (kind ≡ 1 → ⊥) → (kind ≡ 2 → ⊥) → (kind ≡ 3 → ⊥) → (kind ≡ 4 → ⊥) → (kind ≡ 5 → ⊥) → (kind ≡ 6 → ⊥) → (kind ≡ 7 → ⊥) → (kind ≡ 8 → ⊥)
-    → N.Removed ≡ nodeOf kind flag file symbol scope
-unfolding nodeOf
-no-kind kind flag file symbol scope a b c d e f g h =
-    simp (ne-eqb kind 1 a, ne-eqb kind 2 b, ne-eqb kind 3 c, ne-eqb kind 4 d, ne-eqb kind 5 e, ne-eqb kind 6 f, ne-eqb kind 7 g, ne-eqb kind 8 h)
 
 -- an edge is removed or live by its first word
 pub words-removed : (source target precedence : ℕ) → source < 1 → E.Removed ≡ edgeOf source target precedence
@@ -131,44 +123,6 @@ few-records im e h =
     let x = and-true (leb firstRecord (length im)) _ (sym e ∙ h) in
     let y = and-true (leb (nodesOf im) FEW) _ (x .1) in
     (leb-true (nodesOf im) FEW (y .0), leb-true (edgesOf im) FEW (y .1))
-
--- A NODE BY ITS KIND: what holds at each of the nine kinds, and of a removed node behind them, holds of what the words stand for
-module _ (P : ℕ → Node → Type 0) (l : List ℕ) (n : ℕ)
-    (removed : P 0 N.Removed) (root : P 1 N.Root) (jump : P 2 N.JumpToScope) (plain : P 3 (N.Scope (fileId (cell l FILE n)) (eqb (cell l FLAG n) 1)))
-    (push : P 4 (N.Push (fileId (cell l FILE n)) (symbolRow l n) (eqb (cell l FLAG n) 1)))
-    (pop : P 5 (N.Pop (fileId (cell l FILE n)) (symbolRow l n) (eqb (cell l FLAG n) 1)))
-    (pushScoped : P 6 (N.PushScoped (fileId (cell l FILE n)) (symbolRow l n) (nodeId (cell l SCOPE n)) (eqb (cell l FLAG n) 1)))
-    (popScoped : P 7 (N.PopScoped (fileId (cell l FILE n)) (symbolRow l n) (eqb (cell l FLAG n) 1)))
-    (drop : P 8 (N.DropScopes (fileId (cell l FILE n)))) where
-  abbrev Of : ℕ → Type 0
-  Of kind = P kind (nodeOf kind (cell l FLAG n) (cell l FILE n) (symbolRow l n) (cell l SCOPE n))
-
-  of-kind : (kind : ℕ) → kind < 9 → Of kind
-  unfolding nodeOf
-  of-kind zero h = removed
-  of-kind (suc zero) h = root
-  of-kind (suc (suc zero)) h = jump
-  of-kind (suc (suc (suc zero))) h = plain
-  of-kind (suc (suc (suc (suc zero)))) h = push
-  of-kind (suc (suc (suc (suc (suc zero))))) h = pop
-  of-kind (suc (suc (suc (suc (suc (suc zero)))))) h = pushScoped
-  of-kind (suc (suc (suc (suc (suc (suc (suc zero))))))) h = popScoped
-  of-kind (suc (suc (suc (suc (suc (suc (suc (suc zero)))))))) h = drop
-  of-kind (suc (suc (suc (suc (suc (suc (suc (suc (suc k))))))))) h = absurd (omega (arith, h))
-
-  pub known-kind : cell l KIND n < 9 → P (cell l KIND n) (nodeRow l n)
-  unfolding nodeRow
-  known-kind h = of-kind (cell l KIND n) h
-
-  pub by-kind : ((k : ℕ) → 9 ≤ k → P k N.Removed) → P (cell l KIND n) (nodeRow l n)
-  unfolding nodeRow
-  by-kind behind = go (cell l KIND n) (decLt (cell l KIND n) 9)
-    where
-      go : (k : ℕ) → Dec (k < 9) → Of k
-      go k (yes h) = of-kind k h
-      go k (no h) =
-          let b : 9 ≤ k = omega arith in
-          subst (P k) (no-kind k (cell l FLAG n) (cell l FILE n) (symbolRow l n) (cell l SCOPE n) (λ e. omega (arith, b, e)) (λ e. omega (arith, b, e)) (λ e. omega (arith, b, e)) (λ e. omega (arith, b, e)) (λ e. omega (arith, b, e)) (λ e. omega (arith, b, e)) (λ e. omega (arith, b, e)) (λ e. omega (arith, b, e))) (behind k b)
 
 -- is a kind among these: what the keys of a `match` say
 pub has-one : (ks : List ℕ) (k : ℕ) → OneOf ks k → has k ks ≡ true

@@ -17,6 +17,7 @@ use Rattle.semantics.specs.Lists.{pick, consIf}
 use Rattle.semantics.specs.Answer.{Answer, ok, refuse}
 use Rattle.semantics.specs.Calls.{checkCall}
 use Rattle.semantics.specs.Graph.{Graph, viewOf, outgoing}
+use Rattle.semantics.specs.Hidden.{seen, seenImage}
 use Rattle.storage.specs.Index.{EDGES, nodeRow, edgeRow, firstRow, nextRow, Runs, Loaded}
 
 -- THE RECORDS
@@ -102,3 +103,12 @@ pub answer-accepted : (x : Answer ImageRefusal Graph) {c : Checked} (files nodes
 unfolding checkCall
 answer-accepted (ok g) files nodes edges e q = record { graph = g; is = refl; file-count = cc; node-count = cc; edge-count = cc }
 answer-accepted (refuse s) files nodes edges e q = absurd (let z : _≡_ {A = ℕ} 0 1 = cc in omega arith)
+
+-- and of what a desk sees of it
+pub refused-seen : (see : ℕ → Bool) (x : Answer ImageRefusal Graph) {c : Checked} (r : ImageRefusal) → c ≡ checkCall x → c ≡ Checked.Refused r → seenImage see x ≡ refuse r
+unfolding seenImage
+refused-seen see x r e q = ap (seenImage see) (answer-refused x r e q)
+
+pub accepted-seen : (see : ℕ → Bool) {x : Answer ImageRefusal Graph} {g : Graph} → x ≡ ok g → seenImage see x ≡ ok (seen see g)
+unfolding seenImage
+accepted-seen see e = ap (seenImage see) e

@@ -28,7 +28,7 @@ returns c =
     let search-recorded2 = c .before .before .before .before .search-recorded2 in
     let c₁ = c .before .before .before .before .before .before .before .before .before .before .before .before in
     let search-recorded = c₁ .search-recorded in
-    let a = c₁ .before .before .before .before .before .before .before .before .before .before .args in
+    let a = c₁ .before .before .before .before .before .before .before .before .before .before .before .args in
     let d = search-recorded .ensures in
     let s = search-recorded2 .ensures in (
       d .0,
@@ -44,11 +44,11 @@ returns c =
                 s .1 .1,
                 (
                   λ e.
-                      calls-agree (a .image .now) (a .words .now) (requestOf (a .first) (a .waiting .now) (a .found .now) (a .reference .0))
+                      calls-agree (a .image .now) (a .visible .now) (a .words .now) (requestOf (a .first) (a .waiting .now) (a .found .now) (a .reference .0))
                       (requestOf (a .second) (a .stitching .now) (a .joined .now) (a .reference .0)) (search-recorded .result) (search-recorded2 .result)
                       (d .0) (d .1 .1) (s .0) (s .1 .1) refl e,
                   λ e.
-                      calls-agree-all (a .image .now) (a .words .now) (requestOf (a .first) (a .waiting .now) (a .found .now) (a .reference .0))
+                      calls-agree-all (a .image .now) (a .visible .now) (a .words .now) (requestOf (a .first) (a .waiting .now) (a .found .now) (a .reference .0))
                       (requestOf (a .second) (a .stitching .now) (a .joined .now) (a .reference .0)) (search-recorded .result) (search-recorded2 .result)
                       (d .0) (d .1 .1) (s .0) (s .1 .1) refl e,
                 ),

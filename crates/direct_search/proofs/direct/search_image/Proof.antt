@@ -11,7 +11,7 @@ slice-aggregate-search-in : tie.Need-slice-aggregate-search-in
 slice-aggregate-search-in c = search needs
 
 search-in-requires : tie.Need-search-in-requires
-search-in-requires c κs = small-takes (c .before .before .before .before .before .before .before .before .args .image .now) (few-records _ (c .before .before .before .before .is-small .ensures) (c .before .before .before .if1 .taken))
+search-in-requires c κs = small-takes (c .before .before .before .before .before .before .before .before .before .args .image .now) (few-records _ (c .before .before .before .before .is-small .ensures) (c .before .before .before .if1 .taken))
 
 same-length : tie.Need-same-length
 same-length c = search needs
@@ -26,7 +26,7 @@ slice-aggregate-search-in-2 : tie.Need-slice-aggregate-search-in-2
 slice-aggregate-search-in-2 c = search needs
 
 search-in-requires-2 : tie.Need-search-in-requires-2
-search-in-requires-2 c κs = large-takes (c .before .before .before .before .before .before .before .before .args .image .now)
+search-in-requires-2 c κs = large-takes (c .before .before .before .before .before .before .before .before .before .args .image .now)
 
 same-length-3 : tie.Need-same-length-3
 same-length-3 c = search needs

@@ -11,7 +11,7 @@ slice-aggregate-find-in : tie.Need-slice-aggregate-find-in
 slice-aggregate-find-in c = search needs
 
 find-in-requires : tie.Need-find-in-requires
-find-in-requires c κs = small-takes (c .before .before .before .before .before .before .before .before .args .image .now) (few-records _ (c .before .before .before .before .is-small .ensures) (c .before .before .before .if1 .taken))
+find-in-requires c κs = small-takes (c .before .before .before .before .before .before .before .before .before .args .image .now) (few-records _ (c .before .before .before .before .is-small .ensures) (c .before .before .before .if1 .taken))
 
 same-length : tie.Need-same-length
 same-length c = search needs
@@ -26,7 +26,7 @@ slice-aggregate-find-in-2 : tie.Need-slice-aggregate-find-in-2
 slice-aggregate-find-in-2 c = search needs
 
 find-in-requires-2 : tie.Need-find-in-requires-2
-find-in-requires-2 c κs = large-takes (c .before .before .before .before .before .before .before .before .args .image .now)
+find-in-requires-2 c κs = large-takes (c .before .before .before .before .before .before .before .before .before .args .image .now)
 
 same-length-3 : tie.Need-same-length-3
 same-length-3 c = search needs

@@ -1,13 +1,16 @@
 -- `finding::name::find_in`: the refusal of the image, or the name on the graph that it holds.
-use Rattle.semantics.specs.Entries.{graphIn, nameRequestOf}
-use Rattle.storage.specs.Index.Use.{answer-refused, answer-accepted}
+use mathlib.Core.Path.{sym, _∙_}
+use Rattle.semantics.specs.Entries.{graphIn, seenIn, nameRequestOf}
+use Rattle.semantics.specs.Hidden.Laws.{seen-nodes}
+use Rattle.semantics.specs.Hidden.{sees, seen}
+use Rattle.storage.specs.Index.Use.{answer-accepted, refused-seen, accepted-seen}
 use Rattle.finding.specs.Names.Laws.{image-refused, image-does}
 use borrow.Author.Needs.{needs}
 use Rattle.finding.proofs.name.find_in.Statement.{statement}
 use Rattle.finding.proofs.name.find_in.Tie as tie
 
-load-fresh-requires : tie.Need-load-fresh-requires
-load-fresh-requires c κs = search needs
+load-seen-requires : tie.Need-load-seen-requires
+load-seen-requires c κs = search needs
 
 enum-known-r : tie.Need-enum-known-r
 enum-known-r c = search needs
@@ -24,11 +27,11 @@ enum-known-nodes c = search needs
 find-loaded-requires : tie.Need-find-loaded-requires
 find-loaded-requires c κs =
     let nodes = c .before .before .before .before .nodes in
-    let load-fresh = c .before .before .before .before .before .before .before .before .load-fresh in
-    let a = c .before .before .before .before .before .before .before .before .before .before .before .before .before .before .args in
+    let load-seen = c .before .before .before .before .before .before .before .before .load-seen in
+    let a = c .before .before .before .before .before .before .before .before .before .before .before .before .before .before .before .args in
     let z = answer-accepted (graphIn (a .image .now)) (nodes .given .0 .0) (nodes .given .0 .1 .0) (nodes .given .0 .1 .1 .0)
-    (load-fresh .ensures .0) (nodes .given .1) in
-    record { holds = record { graph = z .graph; loaded = load-fresh .ensures .1 (z .graph) (z .is) }; node-count = z .node-count }
+    (load-seen .ensures .0) (nodes .given .1) in
+    record { holds = record { graph = seen (sees (a .visible .now)) (z .graph); loaded = load-seen .ensures .1 (z .graph) (z .is) }; node-count = z .node-count ∙ sym (seen-nodes (sees (a .visible .now)) (z .graph)) }
 
 same-length : tie.Need-same-length
 same-length c = search needs
@@ -44,10 +47,10 @@ returns c =
     let zero2 = c .before .before .zero2 in
     let zero = c .before .before .before .before .before .before .zero in
     let r = c .before .before .before .before .before .before .before .before .before .r in
-    let load-fresh = c .before .before .before .before .before .before .before .before .before .before .before .before .before .load-fresh in
-    let a = c .before .before .before .before .before .before .before .before .before .before .before .before .before .before .before .before .before .before .before .args in
-    image-refused (nameRequestOf (a .limit) (a .work .now) (a .result .now) (a .node)) (graphIn (a .image .now)) (r .given .0 .0)
-    (answer-refused (graphIn (a .image .now)) (r .given .0 .0) (load-fresh .ensures .0) (r .given .1)) (zero .last .0)
+    let load-seen = c .before .before .before .before .before .before .before .before .before .before .before .before .before .load-seen in
+    let a = c .before .before .before .before .before .before .before .before .before .before .before .before .before .before .before .before .before .before .before .before .args in
+    image-refused (nameRequestOf (a .limit) (a .work .now) (a .result .now) (a .node)) (seenIn (a .image .now) (a .visible .now)) (r .given .0 .0)
+    (refused-seen (sees (a .visible .now)) (graphIn (a .image .now)) (r .given .0 .0) (load-seen .ensures .0) (r .given .1)) (zero .last .0)
     (zero2 .last .0) (zero .ensures) (zero2 .ensures)
 
 same-length-4 : tie.Need-same-length-4
@@ -63,19 +66,20 @@ returns-2 : tie.Need-returns-2
 returns-2 c =
     let find-loaded = c .before .before .before .before .find-loaded in
     let nodes = c .before .before .before .before .before .before .before .before .before .nodes in
-    let load-fresh = c .before .before .before .before .before .before .before .before .before .before .before .before .before .load-fresh in
-    let a = c .before .before .before .before .before .before .before .before .before .before .before .before .before .before .before .before .before .before .before .args in
+    let load-seen = c .before .before .before .before .before .before .before .before .before .before .before .before .before .load-seen in
+    let a = c .before .before .before .before .before .before .before .before .before .before .before .before .before .before .before .before .before .before .before .before .args in
     let z = answer-accepted (graphIn (a .image .now)) (nodes .given .0 .0) (nodes .given .0 .1 .0) (nodes .given .0 .1 .1 .0)
-    (load-fresh .ensures .0) (nodes .given .1) in
-    image-does (nameRequestOf (a .limit) (a .work .now) (a .result .now) (a .node)) (graphIn (a .image .now)) (z .graph) (z .is) (find-loaded .result)
+    (load-seen .ensures .0) (nodes .given .1) in
+    let see = sees (a .visible .now) in
+    image-does (nameRequestOf (a .limit) (a .work .now) (a .result .now) (a .node)) (seenIn (a .image .now) (a .visible .now)) (seen see (z .graph)) (accepted-seen see (z .is)) (find-loaded .result)
     (find-loaded .last .1 .1 .1 .1 .0) (find-loaded .last .1 .1 .1 .1 .1 .0)
-    (find-loaded .ensures (z .graph) (load-fresh .ensures .1 (z .graph) (z .is)) (z .node-count))
+    (find-loaded .ensures (seen see (z .graph)) (load-seen .ensures .1 (z .graph) (z .is)) (z .node-count ∙ sym (seen-nodes see (z .graph))))
 
 pub find-in-spec : {M : Type 1} → statement M
 find-in-spec =
     tie.close
     (tie.spec
-    load-fresh-requires
+    load-seen-requires
     enum-known-r
     zero-requires
     zero-requires-2

@@ -8,7 +8,7 @@ slice-aggregate-search-in : tie.Need-slice-aggregate-search-in
 slice-aggregate-search-in c = search needs
 
 search-in-requires : tie.Need-search-in-requires
-search-in-requires c κs = large-takes (c .before .before .before .before .args .image .now)
+search-in-requires c κs = large-takes (c .before .before .before .before .before .args .image .now)
 
 same-length : tie.Need-same-length
 same-length c = search needs

@@ -37,14 +37,14 @@ returns c =
     let c₁ = c .before .before .before .before .before .before .before .before .before in
     let found = c₁ .find-name .ensures in
     let l = c₁ .before .before .before .length .ensures in
-    let a = c₁ .before .before .before .before .before .before .before .before .before .args in (
+    let a = c₁ .before .before .before .before .before .before .before .before .before .before .args in (
       c .before .before .write .ensures
           ∙ ap (λ (ns : List ℕ). written (length (a .answer .now)) ns) (c .before .before .before .before .of-finding .ensures
           ∙ found .0
-          ∙ ap (λ (most : Limit). toldFinding (findName (a .image .now) (a .node) most (a .work .now) (a .result .now) .answer)) l),
+          ∙ ap (λ (most : Limit). toldFinding (findName (a .image .now) (a .visible .now) (a .node) most (a .work .now) (a .result .now) .answer)) l),
       (
-        found .1 .0 ∙ ap (λ (most : Limit). findName (a .image .now) (a .node) most (a .work .now) (a .result .now) .work) l,
-        found .1 .1 ∙ ap (λ (most : Limit). findName (a .image .now) (a .node) most (a .work .now) (a .result .now) .result) l,
+        found .1 .0 ∙ ap (λ (most : Limit). findName (a .image .now) (a .visible .now) (a .node) most (a .work .now) (a .result .now) .work) l,
+        found .1 .1 ∙ ap (λ (most : Limit). findName (a .image .now) (a .visible .now) (a .node) most (a .work .now) (a .result .now) .result) l,
       ),
     )
 

@@ -4,7 +4,7 @@ use mathlib.Core.List.{List}
 use Prim.Native.Nat.{ℕ}
 use lib.ListN.{length}
 use Rattle.semantics.specs.Asked.{limitsAsked}
-use Rattle.semantics.specs.Entries.{graphIn, linearRequestOf}
+use Rattle.semantics.specs.Entries.{seenIn, linearRequestOf}
 use Rattle.semantics.specs.Written.{written}
 use Rattle.semantics.specs.declared.answer.LinearResolution.{LinearResolution}
 use Rattle.semantics.specs.declared.search.SearchLimits.{SearchLimits}
@@ -20,7 +20,7 @@ limits-requires : tie.Need-limits-requires
 limits-requires c κs = search needs
 
 search-small-requires : tie.Need-search-small-requires
-search-small-requires c κs = c .before .before .before .before .before .before .pre
+search-small-requires c κs = c .before .before .before .before .before .before .before .pre
 
 of-linear-requires : tie.Need-of-linear-requires
 of-linear-requires c κs = search needs
@@ -39,15 +39,15 @@ returns c =
     let search-small = c .before .before .before .before .before .before .before .search-small in
     let c₁ = c .before .before .before .before .before .before .before .before .before in
     let limits = c₁ .limits in
-    let a = c₁ .before .before .before .before .before .args in
+    let a = c₁ .before .before .before .before .before .before .args in
     let s = search-small .ensures in
     let e : linearRequestOf (limits .result) (a .result .now) (a .reference) ≡ linearRequestOf (limitsAsked (a .asked .now)) (a .result .now) (a .reference) = ap
     (λ (l : SearchLimits). linearRequestOf l (a .result .now) (a .reference)) (limits .ensures) in (
       c .before .before .write .ensures
           ∙ ap (λ (l : List ℕ). written (length (a .answer .now)) l) (c .before .before .before .before .of-linear .ensures
           ∙ ap (λ (x : LinearResolution). toldLinearResolution x) (s .0)
-          ∙ ap (λ (q : LinearRequest). toldLinearResolution (linearCall base (replyOf (a .reply)) (graphIn (a .image .now)) q .answer)) e),
-      s .1 ∙ ap (λ (q : LinearRequest). linearCall base (replyOf (a .reply)) (graphIn (a .image .now)) q .result) e,
+          ∙ ap (λ (q : LinearRequest). toldLinearResolution (linearCall base (replyOf (a .reply)) (seenIn (a .image .now) (a .visible .now)) q .answer)) e),
+      s .1 ∙ ap (λ (q : LinearRequest). linearCall base (replyOf (a .reply)) (seenIn (a .image .now) (a .visible .now)) q .result) e,
     )
 
 pub linear-small-spec : {M : Type 1} → statement M

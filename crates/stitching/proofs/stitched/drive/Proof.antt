@@ -1,5 +1,6 @@
-use Prim.Native.Nat.{_-_}
+use Prim.Native.Nat.{ℕ, _-_}
 use native.Mathlib.Omega.{arith}
+use mathlib.Core.Bool.{Bool}
 use mathlib.Core.Path.{_≡_, refl, _∙_}
 use lib.ListN.{length, getD}
 use Rattle.semantics.specs.Limits.{maxExpansions}
@@ -19,14 +20,14 @@ Inv-loop index words links steps₀ item₀ work₀ result₀ on₀ laid₀ step
     × (length item ≡ length item₀)
     × (length work ≡ length work₀)
     × (length result ≡ length result₀)
-    × ((d : Linked words links) (v : Driving index steps₀ item₀ on₀ work₀ result₀)
-    → Turning (triesIn words) v (λ lim q. tries-few (d .readable) lim (viewOf (v .graph)) q) on steps item work result laid)
+    × ((see : ℕ → Bool) (d : Linked see words links) (v : Driving index steps₀ item₀ on₀ work₀ result₀)
+    → Turning (triesIn see words) v (λ lim q. tries-few see (d .readable) lim (viewOf (v .graph)) q) on steps item work result laid)
 
 abbrev μ-loop : tie.MeasureT-loop
 μ-loop index words links steps₀ item₀ work₀ result₀ on₀ laid₀ steps item work result on laid = maxExpansions - on .state .budget .expanded
 
 loop-holds : tie.Need-loop-holds Inv-loop μ-loop
-loop-holds c = let a = c .before .before .before .before .before .before .before .args in (refl, refl, refl, refl, λ d v. turn-start (triesIn (a .words .now)) v (λ lim q. tries-few (d .readable) lim (viewOf (v .graph)) q))
+loop-holds c = let a = c .before .before .before .before .before .before .before .args in (refl, refl, refl, refl, λ see d v. turn-start (triesIn see (a .words .now)) v (λ lim q. tries-few see (d .readable) lim (viewOf (v .graph)) q))
 
 take-requires : tie.Need-take-requires Inv-loop μ-loop
 take-requires c κs =
@@ -34,7 +35,7 @@ take-requires c κs =
     let c₁ = c .before .before .before .before .before .before .before .before .before .before in
     let a = c₁ .args in
     let p = c₁ .pre in
-    let t = l .inv .4 (p .0) (p .1) in
+    let t = l .inv .4 (p .0 .see) (p .0 .linked) (p .1) in
     record {
       framed = t .stood .stands .0 .framed;
       short = t .stood .sized .wider .longer;
@@ -66,8 +67,8 @@ returns c =
     let c₂ = c₁ .before .before .before .before .before .before .before .before in
     let a = c₂ .args in
     let p = c₂ .pre in
-    λ v.
-    turn-over (triesIn (a .words .now)) v (λ lim q. tries-few ((p .0) .readable) lim (viewOf (v .graph)) q) (l .inv .0) (l .inv .4 (p .0) v)
+    λ see d v.
+    turn-over (triesIn see (a .words .now)) v (λ lim q. tries-few see (d .readable) lim (viewOf (v .graph)) q) (l .inv .0) (l .inv .4 see d v)
     (take .ensures) (c .before .finished .given .0 .0) (c .before .finished .given .1)
 
 enum-told : tie.Need-enum-told Inv-loop μ-loop
@@ -92,8 +93,8 @@ returns-2 c =
     let c₂ = c₁ .before .before .before .before .before .before .before .before in
     let a = c₂ .args in
     let p = c₂ .pre in
-    λ v.
-    turn-many (triesIn (a .words .now)) v (λ lim q. tries-few ((p .0) .readable) lim (viewOf (v .graph)) q) (l .inv .0) (l .inv .4 (p .0) v)
+    λ see d v.
+    turn-many (triesIn see (a .words .now)) v (λ lim q. tries-few see (d .readable) lim (viewOf (v .graph)) q) (l .inv .0) (l .inv .4 see d v)
     (c .before .before .before .before .before .before .take .ensures) (c .enum-told .given .1)
 
 enum-known-next : tie.Need-enum-known-next Inv-loop μ-loop
@@ -117,8 +118,8 @@ cast-k c =
     let c₂ = c₁ .before .before .before .before .before .before .before .before .before .before .before in
     let a = c₂ .args in
     let p = c₂ .pre in
-    let h = round-short (turn-given (triesIn (a .words .now)) (p .1) (λ lim q. tries-few ((p .0) .readable) lim (viewOf ((p .1) .graph)) q)
-    (l .inv .0) (l .inv .4 (p .0) (p .1)) (take .ensures) (c .before .before .next .given .0 .0) (c .before .before .next .given .1))
+    let h = round-short (turn-given (triesIn (p .0 .see) (a .words .now)) (p .1) (λ lim q. tries-few (p .0 .see) (p .0 .linked .readable) lim (viewOf ((p .1) .graph)) q)
+    (l .inv .0) (l .inv .4 (p .0 .see) (p .0 .linked) (p .1)) (take .ensures) (c .before .before .next .given .0 .0) (c .before .before .next .given .1))
     {k = getD (take .last .1 .1 .0) 0 0} refl in
     omega (arith, h)
 
@@ -132,8 +133,8 @@ round-requires c κs =
     let a = c₂ .args in
     let p = c₂ .pre in (
       p .0,
-      turn-given (triesIn (a .words .now)) (p .1) (λ lim q. tries-few ((p .0) .readable) lim (viewOf ((p .1) .graph)) q) (l .inv .0)
-          (l .inv .4 (p .0) (p .1)) (take .ensures) (next .given .0 .0) (next .given .1),
+      turn-given (triesIn (p .0 .see) (a .words .now)) (p .1) (λ lim q. tries-few (p .0 .see) (p .0 .linked .readable) lim (viewOf ((p .1) .graph)) q) (l .inv .0)
+          (l .inv .4 (p .0 .see) (p .0 .linked) (p .1)) (take .ensures) (next .given .0 .0) (next .given .1),
     )
 
 enum-known-s : tie.Need-enum-known-s Inv-loop μ-loop
@@ -150,10 +151,10 @@ loop-less c =
     let c₃ = c₂ .before .before .before .before .before .before .before .before .before .before .before in
     let a = c₃ .args in
     let p = c₃ .pre in
-    let h = turn-counts (triesIn (a .words .now)) (p .1) (λ lim q. tries-few ((p .0) .readable) lim (viewOf ((p .1) .graph)) q) (l .inv .0)
-    (l .inv .4 (p .0) (p .1)) (take .ensures) (next .given .0 .0) (next .given .1)
-    (round .ensures .0 (turn-given (triesIn (a .words .now)) (p .1) (λ lim q. tries-few ((p .0) .readable) lim (viewOf ((p .1) .graph)) q) (l .inv .0)
-    (l .inv .4 (p .0) (p .1)) (take .ensures) (next .given .0 .0) (next .given .1))) (c .before .s .given .0 .0) (c .before .s .given .1) in
+    let h = turn-counts (triesIn (p .0 .see) (a .words .now)) (p .1) (λ lim q. tries-few (p .0 .see) (p .0 .linked .readable) lim (viewOf ((p .1) .graph)) q) (l .inv .0)
+    (l .inv .4 (p .0 .see) (p .0 .linked) (p .1)) (take .ensures) (next .given .0 .0) (next .given .1)
+    (round .ensures .0 (p .0 .see) (p .0 .linked) (turn-given (triesIn (p .0 .see) (a .words .now)) (p .1) (λ lim q. tries-few (p .0 .see) (p .0 .linked .readable) lim (viewOf ((p .1) .graph)) q) (l .inv .0)
+    (l .inv .4 (p .0 .see) (p .0 .linked) (p .1)) (take .ensures) (next .given .0 .0) (next .given .1))) (c .before .s .given .0 .0) (c .before .s .given .1) in
     omega (arith, h .0, h .1)
 
 loop-again : tie.Need-loop-again Inv-loop μ-loop
@@ -169,11 +170,11 @@ loop-again c =
       round .kept .1 .1 .1 .1 .0 ∙ take .kept .1 .1 .0 ∙ l .inv .1,
       round .kept .1 .1 .1 .1 .1 .1 .1 .0 ∙ take .kept .1 .0 ∙ l .inv .2,
       round .kept .1 .1 .1 .1 .1 .1 .1 .1 .0 ∙ l .inv .3,
-      λ d v.
-          let given = turn-given (triesIn (a .words .now)) v (λ lim q. tries-few (d .readable) lim (viewOf (v .graph)) q) (l .inv .0) (l .inv .4 d v)
+      λ see d v.
+          let given = turn-given (triesIn see (a .words .now)) v (λ lim q. tries-few see (d .readable) lim (viewOf (v .graph)) q) (l .inv .0) (l .inv .4 see d v)
           (take .ensures) (next .given .0 .0) (next .given .1) in
-          turn-again (triesIn (a .words .now)) v (λ lim q. tries-few (d .readable) lim (viewOf (v .graph)) q) (l .inv .0) (l .inv .4 d v) (take .ensures)
-          (next .given .0 .0) (next .given .1) (round .ensures .0 given) (c .before .s .given .0 .0) (c .before .s .given .1) (round .last .1 .1 .1 .1 .0)
+          turn-again (triesIn see (a .words .now)) v (λ lim q. tries-few see (d .readable) lim (viewOf (v .graph)) q) (l .inv .0) (l .inv .4 see d v) (take .ensures)
+          (next .given .0 .0) (next .given .1) (round .ensures .0 see d given) (c .before .s .given .0 .0) (c .before .s .given .1) (round .last .1 .1 .1 .1 .0)
           (round .ensures .1 given) {k = getD (take .last .1 .1 .0) 0 0} refl,
     )
 
@@ -223,10 +224,10 @@ returns-3 c =
     let c₃ = c₂ .before .before .before .before .before .before .before .before .before .before .before in
     let a = c₃ .args in
     let p = c₃ .pre in
-    λ v.
-    turn-refused (triesIn (a .words .now)) v (λ lim q. tries-few ((p .0) .readable) lim (viewOf (v .graph)) q) (l .inv .0) (l .inv .4 (p .0) v)
-    (take .ensures) (next .given .0 .0) (next .given .1) (round .ensures .0
-    (turn-given (triesIn (a .words .now)) v (λ lim q. tries-few ((p .0) .readable) lim (viewOf (v .graph)) q) (l .inv .0) (l .inv .4 (p .0) v)
+    λ see d v.
+    turn-refused (triesIn see (a .words .now)) v (λ lim q. tries-few see (d .readable) lim (viewOf (v .graph)) q) (l .inv .0) (l .inv .4 see d v)
+    (take .ensures) (next .given .0 .0) (next .given .1) (round .ensures .0 see d
+    (turn-given (triesIn see (a .words .now)) v (λ lim q. tries-few see (d .readable) lim (viewOf (v .graph)) q) (l .inv .0) (l .inv .4 see d v)
     (take .ensures) (next .given .0 .0) (next .given .1))) (c .before .r .given .0 .0) (c .before .r .given .1)
 
 pub drive-spec : {M : Type 1} → statement M

@@ -1,5 +1,6 @@
 use Prim.Native.Nat.{ℕ, _<_}
 use native.Mathlib.Omega.{arith}
+use mathlib.Core.Bool.{Bool}
 use mathlib.Core.Path.{_≡_, refl, sym, ap, subst, _∙_}
 use lib.ListN.{length}
 use Rattle.semantics.specs.Limits.{lookedBefore, lookedEver}
@@ -21,7 +22,7 @@ Inv-loop index words links steps₀ item₀ k work₀ result₀ on₀ link₀ st
     × (length item ≡ length item₀)
     × (length work ≡ length work₀)
     × (length result ≡ length result₀)
-    × ((d : Linked words links) (v : Given lookedBefore index steps₀ item₀ k on₀ work₀ result₀)
+    × ((see : ℕ → Bool) (d : Linked see words links) (v : Given lookedBefore index steps₀ item₀ k on₀ work₀ result₀)
     → Mid d lookedBefore index steps₀ item₀ k on₀ work₀ result₀ v on steps item work result link)
 
 abbrev μ-loop : tie.MeasureT-loop
@@ -36,7 +37,7 @@ get-step-requires c κs =
     omega (arith, h, p .1 .long)
 
 first-requires : tie.Need-first-requires Inv-loop μ-loop
-first-requires c κs = let p = c .before .before .before .before .before .before .before .before .before .pre in p .0 .long
+first-requires c κs = let p = c .before .before .before .before .before .before .before .before .before .pre in p .0 .linked .long
 
 loop-holds : tie.Need-loop-holds Inv-loop μ-loop
 loop-holds c =
@@ -45,7 +46,7 @@ loop-holds c =
       refl,
       refl,
       refl,
-      λ d v.
+      λ see d v.
           mid-start d lookedBefore (a .index .now) (a .steps .now) (a .item .now) (a .k) (a .search) (a .work .now) (a .result .now) v
           (ap (λ (s : Step). s .end) (c .before .get-step .ensures)) (c .first .ensures),
     )
@@ -59,8 +60,8 @@ cast-i c =
     let c₁ = c .before .before .before .before .before .before .before .before .before .before .before .before in
     let a = c₁ .args in
     let p = c₁ .pre in
-    let h = mid-tryable (p .0) lookedBefore (a .index .now) (a .steps .now) (a .item .now) (a .k) (a .search) (a .work .now) (a .result .now) (p .1)
-    (l .inv .0) (l .inv .1) (l .inv .4 (p .0) (p .1)) (omega (arith, c .loop-test .taken)) .known in
+    let h = mid-tryable (p .0 .linked) lookedBefore (a .index .now) (a .steps .now) (a .item .now) (a .k) (a .search) (a .work .now) (a .result .now) (p .1)
+    (l .inv .0) (l .inv .1) (l .inv .4 (p .0 .see) (p .0 .linked) (p .1)) (omega (arith, c .loop-test .taken)) .known in
     omega (arith, h)
 
 try-partial-requires : tie.Need-try-partial-requires Inv-loop μ-loop
@@ -69,10 +70,10 @@ try-partial-requires c κs =
     let c₁ = c .before .before .before .before .before .before .before .before .before .before .before .before .before .before .before .before in
     let a = c₁ .args in
     let p = c₁ .pre in (
-      mid-tryable (p .0) lookedBefore (a .index .now) (a .steps .now) (a .item .now) (a .k) (a .search) (a .work .now) (a .result .now) (p .1)
-          (l .inv .0) (l .inv .1) (l .inv .4 (p .0) (p .1)) (omega (arith, c .before .before .before .before .loop-test .taken)),
-      mid-given (p .0) lookedBefore (a .index .now) (a .steps .now) (a .item .now) (a .k) (a .search) (a .work .now) (a .result .now) (p .1)
-          (l .inv .0) (l .inv .1) (l .inv .4 (p .0) (p .1)) lookedEver (omega arith),
+      mid-tryable (p .0 .linked) lookedBefore (a .index .now) (a .steps .now) (a .item .now) (a .k) (a .search) (a .work .now) (a .result .now) (p .1)
+          (l .inv .0) (l .inv .1) (l .inv .4 (p .0 .see) (p .0 .linked) (p .1)) (omega (arith, c .before .before .before .before .loop-test .taken)),
+      mid-given (p .0 .linked) lookedBefore (a .index .now) (a .steps .now) (a .item .now) (a .k) (a .search) (a .work .now) (a .result .now) (p .1)
+          (l .inv .0) (l .inv .1) (l .inv .4 (p .0 .see) (p .0 .linked) (p .1)) lookedEver (omega arith),
     )
 
 enum-known-going : tie.Need-enum-known-going Inv-loop μ-loop
@@ -102,11 +103,11 @@ returns c =
     let c₂ = c₁ .before .before .before .before .before .before .before .before .before .before .before .before .before .before .before .before .before in
     let a = c₂ .args in
     let p = c₂ .pre in (
-      λ v.
-          mid-refused (p .0) lookedBefore (a .index .now) (a .steps .now) (a .item .now) (a .k) (a .search) (a .work .now) (a .result .now) v (l .inv .0)
-          (l .inv .1) (l .inv .4 (p .0) v) (omega (arith, loop-test .taken)) (omega arith)
-          ((try-partial .ensures) (mid-given (p .0) lookedBefore (a .index .now) (a .steps .now) (a .item .now) (a .k) (a .search) (a .work .now)
-          (a .result .now) v (l .inv .0) (l .inv .1) (l .inv .4 (p .0) v) lookedEver (omega arith))) (c .enum-told .given .0 .0) (c .enum-told .given .1),
+      λ see d v.
+          mid-refused d lookedBefore (a .index .now) (a .steps .now) (a .item .now) (a .k) (a .search) (a .work .now) (a .result .now) v (l .inv .0)
+          (l .inv .1) (l .inv .4 see d v) (omega (arith, loop-test .taken)) (omega arith)
+          ((try-partial .ensures) (mid-given d lookedBefore (a .index .now) (a .steps .now) (a .item .now) (a .k) (a .search) (a .work .now)
+          (a .result .now) v (l .inv .0) (l .inv .1) (l .inv .4 see d v) lookedEver (omega arith))) (c .enum-told .given .0 .0) (c .enum-told .given .1),
       λ v. subst (λ (g : Going). Clears g (try-partial .last .1 .1 .1 .0)) (sym (c .enum-told .given .1)) tt,
     )
 
@@ -118,9 +119,9 @@ next-requires c κs =
     let c₂ = c₁ .before .before .before .before .before .before .before .before .before .before .before .before in
     let a = c₂ .args in
     let p = c₂ .pre in (
-      p .0 .long,
-      mid-tryable (p .0) lookedBefore (a .index .now) (a .steps .now) (a .item .now) (a .k) (a .search) (a .work .now) (a .result .now) (p .1)
-          (l .inv .0) (l .inv .1) (l .inv .4 (p .0) (p .1)) (omega (arith, loop-test .taken)) .known,
+      p .0 .linked .long,
+      mid-tryable (p .0 .linked) lookedBefore (a .index .now) (a .steps .now) (a .item .now) (a .k) (a .search) (a .work .now) (a .result .now) (p .1)
+          (l .inv .0) (l .inv .1) (l .inv .4 (p .0 .see) (p .0 .linked) (p .1)) (omega (arith, loop-test .taken)) .known,
     )
 
 loop-less : tie.Need-loop-less Inv-loop μ-loop
@@ -132,8 +133,8 @@ loop-less c =
     let a = c₂ .args in
     let p = c₂ .pre in
     subst (λ (n : ℕ). left (a .links .now) n < left (a .links .now) (l .link)) (sym (c .next .ensures))
-    (mid-less (p .0) lookedBefore (a .index .now) (a .steps .now) (a .item .now) (a .k) (a .search) (a .work .now) (a .result .now) (p .1) (l .inv .0)
-    (l .inv .1) (l .inv .4 (p .0) (p .1)) (omega (arith, loop-test .taken)))
+    (mid-less (p .0 .linked) lookedBefore (a .index .now) (a .steps .now) (a .item .now) (a .k) (a .search) (a .work .now) (a .result .now) (p .1) (l .inv .0)
+    (l .inv .1) (l .inv .4 (p .0 .see) (p .0 .linked) (p .1)) (omega (arith, loop-test .taken)))
 
 loop-again : tie.Need-loop-again Inv-loop μ-loop
 loop-again c =
@@ -148,11 +149,11 @@ loop-again c =
       try-partial .kept .1 .1 .1 .0 ∙ l .inv .1,
       try-partial .kept .1 .1 .1 .1 .1 .1 .1 .0 ∙ l .inv .2,
       try-partial .kept .1 .1 .1 .1 .1 .1 .1 .1 .0 ∙ l .inv .3,
-      λ d v.
+      λ see d v.
           mid-again d lookedBefore (a .index .now) (a .steps .now) (a .item .now) (a .k) (a .search) (a .work .now) (a .result .now) v (l .inv .0)
-          (l .inv .1) (l .inv .4 d v) (omega (arith, loop-test .taken)) (omega arith)
+          (l .inv .1) (l .inv .4 see d v) (omega (arith, loop-test .taken)) (omega arith)
           ((try-partial .ensures) (mid-given d lookedBefore (a .index .now) (a .steps .now) (a .item .now) (a .k) (a .search) (a .work .now)
-          (a .result .now) v (l .inv .0) (l .inv .1) (l .inv .4 d v) lookedEver (omega arith))) (c .before .before .going .given .0 .0)
+          (a .result .now) v (l .inv .0) (l .inv .1) (l .inv .4 see d v) lookedEver (omega arith))) (c .before .before .going .given .0 .0)
           (c .before .before .going .given .1) (c .next .ensures),
     )
 
@@ -174,10 +175,10 @@ returns-2 c =
     let c₁ = c .before .before .before .before .before .before .before .before .before .before .before .before in
     let a = c₁ .args in
     let p = c₁ .pre in (
-      λ v.
-          mid-end (p .0) lookedBefore (a .index .now) (a .steps .now) (a .item .now) (a .k) (a .search) (a .work .now) (a .result .now) v (l .inv .0)
-          (l .inv .1) (l .inv .4 (p .0) v) (omega (arith, c .loop-test .left)),
-      λ v. l .inv .4 (p .0) v .clear,
+      λ see d v.
+          mid-end d lookedBefore (a .index .now) (a .steps .now) (a .item .now) (a .k) (a .search) (a .work .now) (a .result .now) v (l .inv .0)
+          (l .inv .1) (l .inv .4 see d v) (omega (arith, c .loop-test .left)),
+      λ v. l .inv .4 (p .0 .see) (p .0 .linked) v .clear,
     )
 
 pub expand-spec : {M : Type 1} → statement M

@@ -60,9 +60,9 @@ returns c =
     let expand = c₁ .expand in
     let retrace = c₁ .before .before .before .before .before .before .before .retrace in
     let a = c₁ .before .before .before .before .before .before .before .before .before .before .before .before .before .before .before .before .before .before .before .args in (
-      λ v.
+      λ see d v.
           rounded (a .words .now) v refl (retrace .last .1 .0) (retrace .kept .1 .0) (retrace .ensures)
-          (expand .ensures .0
+          (expand .ensures .0 see d
           (round-given (a .words .now) v {k = getD (a .item .now) 0 0} refl (retrace .last .1 .0) (retrace .kept .1 .0) (retrace .ensures))),
       λ v.
           expand .ensures .1

@@ -1,4 +1,5 @@
 use Rattle.semantics.specs.Entries.{requestOf}
+use Rattle.semantics.specs.Hidden.{sees}
 use Rattle.stitching.specs.StitchedAnswers.Laws.{checked-readable, database-refused, database-does}
 use borrow.Author.Needs.{needs}
 use Rattle.stitching.proofs.stitched.search_database.Statement.{statement}
@@ -22,8 +23,8 @@ enum-told c = search needs
 search-loaded-requires : tie.Need-search-loaded-requires
 search-loaded-requires c κs =
     let c₁ = c .before .before .before .before .before .before .before .before .before in
-    let a = c₁ .args in
-    let p = c₁ .pre in (
+    let a = c₁ .before .args in
+    let p = c₁ .before .pre in (
       p .holds,
       checked-readable (p .holds .graph) (a .words .now)
           (c .before .before .before .before .check .ensures (p .holds .graph) (p .node-count) (p .file-count)) (p .holds .loaded)
@@ -41,9 +42,9 @@ returns c =
     let c₁ = c .before .before .before .before .before .before .before .before .before in
     let r = c₁ .r in
     let check = c₁ .before .before .check in
-    let a = c₁ .before .before .before .before .before .before .before .args in
+    let a = c₁ .before .before .before .before .before .before .before .before .args in
     λ g l j n f.
-    database-refused g (a .words .now) (check .ensures g n f) (a .reply)
+    database-refused g (a .words .now) (check .ensures g n f) (sees (a .visible .now)) (a .reply)
     (requestOf (a .order) (a .limits) (a .work .now) (a .result .now) (a .reference)) (r .given .0 .0) (r .given .1)
     (c .before .before .before .before .before .before .zero .ensures) (c .before .before .zero2 .ensures)
 
@@ -59,11 +60,11 @@ returns-2 c =
     let enum-told′ = c .before .before .before .before .before .before .before .enum-told in
     let c₁ = c .before .before .before .before .before .before .before .before .before in
     let check = c₁ .check in
-    let a = c₁ .before .before .before .before .before .args in
+    let a = c₁ .before .before .before .before .before .before .args in
     λ g l j n f.
-    database-does g (a .words .now) (check .ensures g n f) (a .reply)
+    database-does g (a .words .now) (check .ensures g n f) (sees (a .visible .now)) (a .reply)
     (requestOf (a .order) (a .limits) (a .work .now) (a .result .now) (a .reference)) (enum-told′ .given .1) (search-loaded .result)
-    (search-loaded .last .1 .1 .1 .1 .1 .1 .0) (search-loaded .last .1 .1 .1 .1 .1 .1 .1 .0) (search-loaded .ensures g l j)
+    (search-loaded .last .1 .1 .1 .1 .1 .1 .1 .0) (search-loaded .last .1 .1 .1 .1 .1 .1 .1 .1 .0) (search-loaded .ensures g l j)
 
 pub search-database-spec : {M : Type 1} → statement M
 search-database-spec =

@@ -6,7 +6,7 @@ use Rattle.semantics.specs.Calls.{checkCall}
 use Rattle.semantics.specs.Image.{firstRecord}
 use Rattle.image.specs.Records.Laws.{headed}
 use Rattle.image.specs.Reached.{answerOf}
-use Rattle.storage.specs.Checks.Laws.{bad-record, left-over, by-references, told-refused, none-loaded}
+use Rattle.storage.specs.Checks.Laws.{bad-record, left-over, by-references, unlinked, told-refused, none-known}
 use Rattle.storage.proofs.check.read.Statement.{statement}
 use Rattle.storage.proofs.check.read.Tie as tie
 
@@ -30,12 +30,12 @@ returns c =
     let e = left-over im (p .0) (c .before .before .last .given .0 .0)
     (sym (c .before .before .before .before .before .before .records .ensures .0) ∙ ap answerOf (c .before .before .last .given .1))
     (c .if1 .taken) in
-    (told-refused _ e, none-loaded _ e)
+    (told-refused _ e, λ g q. none-known _ e g q)
 
-refer-requires : tie.Need-refer-requires
-refer-requires c κs =
-    let p = c .before .before .before .before .before .before .before .before .before .before .before .pre in let h = headed (c .before .before .before .before .before .before .before .before .before .before .before .args .image .now) firstRecord (p .0) .0 in let r = p .1 .room h in
-    (h, (c .before .before .before .before .before .before .before .records .ensures .1 _ (c .before .before .before .last .given .1), record { nodes = omega (arith, r .nodes); edges = omega (arith, r .edges) }))
+judge-references-requires : tie.Need-judge-references-requires
+judge-references-requires c κs =
+    let p = c .before .before .before .before .before .before .before .before .before .before .before .pre in
+    (headed (c .before .before .before .before .before .before .before .before .before .before .before .args .image .now) firstRecord (p .0) .0, c .before .before .before .before .before .before .before .records .ensures .1 _ (c .before .before .before .last .given .1))
 
 enum-known-r : tie.Need-enum-known-r
 enum-known-r c = search needs
@@ -45,15 +45,18 @@ same-length-2 c = search needs
 
 returns-2 : tie.Need-returns-2
 returns-2 c =
-    let last = c .before .before .before .before .before .before .last in
-    let c₁ = c .before .before .before .before .before .before .before .before .before .before in
-    let records = c₁ .records in
-    let a = c₁ .before .before .before .before .args in
-    let p = c₁ .before .before .before .before .pre in
+    let last = c .before .before .before .before .last in
+    let records = c .before .before .before .before .before .before .before .before .records in
+    let judged = c .judge-references in
+    let a = c .before .before .before .before .before .before .before .before .before .before .before .before .args in
+    let p = c .before .before .before .before .before .before .before .before .before .before .before .before .pre in
     let im = a .image .now in
-    let e = by-references im (p .0) (last .given .0 .0) (sym (records .ensures .0) ∙ ap answerOf (last .given .1))
-    (c .before .before .before .before .if1 .left) in
-    (c .before .before .refer .ensures .0 ∙ ap checkCall (sym e), λ g q. c .before .before .refer .ensures .1 g (sym e ∙ q))
+    let h = headed im firstRecord (p .0) .0 in
+    let r = p .1 .room h in
+    let e = by-references im (p .0) (last .given .0 .0) (sym (records .ensures .0) ∙ ap answerOf (last .given .1)) (c .before .before .if1 .left) in (
+      judged .ensures .0 ∙ ap checkCall (sym e),
+      λ g q. unlinked im (records .last .1 .0) h (record { nodes = omega (arith, r .nodes, records .kept .1 .0); edges = omega (arith, r .edges, records .kept .1 .0) }) (records .ensures .1 _ (last .given .1)) (judged .ensures .1) g (sym e ∙ q),
+    )
 
 same-length-3 : tie.Need-same-length-3
 same-length-3 c = search needs
@@ -62,7 +65,7 @@ returns-3 : tie.Need-returns-3
 returns-3 c =
     let im = c .before .before .before .before .before .before .before .before .before .args .image .now in
     let e = bad-record im (c .before .before .before .before .before .before .before .before .before .pre .0) (c .before .r .given .0 .0) (sym (c .before .before .before .before .before .records .ensures .0) ∙ ap answerOf (c .before .r .given .1)) in
-    (told-refused _ e, none-loaded _ e)
+    (told-refused _ e, λ g q. none-known _ e g q)
 
 pub read-spec : {M : Type 1} → statement M
 read-spec =
@@ -72,7 +75,7 @@ read-spec =
     enum-known-last
     same-length
     returns
-    refer-requires
+    judge-references-requires
     enum-known-r
     same-length-2
     returns-2

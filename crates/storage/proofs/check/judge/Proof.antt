@@ -1,13 +1,13 @@
--- `storage::check::load_fresh`: a header that goes on stands in front of the first record.
+-- `storage::check::judge`: a header that goes on stands in front of the first record.
 use borrow.Author.Needs.{needs}
 use mathlib.Core.Path.{_≡_, sym, ap, _∙_}
 use Rattle.semantics.specs.Answer.{ok}
 use Rattle.semantics.specs.Image.{symbolBytes, header}
 use Rattle.image.specs.Records.Laws.{headed}
 use Rattle.image.specs.Reached.{answerOf}
-use Rattle.storage.specs.Checks.Laws.{bad-header, told-refused, none-loaded}
-use Rattle.storage.proofs.check.load_fresh.Statement.{statement}
-use Rattle.storage.proofs.check.load_fresh.Tie as tie
+use Rattle.storage.specs.Checks.Laws.{bad-header, told-refused, none-known}
+use Rattle.storage.proofs.check.judge.Statement.{statement}
+use Rattle.storage.proofs.check.judge.Tie as tie
 
 header-requires : tie.Need-header-requires
 header-requires c κs = search needs
@@ -34,9 +34,9 @@ returns-2 : tie.Need-returns-2
 returns-2 c =
     let im = c .before .before .before .before .before .before .args .image .now in
     let e = bad-header im (c .before .r .given .0 .0) (sym (c .before .before .before .header .ensures) ∙ ap answerOf (c .before .r .given .1)) in
-    (told-refused _ e, none-loaded _ e)
+    (told-refused _ e, λ g q. none-known _ e g q)
 
-pub load-fresh-spec : {M : Type 1} → statement M
-load-fresh-spec =
+pub judge-spec : {M : Type 1} → statement M
+judge-spec =
     tie.close
     (tie.spec header-requires enum-told read-requires enum-known-r same-length returns returns-2)
