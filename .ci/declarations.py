@@ -32,9 +32,15 @@ def passed(parameters):
     return given
 
 
+def exports():
+    """What each exported function is passed, by its name; and what is wrong with an export."""
+    functions = [f for _, _, functions in crates(TOP) for f in functions if f.exported]
+    wrong = [f"{f.name} has a result" for f in functions if f.result]
+    return {f.name: passed(f.parameters) for f in functions}, wrong
+
+
 def main():
-    exported = {f.name: passed(f.parameters) for _, _, functions in crates(TOP) for f in functions if f.exported}
-    wrong = [f"{name} has a result" for _, _, fs in crates(TOP) for f in fs if f.exported and f.result for name in [f.name]]
+    exported, wrong = exports()
     for path in FILES:
         text = re.sub(r"//[^\n]*", "", path.read_text())
         declared = {name: split(plain(given)) for name, given in DECLARED.findall(text)}

@@ -11,6 +11,9 @@ ROOT=$(dirname "$HERE")
 IMAGES=${1:-$ROOT/../shared/bench}
 SOURCE=${2:-$ROOT/../shared/docs/src}
 
+[ "$IMAGES" = own ] || [ -d "$IMAGES" ] || { echo "no images in $IMAGES: name a folder that has them, or 'own'" >&2; exit 1; }
+POZHDAGHI_LIB_DIR= "$ROOT/oracle/lacks.sh" "$SOURCE"
+
 mkdir -p "$ROOT/target"
 if [ "$IMAGES" = own ]; then
     IMAGES=$ROOT/target/bench-images

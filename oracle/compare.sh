@@ -10,8 +10,10 @@ set -euo pipefail
 HERE=$(dirname "$(realpath "$0")")
 ROOT=$(dirname "$HERE")
 OUT=$ROOT/target/compare
+GIVEN=${GIVEN:-$ROOT/../shared/docs/src}
 
-"$HERE/build.sh" "${GIVEN:-$ROOT/../shared/docs/src}" "$ROOT/target/oracle"
+"$HERE/lacks.sh" "$GIVEN" "POZHDAGHI_LIB_DIR with the folder of a proved libpozhdaghi.a"
+"$HERE/build.sh" "$GIVEN" "$ROOT/target/oracle"
 if [ -z "${POZHDAGHI_LIB_DIR:-}" ]; then
     (cd "$ROOT" && rt staticlib pozhdaghi)
     export POZHDAGHI_LIB_DIR=$ROOT/target/staticlib

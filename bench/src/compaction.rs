@@ -2,7 +2,7 @@
 //! ones in several places, and fewer records, to show that time follows their number.
 
 use crate::report::{best_of, timed};
-use pozhdaghi::{DATABASE_HEAD, MOST_EDGES, PAIR_WORDS, RECORD_WORDS, compact};
+use pozhdaghi::{DATABASE_HEAD, DatabaseMut, MOST_EDGES, Moves, RECORD_WORDS};
 use std::hint::black_box;
 
 const RECORDS: usize = 4_096;
@@ -39,12 +39,13 @@ fn database(records: usize, is_dead: fn(usize, usize) -> bool) -> Vec<u32> {
 fn compare_one(records: usize, &(name, is_dead): &Dead) {
     let before = database(records, is_dead);
     let (mut words, mut copy) = (before.clone(), before.clone());
-    let mut list = vec![0; PAIR_WORDS * records];
+    let mut list = vec![0; Moves::words(records)];
     let [compacted, twice] = best_of([
         &mut || {
             words.copy_from_slice(&before);
             timed(|| {
-                let live = compact(black_box(&mut words), black_box(&mut list));
+                let mut moves = Moves::lend(black_box(&mut list));
+                let live = DatabaseMut::lend(black_box(&mut words)).compact(&mut moves);
                 assert!(live.is_ok());
             })
         },

@@ -2,7 +2,9 @@
 //! the new one has, and of as many as the old one has.
 
 use crate::report::{best_of, timed};
-use pozhdaghi::{DATABASE_HEAD, FORMER_RECORD_WORDS, MOST_EDGES, RECORD_WORDS, convert};
+use pozhdaghi::{
+    DATABASE_HEAD, DatabaseMut, FORMER_RECORD_WORDS, Former, MOST_EDGES, RECORD_WORDS,
+};
 use std::hint::black_box;
 
 const RECORDS: usize = 4_096;
@@ -23,16 +25,21 @@ fn former(edges: usize, some_dead: bool) -> Vec<u32> {
     old
 }
 
+fn convert(old: &[u32], new: &mut [u32]) {
+    let converted = Former::lend(old).convert(&mut DatabaseMut::lend(new));
+    converted.expect("not refused");
+}
+
 /// A line for each kind of database.
 pub fn compare() {
     for (edges, some_dead) in [(1, false), (8, false), (8, true), (MOST_EDGES, false)] {
         let old = former(edges, some_dead);
         let mut new = vec![7; DATABASE_HEAD + RECORD_WORDS * RECORDS];
         let (mut small, mut large) = (new.clone(), old.clone());
-        convert(&old, &mut new).expect("not refused");
+        convert(&old, &mut new);
         assert_eq!(new[..DATABASE_HEAD], old[..DATABASE_HEAD]);
         let [converted, least, most] = best_of([
-            &mut || timed(|| convert(&old, black_box(&mut new)).expect("not refused")),
+            &mut || timed(|| convert(&old, black_box(&mut new))),
             &mut || {
                 timed(|| {
                     black_box(&mut small)

@@ -5,7 +5,7 @@
 use crate::Job;
 use crate::report::{best_of, timed};
 use crate::settings::Settings;
-use pozhdaghi::{Refusal, Resolution, SLOT_WORDS, Visible};
+use pozhdaghi::{Image, NodeId, Refusal, Resolution, Results, Visible, Work};
 use std::cell::RefCell;
 
 /// Slots of both areas: zeroing them is in both times alike.
@@ -67,14 +67,14 @@ struct Desk<'a> {
 }
 
 impl Desk<'_> {
-    fn search(&mut self, bytes: &[u8], visible: Visible) -> Vec<Result<Resolution, Refusal>> {
+    fn search(&mut self, image: Image, visible: Visible) -> Vec<Result<Resolution, Refusal>> {
         let request = self.settings.request(Job::Direct);
-        let (work, result) = (&mut self.work, &mut self.result);
-        let searched = self
-            .references
-            .iter()
-            .map(|&reference| pozhdaghi::direct(bytes, visible, reference, &request, work, result));
-        searched.collect()
+        let mut work = Work::lend(&mut self.work);
+        let mut results = Results::lend(&mut self.result);
+        let references = self.references.iter().copied().map(NodeId);
+        references
+            .map(|node| image.direct(visible, node, &request, &mut work, &mut results))
+            .collect()
     }
 }
 
@@ -91,14 +91,16 @@ pub fn compare(name: &str, bytes: &[u8], settings: &Settings) -> bool {
     let desk = RefCell::new(Desk {
         settings,
         references,
-        work: vec![0; SLOTS * SLOT_WORDS],
-        result: vec![0; SLOTS * SLOT_WORDS],
+        work: vec![0; Work::words(SLOTS)],
+        result: vec![0; Results::words(SLOTS)],
     });
-    let run = |bytes: &[u8], visible| desk.borrow_mut().search(bytes, visible);
-    let agreed = run(bytes, visible) == run(&plain, Visible::All);
+    let [image, plain] =
+        [bytes, &plain].map(|bytes| Image::check(bytes).expect("the image is accepted"));
+    let run = |image, visible| desk.borrow_mut().search(image, visible);
+    let agreed = run(image, visible) == run(plain, Visible::All);
     let [half, removed, checked] = best_of([
-        &mut || timed(|| drop(run(bytes, visible))),
-        &mut || timed(|| drop(run(&plain, Visible::All))),
+        &mut || timed(|| drop(run(image, visible))),
+        &mut || timed(|| drop(run(plain, Visible::All))),
         &mut || timed(|| crate::ours::check(bytes, calls)),
     ]);
     println!(

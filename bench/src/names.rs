@@ -5,7 +5,7 @@
 use crate::ours;
 use crate::report::{best_of, timed};
 use crate::settings::Settings;
-use pozhdaghi::{Limits, Request, SLOT_WORDS, Visible, find_name};
+use pozhdaghi::{Image, Limits, NodeId, Refusal, Request, Results, SLOT_WORDS, Visible, Work};
 use std::cell::RefCell;
 
 /// So many definitions of an image are named, spread over all of them.
@@ -13,7 +13,7 @@ const MOST_NAMED: usize = 16;
 const MOST_SLOTS: usize = 65_536;
 
 struct Names<'a> {
-    bytes: &'a [u8],
+    image: Image<'a>,
     settings: &'a Settings,
     definitions: Vec<u32>,
     work: Vec<u32>,
@@ -60,7 +60,7 @@ impl<'a> Names<'a> {
         let apart = settings.definitions.len().div_ceil(MOST_NAMED).max(1);
         let definitions = settings.definitions.iter().copied().step_by(apart);
         let mut names = Names {
-            bytes,
+            image: Image::check(bytes).expect("the image is accepted"),
             settings,
             definitions: definitions.collect(),
             work: Vec::new(),
@@ -99,8 +99,8 @@ impl<'a> Names<'a> {
         let given = std::env::var("SLOTS").ok();
         let mut slots = given.map_or(1, |slots| slots.parse().expect("SLOTS is a number"));
         loop {
-            self.work = vec![0; slots * SLOT_WORDS];
-            self.result = vec![0; slots * SLOT_WORDS];
+            self.work = vec![0; Work::words(slots)];
+            self.result = vec![0; Results::words(slots)];
             let definitions = self.definitions.clone();
             let mut each = definitions.iter();
             if slots >= MOST_SLOTS || each.all(|&node| self.name(node).is_ok()) {
@@ -110,23 +110,41 @@ impl<'a> Names<'a> {
         }
     }
 
-    fn name(&mut self, node: u32) -> Result<Option<u32>, pozhdaghi::Refusal> {
+    fn name(&mut self, node: u32) -> Result<Option<u32>, Refusal> {
+        self.named(node, |_| ())
+            .map(|name| name.map(|(reference, ())| reference))
+    }
+
+    /// The reference of a name, and what is read from its results.
+    fn named<T>(
+        &mut self,
+        node: u32,
+        read: impl FnOnce(&Results) -> T,
+    ) -> Result<Option<(u32, T)>, Refusal> {
         let length = self.settings.search.length;
-        find_name(
-            self.bytes,
-            Visible::All,
-            node,
-            length,
-            &mut self.work,
-            &mut self.result,
-        )
+        let mut work = Work::lend(&mut self.work);
+        let mut results = Results::lend(&mut self.result);
+        let (image, node) = (self.image, NodeId(node));
+        let name = image.find_name(Visible::All, node, length, &mut work, &mut results)?;
+        Ok(name.map(|reference| (reference.0, read(&results))))
     }
 
     fn record(&mut self, reference: u32) -> bool {
+        self.recorded(reference, |_| ()).is_ok()
+    }
+
+    /// What is read from the results of a recorded search.
+    fn recorded<T>(
+        &mut self,
+        reference: u32,
+        read: impl FnOnce(&Results) -> T,
+    ) -> Result<T, Refusal> {
         let request = self.request();
-        let (work, result) = (&mut self.work, &mut self.result);
-        pozhdaghi::direct_recorded(self.bytes, Visible::All, reference, &request, work, result)
-            .is_ok()
+        let mut work = Work::lend(&mut self.work);
+        let mut results = Results::lend(&mut self.result);
+        let (image, reference) = (self.image, NodeId(reference));
+        image.direct_recorded(Visible::All, reference, &request, &mut work, &mut results)?;
+        Ok(read(&results))
     }
 
     /// For each definition the references that are searched for its name.
@@ -148,24 +166,28 @@ impl<'a> Names<'a> {
     fn agrees(&mut self, searched: &[Vec<u32>]) -> bool {
         let definitions = self.definitions.clone();
         definitions.iter().zip(searched).all(|(&node, references)| {
-            let named = self.name(node);
-            let slot = pozhdaghi::paths(&self.result).next().map(<[u32]>::to_vec);
-            let first = references.iter().find_map(|&reference| {
-                self.record(reference);
-                let ends_there = |edges: &&[u32]| {
-                    let path = pozhdaghi::replay(self.bytes, reference, edges);
-                    path.is_ok_and(|path| path.end == node)
-                };
-                let path = pozhdaghi::paths(&self.result).find(ends_there);
-                path.map(|edges| (reference, edges.to_vec()))
+            let image = self.image;
+            let named = self.named(node, |results| {
+                results.paths().next().map(|path| path.edges().to_vec())
             });
-            named == Ok(first.as_ref().map(|name| name.0)) && slot == first.map(|name| name.1)
+            let first = references.iter().find_map(|&reference| {
+                let ends_there = |path: &pozhdaghi::Path| {
+                    let path = image.replay(NodeId(reference), path.edges());
+                    path.is_ok_and(|path| path.end == NodeId(node))
+                };
+                let path = self.recorded(reference, |results| {
+                    let path = results.paths().find(ends_there);
+                    path.map(|path| path.edges().to_vec())
+                });
+                path.ok().flatten().map(|edges| (reference, Some(edges)))
+            });
+            named == Ok(first)
         })
     }
 
     /// All names, as many checks, all their searches, as many checks.
     fn times(&mut self, searched: &[Vec<u32>], searches: usize) -> [f64; 4] {
-        let (bytes, calls) = (self.bytes, self.definitions.len());
+        let (bytes, calls) = (self.image.bytes(), self.definitions.len());
         let names = RefCell::new(self);
         best_of([
             &mut || timed(|| names.borrow_mut().name_all()),

@@ -4,15 +4,16 @@
 
 use crate::settings::Settings;
 use crate::{Job, Told};
-use pozhdaghi::{DATABASE_HEAD, RECORD_WORDS, Refusal, SLOT_WORDS, Visible};
+use pozhdaghi::{
+    Database, DatabaseMut, FileId, Image, MOST_RECORDS, NodeId, Refusal, Results, Visible, Work,
+};
 use std::time::{Duration, Instant};
 
-const MAX_RECORDS: usize = 4_096;
 const MOST_SLOTS: usize = 65_536;
 pub const TOO_LONG: u64 = 30;
 
 pub struct Ours<'a> {
-    bytes: &'a [u8],
+    image: Image<'a>,
     settings: &'a Settings,
     words: Vec<u32>,
     work: Vec<u32>,
@@ -24,7 +25,7 @@ pub struct Ours<'a> {
 /// The image checked so many times.
 pub fn check(bytes: &[u8], times: usize) {
     for _ in 0..times {
-        std::hint::black_box(pozhdaghi::check(bytes)).expect("the image is accepted");
+        std::hint::black_box(Image::check(bytes)).expect("the image is accepted");
     }
 }
 
@@ -34,7 +35,7 @@ pub fn too_long(told: &[Told]) -> usize {
 }
 
 fn refusal(refusal: Refusal) -> Told {
-    vec![refusal.number, refusal.values[0]]
+    vec![refusal.number(), refusal.values()[0]]
 }
 
 fn resolution(found: Result<pozhdaghi::Resolution, Refusal>) -> Told {
@@ -71,9 +72,9 @@ impl<'a> Ours<'a> {
     /// The database is filed here, for the stitched search.
     pub fn new(bytes: &'a [u8], settings: &'a Settings) -> Ours<'a> {
         let mut ours = Ours {
-            bytes,
+            image: Image::check(bytes).expect("the image is accepted"),
             settings,
-            words: vec![0; DATABASE_HEAD + MAX_RECORDS * RECORD_WORDS],
+            words: vec![0; DatabaseMut::words(MOST_RECORDS)],
             work: Vec::new(),
             result: Vec::new(),
             unfiled: 0,
@@ -83,8 +84,8 @@ impl<'a> Ours<'a> {
         ours.unfiled = too_long(&told);
         // Words behind the used ones would be cleared before every run of the
         // replacement, and what the caches hold of a small job with them.
-        let used = ours.words[0] as usize;
-        ours.words.truncate(DATABASE_HEAD + used * RECORD_WORDS);
+        let used = Database::lend(&ours.words).used();
+        ours.words.truncate(DatabaseMut::words(used));
         ours
     }
 
@@ -124,49 +125,29 @@ impl<'a> Ours<'a> {
     pub fn run(&mut self, job: Job, slots: usize) -> (Duration, Vec<Told>) {
         let request = self.settings.request(job);
         // Lent again in every run, as a service would keep them.
-        let lent = slots * SLOT_WORDS;
+        let lent = Work::words(slots);
         self.work.resize(self.work.len().max(lent), 0);
         self.result.resize(self.result.len().max(lent), 0);
+        let mut work = Work::lend_slots(&mut self.work, slots);
+        let mut results = Results::lend_slots(&mut self.result, slots);
+        let (image, all) = (self.image, Visible::All);
+        let mut database = DatabaseMut::lend(&mut self.words);
         if job == Job::Replace {
-            pozhdaghi::fresh(self.bytes, &mut self.words).expect("the words are enough");
+            database.fresh(image).expect("the words are enough");
         }
         let mut told = Vec::with_capacity(self.settings.calls(job));
         let start = Instant::now();
         for call in 0..self.settings.calls(job) {
-            let at = self.settings.references.get(call).copied().unwrap_or(0);
-            let (work, result) = (&mut self.work[..lent], &mut self.result[..lent]);
+            let at = NodeId(self.settings.references.get(call).copied().unwrap_or(0));
+            let file = FileId(call as u32);
+            let (work, to) = (&mut work, &mut results);
             told.push(match job {
-                Job::Direct => resolution(pozhdaghi::direct(
-                    self.bytes,
-                    Visible::All,
-                    at,
-                    &request,
-                    work,
-                    result,
-                )),
-                Job::Linear => resolution(pozhdaghi::linear(
-                    self.bytes,
-                    Visible::All,
-                    at,
-                    &request,
-                    result,
-                )),
-                Job::Replace => replacement(pozhdaghi::replace_file(
-                    self.bytes,
-                    call as u32,
-                    &request,
-                    work,
-                    &mut self.words,
-                )),
-                Job::Stitched => resolution(pozhdaghi::stitched(
-                    self.bytes,
-                    Visible::All,
-                    &self.words,
-                    at,
-                    &request,
-                    work,
-                    result,
-                )),
+                Job::Direct => resolution(image.direct(all, at, &request, work, to)),
+                Job::Linear => resolution(image.linear(all, at, &request, to)),
+                Job::Replace => replacement(database.replace_file(image, file, &request, work)),
+                Job::Stitched => {
+                    resolution(image.stitched(all, database.read(), at, &request, work, to))
+                }
             });
         }
         (start.elapsed(), told)

@@ -1,46 +1,42 @@
 //! What the calls answer, from the numbers that the library writes: 0 and the
 //! values of a call that is not refused, or the refusal's number and values.
 
+use crate::{NodeId, Refusal};
+
 /// The longest answer: 0, the number of paths, four counts, three flags and the
 /// waiting figure.
 pub(crate) const ANSWER: usize = 10;
 
-/// A refusal of document 01 or 02: its number, and the values returned with it, 0
-/// where it has fewer than two.
-#[derive(Clone, Copy, Debug, PartialEq, Eq)]
-pub struct Refusal {
-    pub number: u64,
-    pub values: [u64; 2],
-}
-
-/// The files, nodes and edges of an accepted image.
-#[derive(Clone, Copy, Debug, PartialEq, Eq)]
-pub struct Counts {
-    pub files: u64,
-    pub nodes: u64,
-    pub edges: u64,
-}
-
 /// What a search counted, and which limits it met.
 #[derive(Clone, Copy, Debug, Default, PartialEq, Eq)]
 pub struct Statistics {
+    /// Paths that were expanded.
     pub expanded: u64,
+    /// Complete paths that were met, copies and shadowed ones among them: as many result
+    /// slots are enough for this search.
     pub complete: u64,
+    /// Edges that could not be appended, as a symbol or a scope did not fit.
     pub rejected: u64,
+    /// Paths that were cut as they ran in a circle.
     pub cycles: u64,
+    /// The limit on length turned a path away.
     pub length_limited: bool,
+    /// The limit on expanded paths ended the search.
     pub count_limited: bool,
+    /// The limit on complete paths left one out.
     pub complete_limited: bool,
     /// How many paths ever waited together: with as many waiting slots the same
-    /// search gives the same answer, with fewer it is 31. 0 of a linear search,
-    /// in which nothing waits.
+    /// search gives the same answer, with fewer it is [`Refusal::NoWaitingSlot`]. 0 of a
+    /// linear search, in which nothing waits.
     pub waited: u64,
 }
 
-/// A search that is over: how many paths stand in the result slots.
+/// A search that is over.
 #[derive(Clone, Copy, Debug, PartialEq, Eq)]
 pub struct Resolution {
+    /// How many paths stand in the result slots.
     pub paths: u64,
+    /// What the search counted.
     pub statistics: Statistics,
 }
 
@@ -48,45 +44,48 @@ pub struct Resolution {
 /// which limits it met.
 #[derive(Clone, Copy, Debug, Default, PartialEq, Eq)]
 pub struct PartialStatistics {
+    /// Paths that were expanded.
     pub expanded: u64,
+    /// Partial paths that were found, each of which took a record.
     pub found: u64,
+    /// Paths that were cut as they ran in a circle.
     pub cycles: u64,
+    /// The limit on length turned a path away.
     pub length_limited: bool,
+    /// The limit on expanded paths ended the computation.
     pub count_limited: bool,
-    /// As of a search.
+    /// As of a search: with as many waiting slots the answer is the same.
     pub waited: u64,
 }
 
-fn refused(answer: &[u64; ANSWER]) -> Option<Refusal> {
+/// The values of an answer, unless it is a refusal.
+pub(crate) fn values(answer: &[u64; ANSWER]) -> Result<[u64; ANSWER - 1], Refusal> {
     let &[number, first, second, ..] = answer;
-    (number != 0).then_some(Refusal {
-        number,
-        values: [first, second],
-    })
+    let &[_, ref values @ ..] = answer;
+    match number {
+        0 => Ok(*values),
+        _ => Err(Refusal::from_numbers(number, [first, second])),
+    }
 }
 
-pub(crate) fn counts(answer: &[u64; ANSWER]) -> Result<Counts, Refusal> {
-    let &[_, files, nodes, edges, ..] = answer;
-    refused(answer).map_or(
-        Ok(Counts {
-            files,
-            nodes,
-            edges,
-        }),
-        Err,
-    )
+/// Files, nodes and edges, each at most a few thousand.
+pub(crate) fn counts(answer: &[u64; ANSWER]) -> Result<[u32; 3], Refusal> {
+    let [files, nodes, edges, ..] = values(answer)?;
+    Ok([files, nodes, edges].map(|count| count as u32))
 }
 
 pub(crate) fn judgement(answer: &[u64; ANSWER]) -> Result<bool, Refusal> {
-    refused(answer).map_or(Ok(answer[1] != 0), Err)
+    let [holds, ..] = values(answer)?;
+    Ok(holds != 0)
 }
 
 pub(crate) fn done(answer: &[u64; ANSWER]) -> Result<(), Refusal> {
-    refused(answer).map_or(Ok(()), Err)
+    values(answer).map(|_| ())
 }
 
 pub(crate) fn resolution(answer: &[u64; ANSWER]) -> Result<Resolution, Refusal> {
-    let &[_, paths, expanded, complete, rejected, cycles, length, count, kept, waited] = answer;
+    let [paths, expanded, complete, rejected, cycles, length, count, kept, waited] =
+        values(answer)?;
     let statistics = Statistics {
         expanded,
         complete,
@@ -97,34 +96,30 @@ pub(crate) fn resolution(answer: &[u64; ANSWER]) -> Result<Resolution, Refusal> 
         complete_limited: kept != 0,
         waited,
     };
-    refused(answer).map_or(Ok(Resolution { paths, statistics }), Err)
+    Ok(Resolution { paths, statistics })
 }
 
 /// The reference of a name, if there is one.
-pub(crate) fn name(answer: &[u64; ANSWER]) -> Result<Option<u32>, Refusal> {
-    let &[_, is_found, reference, ..] = answer;
-    refused(answer).map_or(Ok((is_found != 0).then_some(reference as u32)), Err)
+pub(crate) fn name(answer: &[u64; ANSWER]) -> Result<Option<NodeId>, Refusal> {
+    let [is_found, reference, ..] = values(answer)?;
+    Ok((is_found != 0).then_some(NodeId(reference as u32)))
 }
 
-/// How many bytes a rewritten image has.
+/// How many bytes a rewritten image has, how many records of a compacted database are live,
+/// or how many numbers are listed: at most 65,536.
 pub(crate) fn length(answer: &[u64; ANSWER]) -> Result<usize, Refusal> {
-    refused(answer).map_or(Ok(answer[1] as usize), Err)
-}
-
-/// How many records of a compacted database are live: at most 4,096.
-pub(crate) fn live(answer: &[u64; ANSWER]) -> Result<u32, Refusal> {
-    refused(answer).map_or(Ok(answer[1] as u32), Err)
+    let [length, ..] = values(answer)?;
+    Ok(length as usize)
 }
 
 pub(crate) fn replacement(answer: &[u64; ANSWER]) -> Result<PartialStatistics, Refusal> {
-    let &[_, expanded, found, cycles, length, count, waited, ..] = answer;
-    let statistics = PartialStatistics {
+    let [expanded, found, cycles, length, count, waited, ..] = values(answer)?;
+    Ok(PartialStatistics {
         expanded,
         found,
         cycles,
         length_limited: length != 0,
         count_limited: count != 0,
         waited,
-    };
-    refused(answer).map_or(Ok(statistics), Err)
+    })
 }

@@ -5,6 +5,45 @@ use crate::answer::ANSWER;
 
 unsafe extern "C" {
     pub fn pozhdaghi_check(image: *const u8, image_len: usize, answer: *mut u64, answer_len: usize);
+    pub fn pozhdaghi_node(
+        image: *const u8,
+        image_len: usize,
+        visible: *const u8,
+        visible_len: usize,
+        node: u32,
+        answer: *mut u64,
+        answer_len: usize,
+    );
+    pub fn pozhdaghi_edge(
+        image: *const u8,
+        image_len: usize,
+        visible: *const u8,
+        visible_len: usize,
+        edge: u32,
+        answer: *mut u64,
+        answer_len: usize,
+    );
+    pub fn pozhdaghi_references(
+        image: *const u8,
+        image_len: usize,
+        visible: *const u8,
+        visible_len: usize,
+        result: *mut u32,
+        result_len: usize,
+        answer: *mut u64,
+        answer_len: usize,
+    );
+    pub fn pozhdaghi_outgoing(
+        image: *const u8,
+        image_len: usize,
+        visible: *const u8,
+        visible_len: usize,
+        node: u32,
+        result: *mut u32,
+        result_len: usize,
+        answer: *mut u64,
+        answer_len: usize,
+    );
     pub fn pozhdaghi_replay(
         image: *const u8,
         image_len: usize,

@@ -1,27 +1,37 @@
 //! A replayed path, read back from the words that the library writes
-//! (`crates/semantics/specs/PathWords.antt`).
+//! (`docs/FORMAT.md`, "Path words").
 
-/// A step of a path: an edge's number, or the scope that was jumped to.
+use crate::{EdgeId, NodeId};
+
+/// A step of a path.
 #[derive(Clone, Copy, Debug, PartialEq, Eq)]
 pub enum Step {
-    Edge(u32),
-    Jump(u32),
+    /// Over an edge.
+    Edge(EdgeId),
+    /// From jump to this scope.
+    Jump(NodeId),
 }
 
-/// A symbol of the symbol stack; its scopes, top first, if any are attached.
+/// A symbol of the symbol stack.
 #[derive(Clone, Debug, PartialEq, Eq)]
 pub struct Symbol {
+    /// Its number: 32 bits in an image of version 1, 64 in one of version 2.
     pub symbol: u64,
-    pub scopes: Option<Vec<u32>>,
+    /// Its scopes, top first, if any are attached.
+    pub scopes: Option<Vec<NodeId>>,
 }
 
-/// Where a path ends, its steps in order, and both stacks, tops first.
+/// A path as [`Image::replay`](crate::Image::replay) tells it.
 #[derive(Clone, Debug, PartialEq, Eq)]
 pub struct Replayed {
-    pub end: u32,
+    /// Where it ends.
+    pub end: NodeId,
+    /// Its steps in order.
     pub steps: Vec<Step>,
+    /// The symbol stack, top first.
     pub symbols: Vec<Symbol>,
-    pub scopes: Vec<u32>,
+    /// The scope stack, top first.
+    pub scopes: Vec<NodeId>,
 }
 
 /// In front of a jump, and of a symbol with scopes; 1 is in front of all else.
@@ -51,8 +61,8 @@ impl Words<'_> {
     fn step(&mut self) -> Option<Step> {
         let (kind, number) = self.item()?;
         Some(match kind {
-            OTHER => Step::Jump(number),
-            _ => Step::Edge(number),
+            OTHER => Step::Jump(NodeId(number)),
+            _ => Step::Edge(EdgeId(number)),
         })
     }
 
@@ -64,15 +74,15 @@ impl Words<'_> {
         Some(Symbol { symbol, scopes })
     }
 
-    fn scopes(&mut self) -> Vec<u32> {
-        std::iter::from_fn(|| self.item().map(|(_, scope)| scope)).collect()
+    fn scopes(&mut self) -> Vec<NodeId> {
+        std::iter::from_fn(|| self.item().map(|(_, scope)| NodeId(scope))).collect()
     }
 }
 
 pub(crate) fn read(words: &[u32]) -> Replayed {
     let mut words = Words(words);
     Replayed {
-        end: words.next(),
+        end: NodeId(words.next()),
         steps: std::iter::from_fn(|| words.step()).collect(),
         symbols: std::iter::from_fn(|| words.symbol()).collect(),
         scopes: words.scopes(),

@@ -5,8 +5,8 @@
 mod common;
 
 use common::{
-    area, blank, database, definition, filed, graph_c, image, image_of, is_zero, place, reference,
-    refusal, scope, scoped_pop, scoped_push, slots, Drawn, Edge, Record, Slot, NOBODY,
+    area, blank, database, definition, filed, graph_c, image, image_of, is_zero, place, plain,
+    reference, refusal, scope, scoped_pop, scoped_push, slots, Drawn, Edge, Record, Slot, NOBODY,
 };
 use pozhdaghi::{
     Limits, Order, PartialStatistics, Refusal, Request, Resolution, Statistics, Visible, ALIASES,
@@ -27,7 +27,7 @@ fn asked(
     words: &mut [u32],
 ) -> Result<PartialStatistics, Refusal> {
     let (mut work, before) = (slots(waiting), words.to_vec());
-    let told = pozhdaghi::replace_aliases(image, request, &mut work, words);
+    let told = plain::replace_aliases(image, request, &mut work, words);
     assert!(is_zero(&work));
     assert!(told.is_ok() || words == before);
     told
@@ -37,7 +37,7 @@ fn asked(
 fn recorded(image: &[u8], words: &[u32]) -> (Resolution, Vec<Vec<u32>>) {
     let (mut work, mut result) = (slots(200), slots(200));
     let request = Request::default();
-    let found = pozhdaghi::stitched_recorded(
+    let found = plain::stitched_recorded(
         image,
         Visible::All,
         words,
@@ -48,14 +48,14 @@ fn recorded(image: &[u8], words: &[u32]) -> (Resolution, Vec<Vec<u32>>) {
     )
     .expect("not refused");
     assert!(is_zero(&work));
-    let paths: Vec<Vec<u32>> = pozhdaghi::paths(&result).map(<[u32]>::to_vec).collect();
+    let paths: Vec<Vec<u32>> = plain::paths(&result).map(<[u32]>::to_vec).collect();
     assert_eq!(result, area(&paths, result.len()));
     (found, paths)
 }
 
 fn recorded_directly(image: &[u8]) -> Vec<Vec<u32>> {
     let (mut work, mut result) = (slots(200), slots(200));
-    pozhdaghi::direct_recorded(
+    plain::direct_recorded(
         image,
         Visible::All,
         2,
@@ -64,7 +64,7 @@ fn recorded_directly(image: &[u8]) -> Vec<Vec<u32>> {
         &mut result,
     )
     .expect("not refused");
-    pozhdaghi::paths(&result).map(<[u32]>::to_vec).collect()
+    plain::paths(&result).map(<[u32]>::to_vec).collect()
 }
 
 /// C's file in its order, and the loop at root, edge 1.
@@ -331,14 +331,14 @@ fn set_kept() {
     let mut wanted = words.clone();
     wanted[place(3)..place(4)].fill(0);
     // file 255 has no node, so root is expanded and nothing found
-    let told = pozhdaghi::replace_file(&image, 255, &request, &mut slots(1), &mut words);
+    let told = plain::replace_file(&image, 255, &request, &mut slots(1), &mut words);
     assert_eq!(told.map(|counted| counted.found), Ok(0));
     assert_eq!(words, wanted);
     wanted[place(0)..place(1)].fill(0);
     let new = database(4, 256, &PARTS_OF_C[..3], 3);
     wanted[place(5)..].copy_from_slice(&new[3..]);
     wanted[0] = 8;
-    assert!(pozhdaghi::replace_file(&image, 0, &request, &mut slots(2), &mut words).is_ok());
+    assert!(plain::replace_file(&image, 0, &request, &mut slots(2), &mut words).is_ok());
     assert_eq!(words, wanted);
 }
 
@@ -388,11 +388,11 @@ fn six_loops_fit() {
         (3_914, 3_913, 9_786)
     );
     let lists: std::collections::BTreeSet<&[u32]> =
-        (0..3_913).map(|n| pozhdaghi::lookup(&words, n)).collect();
+        (0..3_913).map(|n| plain::lookup(&words, n)).collect();
     // all differ, hence with distinct edges and jump last they are all lists
     assert_eq!(lists.len(), 3_913);
     for (number, slot) in words[3..].chunks_exact(RECORD_WORDS).enumerate() {
-        let edges = pozhdaghi::lookup(&words, number as u32);
+        let edges = plain::lookup(&words, number as u32);
         let distinct: std::collections::BTreeSet<&u32> = edges.iter().collect();
         let (last, before) = edges.split_last().expect("some edge");
         assert!(distinct.len() == edges.len() && !before.contains(&6) && *last <= 6);
@@ -516,8 +516,7 @@ fn not_a_file() {
     let words = database(4, 1, &PARTS_OF_C, 4);
     for file in [65_534, 65_535] {
         let (mut work, mut after) = (slots(0), words.clone());
-        let told =
-            pozhdaghi::replace_file(&image, file, &Request::default(), &mut work, &mut after);
+        let told = plain::replace_file(&image, file, &Request::default(), &mut work, &mut after);
         assert_eq!(told, Err(refusal(21, &[file.into()])));
         assert_eq!(after, words);
         assert!(is_zero(&work));
@@ -552,7 +551,7 @@ fn what_is_no_database() {
     for mut words in malformed {
         let (mut work, mut result) = (slots(8), slots(8));
         let request = Request::default();
-        let found = pozhdaghi::stitched_recorded(
+        let found = plain::stitched_recorded(
             &image,
             Visible::All,
             &words,
@@ -564,10 +563,10 @@ fn what_is_no_database() {
         assert_eq!(found, Err(refusal(35, &[])));
         assert!(is_zero(&work) && is_zero(&result));
         let before = words.clone();
-        let told = pozhdaghi::replace_file(&image, 9, &request, &mut work, &mut words);
+        let told = plain::replace_file(&image, 9, &request, &mut work, &mut words);
         assert_eq!((told, &words), (Err(refusal(35, &[])), &before));
         assert_eq!(replaced(&image, 0, &mut words), Err(refusal(35, &[])));
-        assert!(pozhdaghi::lookup(&words, 0).is_empty());
+        assert!(plain::lookup(&words, 0).is_empty());
     }
 }
 
@@ -583,7 +582,7 @@ fn what_is_a_database() {
         (altered(4, u32::MAX), 1),
         (longest, MOST_EDGES),
     ] {
-        let part = pozhdaghi::lookup(&words, 3);
+        let part = plain::lookup(&words, 3);
         let edges_at = place(3) + 4;
         assert_eq!(
             part.as_ptr_range(),
@@ -591,12 +590,12 @@ fn what_is_a_database() {
         );
     }
     let alone = database(1, 0, &PARTS_OF_C[3..], 1);
-    assert_eq!(pozhdaghi::lookup(&alone, 0), [1]);
+    assert_eq!(plain::lookup(&alone, 0), [1]);
     // a slot of the set that leads from the reference on is used like any other
     let words = database(4, 1, &[Some((NOBODY, 2, 3, &[0, 1, 2]))], 1);
     assert_eq!(recorded(&graph_c(), &words).1, [[0, 1, 2]]);
     let words = altered(4, 9);
-    let found = pozhdaghi::stitched(
+    let found = plain::stitched(
         &graph_c(),
         Visible::All,
         &words,
@@ -654,14 +653,14 @@ fn drawn_graph(drawn: &mut Drawn) -> Vec<u8> {
 fn filed_anyhow(drawn: &mut Drawn, image: &[u8]) -> Vec<u32> {
     let request = Request::default();
     let mut words = blank(800);
-    pozhdaghi::fresh(image, &mut words).expect("not refused");
+    plain::fresh(image, &mut words).expect("not refused");
     let mut sets = [Some(0), Some(1), None];
     sets.rotate_left(drawn.below(3) as usize);
     for set in sets {
         let mut work = slots(400);
         let told = match set {
-            Some(file) => pozhdaghi::replace_file(image, file, &request, &mut work, &mut words),
-            None => pozhdaghi::replace_aliases(image, &request, &mut work, &mut words),
+            Some(file) => plain::replace_file(image, file, &request, &mut work, &mut words),
+            None => plain::replace_aliases(image, &request, &mut work, &mut words),
         };
         told.expect("not refused");
     }

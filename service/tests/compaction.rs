@@ -4,8 +4,8 @@
 mod common;
 
 use common::{
-    database, definition, filed, graph_a, graph_c, image_of, is_zero, place, reference, refusal,
-    scope, slots, Drawn, Record, Slot, NOBODY,
+    database, definition, filed, graph_a, graph_c, image_of, is_zero, place, plain, reference,
+    refusal, scope, slots, Drawn, Record, Slot, NOBODY,
 };
 use pozhdaghi::{
     Limits, Order, PartialStatistics, Refusal, Request, Resolution, Visible, ALIASES,
@@ -86,9 +86,9 @@ fn wanted(words: &[u32], length: usize) -> Left {
 /// The call with a dirty list of so many words, held to the second reading.
 fn compacted(words: &[u32], length: usize) -> Left {
     let (mut new, mut list) = (words.to_vec(), vec![0xA5A5_A5A5; length]);
-    let answer = pozhdaghi::compact(&mut new, &mut list).map_err(|Refusal { number, values }| {
-        assert_eq!(values, [0, 0]);
-        number
+    let answer = plain::compact(&mut new, &mut list).map_err(|refusal| {
+        assert_eq!(refusal.values(), [0, 0]);
+        refusal.number()
     });
     if answer.is_err() {
         assert!(new == words, "a refused call alters no word");
@@ -121,15 +121,15 @@ fn numbers_follow(before: &[u32], left: &Left) {
     assert!(olds.is_sorted_by(|one, next| one < next));
     assert!(news.iter().copied().eq(0..live as u32));
     for (&old, &new) in olds.iter().zip(&news) {
-        let edges = pozhdaghi::lookup(&left.words, new);
+        let edges = plain::lookup(&left.words, new);
         assert!(!edges.is_empty());
-        assert_eq!(edges, pozhdaghi::lookup(before, old));
+        assert_eq!(edges, plain::lookup(before, old));
     }
     for number in 0..before[0] + 2 {
         let was_live = olds.binary_search(&number).is_ok();
-        assert_eq!(!pozhdaghi::lookup(before, number).is_empty(), was_live);
+        assert_eq!(!plain::lookup(before, number).is_empty(), was_live);
         let is_live = number < live as u32;
-        assert_eq!(!pozhdaghi::lookup(&left.words, number).is_empty(), is_live);
+        assert_eq!(!plain::lookup(&left.words, number).is_empty(), is_live);
     }
 }
 
@@ -469,9 +469,9 @@ fn old_numbers_lapse() {
     let words = database(6, 1, &[None, SHORT, Some((0, 2, 3, &[8, 9]))], 3);
     let left = done(&words);
     assert_eq!(left.list, [1, 0, 2, 1, 0, 0]);
-    assert_eq!(pozhdaghi::lookup(&words, 1), [5]);
-    assert_eq!(pozhdaghi::lookup(&left.words, 1), [8, 9]);
-    assert!(pozhdaghi::lookup(&left.words, 2).is_empty());
+    assert_eq!(plain::lookup(&words, 1), [5]);
+    assert_eq!(plain::lookup(&left.words, 1), [8, 9]);
+    assert!(plain::lookup(&left.words, 2).is_empty());
 }
 
 /// Two files about root: 0 refers, 1 defines, and an edge from root to root has none.
@@ -506,8 +506,8 @@ fn replaced(
 ) -> Result<PartialStatistics, Refusal> {
     let mut work = slots(40);
     match owner {
-        Some(file) => pozhdaghi::replace_file(image, file, request, &mut work, words),
-        None => pozhdaghi::replace_aliases(image, request, &mut work, words),
+        Some(file) => plain::replace_file(image, file, request, &mut work, words),
+        None => plain::replace_aliases(image, request, &mut work, words),
     }
 }
 
@@ -516,7 +516,7 @@ const OWNERS_OF_TWO: [Option<u32>; 3] = [Some(0), Some(1), None];
 /// Both files and the alias set, one after another so often.
 fn filed_often(image: &[u8], times: usize) -> Vec<u32> {
     let mut words = vec![7; place(80)];
-    pozhdaghi::fresh(image, &mut words).expect("not refused");
+    plain::fresh(image, &mut words).expect("not refused");
     for _ in 0..times {
         for owner in OWNERS_OF_TWO {
             replaced(image, owner, &Request::default(), &mut words).expect("not refused");
@@ -540,7 +540,7 @@ type Found = (Result<Resolution, Refusal>, Vec<u32>, Vec<u32>);
 /// areas of several sizes: answers and every word of both areas, refused ones too.
 fn searches(image: &[u8], words: &[u32]) -> Vec<Found> {
     let mut found = Vec::new();
-    for call in [pozhdaghi::stitched, pozhdaghi::stitched_recorded] {
+    for call in [plain::stitched, plain::stitched_recorded] {
         for reference in 0..8 {
             for request in [
                 request(Order::BreadthFirst, None, None),
@@ -574,7 +574,7 @@ fn searches_stay(image: &[u8], words: &[u32], numbers: &mut BTreeMap<u64, usize>
     assert!(before == after, "another answer");
     for (told, ..) in after {
         *numbers
-            .entry(told.err().map_or(0, |r| r.number))
+            .entry(told.err().map_or(0, |r| r.number()))
             .or_default() += 1;
     }
 }
@@ -702,7 +702,7 @@ fn request_of_no_path() -> Request {
 fn daily_cycle() {
     let (image, request) = (graph_a(), Request::default());
     let mut words = vec![7; place(10)];
-    pozhdaghi::fresh(&image, &mut words).expect("not refused");
+    plain::fresh(&image, &mut words).expect("not refused");
     let before = searches(&image, &filed(&image));
     for day in 0..30 {
         let told = replaced(&image, Some(0), &request, &mut words).map(|told| told.found);

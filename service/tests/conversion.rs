@@ -5,7 +5,7 @@
 mod common;
 
 use common::{
-    database, database_of, definition, filed, graph_a, graph_c, image_of, is_zero, place,
+    database, database_of, definition, filed, graph_a, graph_c, image_of, is_zero, place, plain,
     reference, refusal, scope, slots, Drawn, Record, Slot, NOBODY,
 };
 use pozhdaghi::{
@@ -105,11 +105,11 @@ fn wanted(old: &[u32], length: usize) -> (u64, Vec<u32>) {
 fn converted(old: &[u32], length: usize) -> (u64, Vec<u32>) {
     let before = old.to_vec();
     let mut new = vec![0xA5A5_A5A5; length];
-    let number = match pozhdaghi::convert(old, &mut new) {
+    let number = match plain::convert(old, &mut new) {
         Ok(()) => 0,
-        Err(Refusal { number, values }) => {
-            assert_eq!(values, [0, 0]);
-            number
+        Err(refusal) => {
+            assert_eq!(refusal.values(), [0, 0]);
+            refusal.number()
         }
     };
     assert_eq!(old, before, "the old area is only read");
@@ -469,9 +469,9 @@ fn keeps_numbers(old: &[u32], new: &[u32]) {
     let paths = read(old).expect("it was converted");
     for (number, path) in paths.iter().enumerate() {
         let edges = path.as_ref().map_or(&[][..], |path| path.edges);
-        assert_eq!(pozhdaghi::lookup(new, number as u32), edges);
+        assert_eq!(plain::lookup(new, number as u32), edges);
     }
-    assert!(pozhdaghi::lookup(new, paths.len() as u32).is_empty());
+    assert!(plain::lookup(new, paths.len() as u32).is_empty());
 }
 
 /// The words as they were under the old bound, rubbish in every word that holds
@@ -510,10 +510,7 @@ fn stitched(image: &[u8], words: &[u32], reference: u32) -> [Found; 2] {
         );
         (found, result)
     };
-    [
-        call(pozhdaghi::stitched),
-        call(pozhdaghi::stitched_recorded),
-    ]
+    [call(plain::stitched), call(plain::stitched_recorded)]
 }
 
 /// Two files about root: 0 refers, 1 defines, and an edge from root to root has none.
@@ -543,12 +540,12 @@ fn two_files() -> Vec<u8> {
 fn filed_twice(image: &[u8]) -> Vec<u32> {
     let request = Request::default();
     let mut words = vec![7; place(60)];
-    pozhdaghi::fresh(image, &mut words).expect("not refused");
+    plain::fresh(image, &mut words).expect("not refused");
     for file in [0, 1, 0] {
-        pozhdaghi::replace_file(image, file, &request, &mut slots(40), &mut words)
+        plain::replace_file(image, file, &request, &mut slots(40), &mut words)
             .expect("not refused");
     }
-    pozhdaghi::replace_aliases(image, &request, &mut slots(8), &mut words).expect("not refused");
+    plain::replace_aliases(image, &request, &mut slots(8), &mut words).expect("not refused");
     words
 }
 
@@ -561,15 +558,12 @@ fn goes_on_as_before() {
         let (number, new) = converted(&as_before(&words), words.len());
         assert_eq!((number, &new), (0, &words));
         for number in 0..words[0] + 2 {
-            assert_eq!(
-                pozhdaghi::lookup(&new, number),
-                pozhdaghi::lookup(&words, number)
-            );
+            assert_eq!(plain::lookup(&new, number), plain::lookup(&words, number));
         }
         assert_eq!(stitched(image, &new, 2), stitched(image, &words, 2));
         let (mut one, mut other) = (new, words);
         for words in [&mut one, &mut other] {
-            pozhdaghi::replace_file(image, 0, &Request::default(), &mut slots(40), words)
+            plain::replace_file(image, 0, &Request::default(), &mut slots(40), words)
                 .expect("not refused");
         }
         assert_eq!(one, other);
@@ -579,7 +573,7 @@ fn goes_on_as_before() {
     assert_eq!(found.map(|found| found.paths), Ok(4));
     // the slots of file 1 stand before that of the edge from root to root
     let wanted: [&[u32]; 4] = [&[0, 2, 3], &[0, 2, 5, 3], &[0, 1, 2, 3], &[0, 1, 2, 5, 3]];
-    let found: Vec<&[u32]> = pozhdaghi::paths(&result).collect();
+    let found: Vec<&[u32]> = plain::paths(&result).collect();
     assert_eq!(found, wanted);
 }
 
@@ -589,10 +583,10 @@ fn goes_on_as_before() {
 #[test]
 fn nothing_tells_them_apart() {
     let old = former_database(6, 1, &[SHORT, SHORT]);
-    assert_eq!(pozhdaghi::lookup(&old, 0), [5]);
-    assert!(pozhdaghi::lookup(&old, 1).is_empty());
+    assert_eq!(plain::lookup(&old, 0), [5]);
+    assert!(plain::lookup(&old, 1).is_empty());
     let (_, new) = converted(&old, place(2));
-    assert_eq!(pozhdaghi::lookup(&new, 1), [5]);
+    assert_eq!(plain::lookup(&new, 1), [5]);
     let empty = [0, 6, 1, 0];
     assert_eq!(converted(&empty, 4), (0, empty.to_vec()));
 }
@@ -603,6 +597,6 @@ fn too_long_for_this_bound() {
     let row: Vec<u32> = (0..=MOST_EDGES as u32).collect();
     let old = former_database(90, 1, &[Some((0, 2, 66, &row))]);
     let mut new = vec![1; place(1)];
-    assert_eq!(pozhdaghi::convert(&old, &mut new), Err(refusal(39, &[])));
+    assert_eq!(plain::convert(&old, &mut new), Err(refusal(39, &[])));
     assert!(is_zero(&new));
 }

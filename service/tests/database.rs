@@ -3,7 +3,9 @@
 
 mod common;
 
-use common::{blank, database, filed, graph_a, image_of, place, refusal, scope, slots, Slot};
+use common::{
+    blank, database, filed, graph_a, image_of, place, plain, refusal, scope, slots, Slot,
+};
 use pozhdaghi::{
     Limits, Order, PartialStatistics, Request, DATABASE_HEAD, FORMER_RECORD_WORDS, MOST_EDGES,
     PATH_WORDS, RECORD_WORDS, SLOT_WORDS,
@@ -22,13 +24,13 @@ fn sizes() {
 fn fresh() {
     let image = image_of(3, &[scope(true)], &[(2, 2, 0)]);
     let mut words = blank(2);
-    assert_eq!(pozhdaghi::fresh(&image, &mut words), Ok(()));
+    assert_eq!(plain::fresh(&image, &mut words), Ok(()));
     assert_eq!(words, database(3, 3, &[], 2));
     let mut head = [7; 3];
-    assert_eq!(pozhdaghi::fresh(&image, &mut head), Ok(()));
+    assert_eq!(plain::fresh(&image, &mut head), Ok(()));
     assert_eq!(head, [0, 3, 3]);
     let mut few = [7; 2];
-    assert_eq!(pozhdaghi::fresh(&image, &mut few), Err(refusal(35, &[])));
+    assert_eq!(plain::fresh(&image, &mut few), Err(refusal(35, &[])));
     assert_eq!(few, [7; 2]);
 }
 
@@ -48,7 +50,7 @@ fn replaced_again() {
     let mut words = filed(&image);
     assert_eq!(words, database(6, 1, &PARTS, 16));
     let request = Request::default();
-    assert!(pozhdaghi::replace_file(&image, 0, &request, &mut slots(8), &mut words).is_ok());
+    assert!(plain::replace_file(&image, 0, &request, &mut slots(8), &mut words).is_ok());
     let after = [[None; 5], PARTS].concat();
     assert_eq!(words, database(6, 1, &after, 16));
 }
@@ -63,7 +65,7 @@ fn one_file_of_two() {
     let mut words = database(4, 2, &[], 4);
     let both: [Slot; 2] = [Some((1, 3, 3, &[1])), Some((0, 2, 2, &[0]))];
     for (file, used) in [(1, 1), (0, 2)] {
-        let replaced = pozhdaghi::replace_file(&image, file, &request, &mut slots(4), &mut words);
+        let replaced = plain::replace_file(&image, file, &request, &mut slots(4), &mut words);
         // root, the scope, its loop; the loop is cut once; root and the scope wait
         let statistics = PartialStatistics {
             expanded: 3,
@@ -88,7 +90,7 @@ fn counted(length: Option<u64>, paths: Option<u64>) -> PartialStatistics {
     let order = Order::BreadthFirst;
     let mut words = database(6, 1, &[], 8);
     let request = Request { order, limits };
-    let statistics = pozhdaghi::replace_file(&graph_a(), 0, &request, &mut slots(8), &mut words)
+    let statistics = plain::replace_file(&graph_a(), 0, &request, &mut slots(8), &mut words)
         .expect("not refused");
     let found = &PARTS[..statistics.found as usize];
     assert_eq!(words, database(6, 1, found, 8));
@@ -129,19 +131,19 @@ fn limits() {
 #[test]
 fn lookups() {
     let words = database(6, 1, &[PARTS[0], None, PARTS[3]], 4);
-    let part = pozhdaghi::lookup(&words, 2);
+    let part = plain::lookup(&words, 2);
     assert_eq!(
         part.as_ptr_range(),
         words[place(2) + 4..place(2) + 6].as_ptr_range()
     );
     assert_eq!(part, [0, 1]);
     assert_eq!(
-        pozhdaghi::lookup(&words, 0).as_ptr_range(),
+        plain::lookup(&words, 0).as_ptr_range(),
         words[7..8].as_ptr_range()
     );
     // dead, beyond use, beyond the words
     for number in [1, 3, 4, u32::MAX] {
-        assert!(pozhdaghi::lookup(&words, number).is_empty());
+        assert!(plain::lookup(&words, number).is_empty());
     }
 }
 
@@ -150,5 +152,5 @@ fn lookups() {
 fn longest_part() {
     let edges: Vec<u32> = (0..MOST_EDGES as u32).collect();
     let words = database(200, 1, &[Some((0, 2, 3, &edges))], 1);
-    assert_eq!(pozhdaghi::lookup(&words, 0), edges);
+    assert_eq!(plain::lookup(&words, 0), edges);
 }

@@ -4,7 +4,9 @@
 
 mod common;
 
-use common::{database, definition, graph_a, image_of, is_zero, reference, refusal, scope, slots};
+use common::{
+    database, definition, graph_a, image_of, is_zero, plain, reference, refusal, scope, slots,
+};
 use common::{Edge, Record, Slot, NOBODY};
 use pozhdaghi::{Limits, Refusal, Request, Resolution, Visible, DATABASE_HEAD, RECORD_WORDS};
 
@@ -77,30 +79,30 @@ fn asked(
     let (mut work, mut result) = (slots(64), slots(64));
     let (lent, put) = (&mut work[..], &mut result[..]);
     let found = match call {
-        0 => pozhdaghi::direct(image, visible, node, request, lent, put),
-        1 => pozhdaghi::direct_recorded(image, visible, node, request, lent, put),
-        2 => pozhdaghi::stitched(image, visible, words, node, request, lent, put),
-        3 => pozhdaghi::stitched_recorded(image, visible, words, node, request, lent, put),
+        0 => plain::direct(image, visible, node, request, lent, put),
+        1 => plain::direct_recorded(image, visible, node, request, lent, put),
+        2 => plain::stitched(image, visible, words, node, request, lent, put),
+        3 => plain::stitched_recorded(image, visible, words, node, request, lent, put),
         _ => {
             lent.fill(0);
             match call {
-                4 => pozhdaghi::linear(image, visible, node, request, put),
-                _ => pozhdaghi::linear_recorded(image, visible, node, request, put),
+                4 => plain::linear(image, visible, node, request, put),
+                _ => plain::linear_recorded(image, visible, node, request, put),
             }
         }
     };
     assert!(is_zero(&work));
     assert!(found.is_ok() || is_zero(&result));
-    let paths = || pozhdaghi::paths(&result).map(<[u32]>::to_vec).collect();
+    let paths = || plain::paths(&result).map(<[u32]>::to_vec).collect();
     found.map(|told| (told, paths()))
 }
 
 fn name(image: &[u8], visible: Visible, node: u32) -> Result<Option<(u32, Vec<u32>)>, Refusal> {
     let (mut work, mut result) = (slots(64), slots(64));
-    let found = pozhdaghi::find_name(image, visible, node, None, &mut work, &mut result);
+    let found = plain::find_name(image, visible, node, None, &mut work, &mut result);
     assert!(is_zero(&work));
     assert!(found != Ok(None) && found.is_ok() || is_zero(&result));
-    let path = || pozhdaghi::paths(&result).next().unwrap_or(&[]).to_vec();
+    let path = || plain::paths(&result).next().unwrap_or(&[]).to_vec();
     found.map(|name| name.map(|reference| (reference, path())))
 }
 
@@ -172,7 +174,7 @@ fn hidden_references_cannot_refuse() {
         &[in_file(RATES, reference(7)), in_file(CREDIT, definition(7))],
         &[(2, 0, 0), (0, 3, 0)],
     );
-    let find = |visible| pozhdaghi::find_name(&image, visible, 3, None, &mut [], &mut []);
+    let find = |visible| plain::find_name(&image, visible, 3, None, &mut [], &mut []);
     assert_eq!(find(TO_BOTH), Err(refusal(31, &[])));
     assert_eq!(find(TO_CREDIT), Ok(None));
 }
@@ -353,7 +355,7 @@ fn the_image_is_checked_whole() {
     let image = image_of(2, &nodes, &[(2, 3, 0)]);
     for call in 0..CALLS {
         let found = search(call, &image, TO_RATES, &empty(), 2);
-        assert_eq!(found.map_err(|refused| refused.number), Err(5));
+        assert_eq!(found.map_err(|refused| refused.number()), Err(5));
     }
 }
 

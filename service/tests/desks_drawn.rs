@@ -6,8 +6,8 @@
 
 mod common;
 
-use common::{live, slots, versioned, Drawn, Edge, Record};
-use pozhdaghi::{Limits, Order, Request, Visible, ALIASES, DATABASE_HEAD, RECORD_WORDS};
+use common::{live, plain, slots, versioned, Drawn, Edge, Record};
+use pozhdaghi::{Limits, Order, Refusal, Request, Visible, ALIASES, DATABASE_HEAD, RECORD_WORDS};
 
 const ROOT: u16 = 0;
 const JUMP: u16 = 1;
@@ -403,31 +403,36 @@ fn all_calls(
         let told = run(&mut work, &mut result);
         (told, work, result)
     };
-    let directly = [pozhdaghi::direct, pozhdaghi::direct_recorded];
-    let stitched = [pozhdaghi::stitched, pozhdaghi::stitched_recorded];
-    let linearly = [pozhdaghi::linear, pozhdaghi::linear_recorded];
+    let directly = [plain::direct, plain::direct_recorded];
+    let stitched = [plain::stitched, plain::stitched_recorded];
+    let linearly = [plain::linear, plain::linear_recorded];
     let mut left = Vec::new();
     for way in [0, 1] {
         left.push(call(&|work, result| {
-            format!(
-                "{:?}",
-                directly[way](image, visible, node, request, work, result)
-            )
+            worded(directly[way](image, visible, node, request, work, result))
         }));
         left.push(call(&|work, result| {
             let found = stitched[way](image, visible, words, node, request, work, result);
-            format!("{found:?}")
+            worded(found)
         }));
         left.push(call(&|_, result| {
-            format!("{:?}", linearly[way](image, visible, node, request, result))
+            worded(linearly[way](image, visible, node, request, result))
         }));
     }
     let length = request.limits.length.map_or(4, |length| length.min(4));
     left.push(call(&|work, result| {
-        let found = pozhdaghi::find_name(image, visible, sought, Some(length), work, result);
-        format!("{found:?}")
+        let found = plain::find_name(image, visible, sought, Some(length), work, result);
+        worded(found)
     }));
     left
+}
+
+/// An answer, or the number and the values of a refusal.
+fn worded<T: std::fmt::Debug>(told: Result<T, Refusal>) -> String {
+    match told {
+        Ok(answer) => format!("{answer:?}"),
+        Err(refusal) => format!("number: {}, {:?}", refusal.number(), refusal.values()),
+    }
 }
 
 fn bounded(mut request: Request) -> Request {
@@ -455,9 +460,7 @@ impl Counts {
                 Some(number) => *self.refused.entry(number).or_default() += 1,
                 None => self.answered += 1,
             }
-            self.found += pozhdaghi::paths(result)
-                .filter(|_| number.is_none())
-                .count() as u64;
+            self.found += plain::paths(result).filter(|_| number.is_none()).count() as u64;
         }
     }
 
@@ -485,7 +488,7 @@ fn what_is_hidden_changes_nothing() {
         let pair = [0; 2].map(|_| completed(&mut random, &shared));
         let [one, other] = &pair;
         for (graph, _) in &pair {
-            pozhdaghi::check(&graph.image()).expect("an image");
+            plain::check(&graph.image()).expect("an image");
         }
         let visible = Visible::Files(&shared.set);
         for _ in 0..4 {
@@ -545,7 +548,7 @@ fn as_if_it_were_removed() {
         };
         let (image, plain) = (graph.image(), cleared(&graph, &set).image());
         let fewer = without_hidden(&words, &set);
-        pozhdaghi::check(&plain).expect("an image");
+        plain::check(&plain).expect("an image");
         for _ in 0..4 {
             let asked = asked_for(&mut random, &shared.graph);
             let request = bounded(drawn_request(&mut random));

@@ -5,7 +5,7 @@
 
 mod common;
 
-use common::{database, image, image_of, is_zero, reference, refusal, scope, slots, Edge};
+use common::{database, image, image_of, is_zero, plain, reference, refusal, scope, slots, Edge};
 use pozhdaghi::{Limits, Order, Refusal, Request, Resolution, Visible};
 
 const MOST: u64 = 1 << 24;
@@ -28,7 +28,7 @@ fn searched(beside: u16) -> Result<Resolution, Refusal> {
         limits: Limits::default(),
     };
     let (mut work, mut result) = (slots(32), slots(1));
-    let found = pozhdaghi::direct(
+    let found = plain::direct(
         &image(&nodes, &edges),
         Visible::All,
         2,
@@ -65,7 +65,7 @@ fn aliases() {
             },
         };
         let (mut work, mut words) = (slots(64), database(2, 0, &[], 1));
-        let told = pozhdaghi::replace_aliases(&image, &request, &mut work, &mut words);
+        let told = plain::replace_aliases(&image, &request, &mut work, &mut words);
         assert_eq!(told, Err(refusal(number, &[])));
         assert!(is_zero(&work));
         assert_eq!(words, database(2, 0, &[], 1));

@@ -4,7 +4,7 @@
 
 mod common;
 
-use common::{area, definition, graph_a, graph_b, graph_c, image, is_zero, refusal, slots};
+use common::{area, definition, graph_a, graph_b, graph_c, image, is_zero, plain, refusal, slots};
 use common::{chain, reference, scope, Edge, Record};
 use pozhdaghi::{Refusal, Visible, MOST_EDGES, SLOT_WORDS};
 
@@ -20,10 +20,10 @@ fn named(
     [waiting, results]: [usize; 2],
 ) -> Result<Name, Refusal> {
     let (mut work, mut result) = (slots(waiting), slots(results));
-    let answer = pozhdaghi::find_name(image, Visible::All, node, length, &mut work, &mut result);
+    let answer = plain::find_name(image, Visible::All, node, length, &mut work, &mut result);
     assert!(is_zero(&work));
     let name = answer.map(|found| {
-        let edges = || pozhdaghi::paths(&result).next().map(<[u32]>::to_vec);
+        let edges = || plain::paths(&result).next().map(<[u32]>::to_vec);
         found.map(|reference| (reference, edges().unwrap_or_default()))
     });
     let path: Vec<&[u32]> = match &name {
@@ -215,6 +215,6 @@ fn expansions() {
 fn no_reference_asks_for_no_area() {
     let nameless = image(&[definition(7)], &[]);
     assert_eq!(named(&nameless, 2, None, [0, 0]), Ok(None));
-    let answer = pozhdaghi::find_name(&nameless, Visible::All, 2, None, &mut [], &mut []);
+    let answer = plain::find_name(&nameless, Visible::All, 2, None, &mut [], &mut []);
     assert_eq!(answer, Ok(None));
 }

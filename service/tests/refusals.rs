@@ -8,26 +8,27 @@
 mod common;
 
 use common::{
-    chain, database, filed, graph_a, graph_b, graph_c, image_of, is_zero, place, refusal, slots,
+    chain, database, filed, graph_a, graph_b, graph_c, image_of, is_zero, place, plain, refusal,
+    slots,
 };
 use common::{reference, scope};
-use pozhdaghi::{Refusal, Request, Resolution, Visible, MOST_EDGES};
+use pozhdaghi::{NodeId, Refusal, Request, Resolution, Visible, MOST_EDGES};
 
 /// A search of an image, with a database, from a node, in two areas.
 type Search = fn(&[u8], &[u32], u32, &mut [u32], &mut [u32]) -> Result<Resolution, Refusal>;
 
 const DIRECT: [Search; 2] = [
     |image, _, node, work, result| {
-        pozhdaghi::direct(image, Visible::All, node, &Request::default(), work, result)
+        plain::direct(image, Visible::All, node, &Request::default(), work, result)
     },
     |image, _, node, work, result| {
-        pozhdaghi::direct_recorded(image, Visible::All, node, &Request::default(), work, result)
+        plain::direct_recorded(image, Visible::All, node, &Request::default(), work, result)
     },
 ];
 
 const STITCHED: [Search; 2] = [
     |image, words, node, work, result| {
-        pozhdaghi::stitched(
+        plain::stitched(
             image,
             Visible::All,
             words,
@@ -38,7 +39,7 @@ const STITCHED: [Search; 2] = [
         )
     },
     |image, words, node, work, result| {
-        pozhdaghi::stitched_recorded(
+        plain::stitched_recorded(
             image,
             Visible::All,
             words,
@@ -54,11 +55,11 @@ const STITCHED: [Search; 2] = [
 const LINEAR: [Search; 2] = [
     |image, _, node, work, result| {
         work.fill(0);
-        pozhdaghi::linear(image, Visible::All, node, &Request::default(), result)
+        plain::linear(image, Visible::All, node, &Request::default(), result)
     },
     |image, _, node, work, result| {
         work.fill(0);
-        pozhdaghi::linear_recorded(image, Visible::All, node, &Request::default(), result)
+        plain::linear_recorded(image, Visible::All, node, &Request::default(), result)
     },
 ];
 
@@ -84,7 +85,7 @@ fn refused(
 /// What a replacement is refused with; it alters no word.
 fn not_replaced(image: &[u8], file: u32, waiting: usize, words: &[u32]) -> Refusal {
     let (mut work, mut after) = (slots(waiting), words.to_vec());
-    let answer = pozhdaghi::replace_file(image, file, &Request::default(), &mut work, &mut after);
+    let answer = plain::replace_file(image, file, &Request::default(), &mut work, &mut after);
     assert!(is_zero(&work));
     assert_eq!(after, words);
     answer.expect_err("refused")
@@ -93,7 +94,7 @@ fn not_replaced(image: &[u8], file: u32, waiting: usize, words: &[u32]) -> Refus
 /// What the replacement of the alias set is refused with, likewise.
 fn aliases_not_replaced(image: &[u8], waiting: usize, words: &[u32]) -> Refusal {
     let (mut work, mut after) = (slots(waiting), words.to_vec());
-    let answer = pozhdaghi::replace_aliases(image, &Request::default(), &mut work, &mut after);
+    let answer = plain::replace_aliases(image, &Request::default(), &mut work, &mut after);
     assert!(is_zero(&work));
     assert_eq!(after, words);
     answer.expect_err("refused")
@@ -143,20 +144,17 @@ fn damaged() -> Vec<(Vec<u8>, Refusal)> {
 fn images() {
     let words = filed(&graph_a());
     for (image, refusal) in damaged() {
-        assert_eq!(pozhdaghi::check(&image), Err(refusal));
-        assert_eq!(pozhdaghi::replay(&image, 2, &[0]), Err(refusal));
-        assert_eq!(pozhdaghi::is_complete(&image, 2, &[0]), Err(refusal));
-        assert_eq!(
-            pozhdaghi::shadows(&image, (2, &[0]), (2, &[0])),
-            Err(refusal)
-        );
+        assert_eq!(plain::check(&image), Err(refusal));
+        assert_eq!(plain::replay(&image, 2, &[0]), Err(refusal));
+        assert_eq!(plain::is_complete(&image, 2, &[0]), Err(refusal));
+        assert_eq!(plain::shadows(&image, (2, &[0]), (2, &[0])), Err(refusal));
         for search in searches() {
             assert_eq!(refused(search, &image, &words, 2, [4, 4]), refusal);
         }
         assert_eq!(not_replaced(&image, 0, 8, &words), refusal);
         assert_eq!(aliases_not_replaced(&image, 8, &words), refusal);
         let mut after = words.clone();
-        assert_eq!(pozhdaghi::fresh(&image, &mut after), Err(refusal));
+        assert_eq!(plain::fresh(&image, &mut after), Err(refusal));
         assert_eq!(after, words);
     }
 }
@@ -173,13 +171,13 @@ fn nodes_and_edges() {
         for search in searches() {
             assert_eq!(refused(search, &image, &words, node, [4, 4]), wanted);
         }
-        assert_eq!(pozhdaghi::replay(&image, node, &[0]), Err(wanted));
-        assert_eq!(pozhdaghi::is_complete(&image, node, &[0]), Err(wanted));
+        assert_eq!(plain::replay(&image, node, &[0]), Err(wanted));
+        assert_eq!(plain::is_complete(&image, node, &[0]), Err(wanted));
         // the left path is replayed before the right one, which has no such edge
         let other: (u32, &[u32]) = (2, &[3]);
-        assert_eq!(pozhdaghi::shadows(&image, (node, &[]), other), Err(wanted));
+        assert_eq!(plain::shadows(&image, (node, &[]), other), Err(wanted));
         assert_eq!(
-            pozhdaghi::shadows(&image, other, (node, &[])),
+            plain::shadows(&image, other, (node, &[])),
             Err(refusal(12, &[3]))
         );
     }
@@ -223,15 +221,12 @@ fn too_many_edges_to_replay() {
     edges[0] = 0;
     let (longest, last) = (&edges[..MOST_EDGES], refusal(30, &[]));
     assert_eq!(
-        pozhdaghi::replay(&image, 2, longest).map(|path| (path.end, path.steps.len())),
-        Ok((0, MOST_EDGES))
+        plain::replay(&image, 2, longest).map(|path| (path.end, path.steps.len())),
+        Ok((NodeId(0), MOST_EDGES))
     );
-    assert_eq!(pozhdaghi::replay(&image, 2, &edges), Err(last));
-    assert_eq!(pozhdaghi::is_complete(&image, 2, &edges), Err(last));
-    assert_eq!(
-        pozhdaghi::shadows(&image, (2, longest), (2, &edges)),
-        Err(last)
-    );
+    assert_eq!(plain::replay(&image, 2, &edges), Err(last));
+    assert_eq!(plain::is_complete(&image, 2, &edges), Err(last));
+    assert_eq!(plain::shadows(&image, (2, longest), (2, &edges)), Err(last));
 }
 
 /// On B two paths wait at once, and four are complete, eight when stitched.
@@ -290,7 +285,7 @@ fn replacements() {
     );
     let mut words = fresh;
     let request = Request::default();
-    assert!(pozhdaghi::replace_file(&image, 0, &request, &mut slots(8), &mut words).is_ok());
+    assert!(plain::replace_file(&image, 0, &request, &mut slots(8), &mut words).is_ok());
     assert_eq!(not_replaced(&image, 0, 8, &words), refusal(33, &[]));
 }
 
@@ -331,7 +326,7 @@ fn databases() {
         }
         assert_eq!(not_replaced(&image, 9, 8, &words), refusal(35, &[]));
         assert_eq!(aliases_not_replaced(&image, 0, &words), refusal(35, &[]));
-        assert!(pozhdaghi::lookup(&words, 1).is_empty());
+        assert!(plain::lookup(&words, 1).is_empty());
     }
 }
 

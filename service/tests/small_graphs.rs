@@ -2,10 +2,10 @@
 
 mod common;
 
-use common::{area, database, filed, graph_a, graph_b, graph_c, is_zero, refusal, slots};
-use pozhdaghi::{
-    Counts, Limits, Order, PartialStatistics, Request, Resolution, Statistics, Visible,
+use common::{
+    area, database, filed, graph_a, graph_b, graph_c, is_zero, plain, plain::Counts, refusal, slots,
 };
+use pozhdaghi::{Limits, Order, PartialStatistics, Request, Resolution, Statistics, Visible};
 
 fn limited(length: Option<u64>, paths: Option<u64>, complete: Option<u64>) -> Request {
     Request {
@@ -20,7 +20,7 @@ fn limited(length: Option<u64>, paths: Option<u64>, complete: Option<u64>) -> Re
 
 /// The paths, and every word behind them.
 fn paths(result: &[u32]) -> Vec<Vec<u32>> {
-    let paths: Vec<Vec<u32>> = pozhdaghi::paths(result).map(<[u32]>::to_vec).collect();
+    let paths: Vec<Vec<u32>> = plain::paths(result).map(<[u32]>::to_vec).collect();
     assert_eq!(result, area(&paths, result.len()));
     paths
 }
@@ -28,7 +28,7 @@ fn paths(result: &[u32]) -> Vec<Vec<u32>> {
 /// Direct search from node 2: the answer and the returned paths.
 fn direct(image: &[u8], request: &Request) -> (Resolution, Vec<Vec<u32>>) {
     let (mut work, mut result) = (slots(128), slots(128));
-    let found = pozhdaghi::direct(image, Visible::All, 2, request, &mut work, &mut result)
+    let found = plain::direct(image, Visible::All, 2, request, &mut work, &mut result)
         .expect("not refused");
     assert!(is_zero(&work));
     (found, paths(&result))
@@ -37,7 +37,7 @@ fn direct(image: &[u8], request: &Request) -> (Resolution, Vec<Vec<u32>>) {
 /// The recorded paths of a direct search from node 2.
 fn recorded(image: &[u8]) -> Vec<Vec<u32>> {
     let (mut work, mut result) = (slots(4), slots(4));
-    pozhdaghi::direct_recorded(
+    plain::direct_recorded(
         image,
         Visible::All,
         2,
@@ -53,7 +53,7 @@ fn recorded(image: &[u8]) -> Vec<Vec<u32>> {
 fn stitched(image: &[u8]) -> (Resolution, Vec<Vec<u32>>, Vec<Vec<u32>>) {
     let (words, request) = (filed(image), Request::default());
     let (mut work, mut result) = (slots(8), slots(8));
-    let found = pozhdaghi::stitched(
+    let found = plain::stitched(
         image,
         Visible::All,
         &words,
@@ -64,7 +64,7 @@ fn stitched(image: &[u8]) -> (Resolution, Vec<Vec<u32>>, Vec<Vec<u32>>) {
     )
     .expect("not refused");
     let returned = paths(&result);
-    pozhdaghi::stitched_recorded(
+    plain::stitched_recorded(
         image,
         Visible::All,
         &words,
@@ -100,7 +100,7 @@ fn graph_a_directly() {
         nodes: 6,
         edges: 3,
     };
-    assert_eq!(pozhdaghi::check(&image), Ok(counts));
+    assert_eq!(plain::check(&image), Ok(counts));
     for order in [Order::BreadthFirst, Order::DepthFirst] {
         let limits = Limits::default();
         let (found, paths) = direct(&image, &Request { order, limits });
@@ -135,7 +135,7 @@ fn graph_a_with_limits() {
 fn graph_a_linearly() {
     let (image, request) = (graph_a(), Request::default());
     let mut result = slots(2);
-    for call in [pozhdaghi::linear, pozhdaghi::linear_recorded] {
+    for call in [plain::linear, plain::linear_recorded] {
         let found = call(&image, Visible::All, 2, &request, &mut result);
         assert_eq!(found, Ok(counted(1, [3, 1, 1, 0])));
         assert_eq!(paths(&result), [[0, 1]]);
@@ -155,7 +155,7 @@ fn graph_a_in_parts() {
     let words = filed(&image);
     assert_eq!(words, database(6, 1, &slots, 16));
     for (number, part) in parts.iter().enumerate() {
-        assert_eq!(pozhdaghi::lookup(&words, number as u32), *part);
+        assert_eq!(plain::lookup(&words, number as u32), *part);
     }
     let (found, returned, recorded) = stitched(&image);
     assert_eq!(found, counted(1, [4, 2, 2, 2]));
@@ -166,8 +166,7 @@ fn graph_a_in_parts() {
 fn graph_a_file_counted() {
     let image = graph_a();
     let mut words = filed(&image);
-    let replaced =
-        pozhdaghi::replace_file(&image, 0, &Request::default(), &mut slots(8), &mut words);
+    let replaced = plain::replace_file(&image, 0, &Request::default(), &mut slots(8), &mut words);
     let statistics = PartialStatistics {
         expanded: 8,
         found: 5,
@@ -180,14 +179,8 @@ fn graph_a_file_counted() {
 #[test]
 fn graph_a_replayed() {
     let image = graph_a();
-    assert_eq!(
-        pozhdaghi::replay(&image, 2, &[0, 2]),
-        Err(refusal(15, &[5]))
-    );
-    assert_eq!(
-        pozhdaghi::replay(&image, 2, &[1]),
-        Err(refusal(13, &[2, 3]))
-    );
+    assert_eq!(plain::replay(&image, 2, &[0, 2]), Err(refusal(15, &[5])));
+    assert_eq!(plain::replay(&image, 2, &[1]), Err(refusal(13, &[2, 3])));
 }
 
 /// Four paths are recorded, of which the last shadows all others.
@@ -210,7 +203,7 @@ fn graph_b_limited_and_linear() {
     let (found, none) = direct(&image, &limited(None, None, Some(3)));
     assert_eq!(found.statistics.complete, 4);
     assert!(found.statistics.complete_limited && none.is_empty());
-    for call in [pozhdaghi::linear, pozhdaghi::linear_recorded] {
+    for call in [plain::linear, plain::linear_recorded] {
         let mut result = slots(4);
         assert_eq!(
             call(&image, Visible::All, 2, &Request::default(), &mut result),
@@ -223,7 +216,7 @@ fn graph_b_limited_and_linear() {
 #[test]
 fn graph_b_shadows() {
     let image = graph_b();
-    let shadows = |left: &[u32], right: &[u32]| pozhdaghi::shadows(&image, (2, left), (2, right));
+    let shadows = |left: &[u32], right: &[u32]| plain::shadows(&image, (2, left), (2, right));
     assert_eq!(shadows(&[1, 3], &[0, 3]), Ok(true));
     assert_eq!(shadows(&[0, 3], &[1, 3]), Ok(false));
     // A smaller precedence does not end the walk.

@@ -8,8 +8,8 @@
 mod common;
 
 use common::{
-    definition, is_zero, live, place, reference, refusal, scope, scoped_definition, scoped_pop,
-    scoped_push, slots, versioned, Drawn, Edge, Record,
+    definition, is_zero, live, place, plain, reference, refusal, scope, scoped_definition,
+    scoped_pop, scoped_push, slots, versioned, Drawn, Edge, Record,
 };
 use pozhdaghi::{Limits, PartialStatistics, Refusal, Request, Resolution, Visible, PAIR_WORDS};
 use std::collections::{BTreeMap, BTreeSet};
@@ -173,8 +173,8 @@ fn replaced(
     };
     let mut work = slots(lent);
     let told = match owner {
-        Some(file) => pozhdaghi::replace_file(image, file, &request, &mut work, words),
-        None => pozhdaghi::replace_aliases(image, &request, &mut work, words),
+        Some(file) => plain::replace_file(image, file, &request, &mut work, words),
+        None => plain::replace_aliases(image, &request, &mut work, words),
     };
     assert!(is_zero(&work));
     told
@@ -199,7 +199,7 @@ impl Company {
         };
         let owners = company.owners();
         company.draw_day(&owners);
-        pozhdaghi::fresh(&company.image, &mut company.words).expect("not refused");
+        plain::fresh(&company.image, &mut company.words).expect("not refused");
         company
     }
 
@@ -255,7 +255,7 @@ impl Company {
     fn found_on(&self, image: &[u8]) -> Option<BTreeMap<Owner, usize>> {
         let most = self.sizes.most_live;
         let mut words = vec![0; place(most)];
-        pozhdaghi::fresh(image, &mut words).expect("not refused");
+        plain::fresh(image, &mut words).expect("not refused");
         let mut found = BTreeMap::new();
         for owner in self.owners() {
             let told = replaced(image, owner, None, self.sizes.lent, &mut words).ok()?;
@@ -286,7 +286,7 @@ impl Company {
         assert_eq!(told.map(|told| told.found as usize), Ok(new));
         self.ledger.retain(|_, (of, _)| *of != owner);
         for number in used as u32..(used + new) as u32 {
-            let edges = pozhdaghi::lookup(&self.words, number).to_vec();
+            let edges = plain::lookup(&self.words, number).to_vec();
             self.ledger.insert(number, (owner, edges));
         }
         true
@@ -316,7 +316,7 @@ impl Company {
     fn compact(&mut self) {
         let (before, used) = (self.searches(), self.used());
         let mut list = vec![9; PAIR_WORDS * used + 1];
-        let live = pozhdaghi::compact(&mut self.words, &mut list).expect("a database");
+        let live = plain::compact(&mut self.words, &mut list).expect("a database");
         assert_eq!(
             (self.used(), self.ledger.len()),
             (live as usize, live as usize)
@@ -346,7 +346,7 @@ impl Company {
     fn searches(&self) -> Vec<Found> {
         let mut found = Vec::new();
         for reference in self.references() {
-            for call in [pozhdaghi::stitched, pozhdaghi::stitched_recorded] {
+            for call in [plain::stitched, plain::stitched_recorded] {
                 for lent in [2, self.sizes.lent] {
                     found.push(self.search(call, reference, lent));
                 }
@@ -385,7 +385,7 @@ impl Company {
         for number in 0..self.words[0] + 2 {
             let part = self.ledger.get(&number);
             let edges = part.map_or(&[][..], |(_, edges)| edges);
-            assert_eq!(pozhdaghi::lookup(&self.words, number), edges);
+            assert_eq!(plain::lookup(&self.words, number), edges);
         }
     }
 
@@ -397,7 +397,7 @@ impl Company {
         self.counts.whole_days += 1;
         for reference in self.references().collect::<Vec<_>>() {
             let lent = self.sizes.lent;
-            let stitched = self.search(pozhdaghi::stitched_recorded, reference, lent);
+            let stitched = self.search(plain::stitched_recorded, reference, lent);
             let directly = |image: &[u8],
                             visible: Visible,
                             _: &[u32],
@@ -405,7 +405,7 @@ impl Company {
                             request: &Request,
                             work: &mut [u32],
                             result: &mut [u32]| {
-                pozhdaghi::direct_recorded(image, visible, reference, request, work, result)
+                plain::direct_recorded(image, visible, reference, request, work, result)
             };
             let direct = self.search(directly, reference, lent);
             if stitched.0.is_err() || direct.0.is_err() {
@@ -413,7 +413,7 @@ impl Company {
                 continue;
             }
             let sets = [&stitched.1, &direct.1]
-                .map(|result| pozhdaghi::paths(result).collect::<BTreeSet<_>>());
+                .map(|result| plain::paths(result).collect::<BTreeSet<_>>());
             assert_eq!(sets[0], sets[1], "other paths from {reference}");
             let counts = [stitched.0, direct.0].map(|told| told.map(|told| told.paths as usize));
             assert_eq!(counts, [Ok(sets[0].len()); 2], "one twice");

@@ -4,8 +4,8 @@
 
 mod common;
 
-use common::{area, blank, filed, is_zero, refusal, scope, slots, wide, Record};
-use pozhdaghi::{Request, Symbol, Visible, MOST_EDGES};
+use common::{area, blank, filed, is_zero, plain, refusal, scope, slots, wide, Record};
+use pozhdaghi::{NodeId, Request, Symbol, Visible, MOST_EDGES};
 
 /// Pairs of different symbols: in the high half alone, in its lowest and highest bit,
 /// in all of it; in the low half alone; about the bound of 32 bits.
@@ -40,7 +40,7 @@ fn graph(symbol: u64, other: u64) -> Vec<u8> {
 
 /// The only path, and every word behind it.
 fn only(result: &[u32]) -> Vec<u32> {
-    let paths: Vec<&[u32]> = pozhdaghi::paths(result).collect();
+    let paths: Vec<&[u32]> = plain::paths(result).collect();
     assert_eq!(result, area(&paths, result.len()));
     assert_eq!(paths.len(), 1);
     paths[0].to_vec()
@@ -50,7 +50,7 @@ fn only(result: &[u32]) -> Vec<u32> {
 fn searched(image: &[u8]) -> [Vec<u32>; 4] {
     let request = Request::default();
     let (mut work, mut result) = (slots(4), slots(4));
-    let directly = [pozhdaghi::direct, pozhdaghi::direct_recorded].map(|call| {
+    let directly = [plain::direct, plain::direct_recorded].map(|call| {
         let found =
             call(image, Visible::All, 2, &request, &mut work, &mut result).expect("not refused");
         let counted = found.statistics;
@@ -58,7 +58,7 @@ fn searched(image: &[u8]) -> [Vec<u32>; 4] {
         assert!(is_zero(&work));
         only(&result)
     });
-    let linearly = [pozhdaghi::linear, pozhdaghi::linear_recorded].map(|call| {
+    let linearly = [plain::linear, plain::linear_recorded].map(|call| {
         call(image, Visible::All, 2, &request, &mut result).expect("not refused");
         only(&result)
     });
@@ -70,7 +70,7 @@ fn searched(image: &[u8]) -> [Vec<u32>; 4] {
 fn stitched(image: &[u8], words: &[u32]) -> [Vec<u32>; 2] {
     let request = Request::default();
     let (mut work, mut result) = (slots(8), slots(8));
-    [pozhdaghi::stitched, pozhdaghi::stitched_recorded].map(|call| {
+    [plain::stitched, plain::stitched_recorded].map(|call| {
         call(
             image,
             Visible::All,
@@ -93,11 +93,9 @@ fn searches() {
         assert_eq!(searched(&image), [(); 4].map(|()| vec![0, 1]));
         let words = filed(&image);
         assert_eq!(stitched(&image, &words), [[0, 1], [0, 1]]);
-        let name =
-            pozhdaghi::find_name(&image, Visible::All, 4, None, &mut slots(4), &mut slots(4));
+        let name = plain::find_name(&image, Visible::All, 4, None, &mut slots(4), &mut slots(4));
         assert_eq!(name, Ok(Some(2)));
-        let none =
-            pozhdaghi::find_name(&image, Visible::All, 5, None, &mut slots(4), &mut slots(4));
+        let none = plain::find_name(&image, Visible::All, 5, None, &mut slots(4), &mut slots(4));
         assert_eq!(none, Ok(None));
     }
 }
@@ -117,9 +115,9 @@ fn a_replaced_file() {
         let after = wide::image(&nodes, &[(2, 3, 0), (3, 4, 0), (3, 5, 1)]);
         let mut words = blank(16);
         let request = Request::default();
-        pozhdaghi::fresh(&before, &mut words).expect("not refused");
+        plain::fresh(&before, &mut words).expect("not refused");
         for image in [&before, &after] {
-            let replaced = pozhdaghi::replace_file(image, 0, &request, &mut slots(8), &mut words);
+            let replaced = plain::replace_file(image, 0, &request, &mut slots(8), &mut words);
             assert_eq!(replaced.map(|counted| counted.found), Ok(5));
             assert_eq!(stitched(&before, &words), [[0, 1], [0, 1]]);
             assert_eq!(stitched(&after, &words), [[0, 2], [0, 2]]);
@@ -131,18 +129,15 @@ fn a_replaced_file() {
 fn replays() {
     for (symbol, other) in pairs() {
         let image = graph(symbol, other);
-        let path = pozhdaghi::replay(&image, 2, &[0]).expect("not refused");
+        let path = plain::replay(&image, 2, &[0]).expect("not refused");
         let scopes = None;
         assert_eq!(path.symbols, [Symbol { symbol, scopes }]);
-        assert_eq!(pozhdaghi::is_complete(&image, 2, &[0, 1]), Ok(true));
+        assert_eq!(plain::is_complete(&image, 2, &[0, 1]), Ok(true));
         for edges in [&[0, 2][..], &[0, 2, 9]] {
             let wrong = refusal(15, &[5]);
-            assert_eq!(pozhdaghi::replay(&image, 2, edges), Err(wrong));
-            assert_eq!(pozhdaghi::is_complete(&image, 2, edges), Err(wrong));
-            assert_eq!(
-                pozhdaghi::shadows(&image, (2, &[0]), (2, edges)),
-                Err(wrong)
-            );
+            assert_eq!(plain::replay(&image, 2, edges), Err(wrong));
+            assert_eq!(plain::is_complete(&image, 2, edges), Err(wrong));
+            assert_eq!(plain::shadows(&image, (2, &[0]), (2, edges)), Err(wrong));
         }
     }
 }
@@ -166,17 +161,20 @@ fn scoped() {
         );
         let pushed = |symbol| Symbol {
             symbol,
-            scopes: Some(vec![3]),
+            scopes: Some(vec![NodeId(3)]),
         };
-        let path = pozhdaghi::replay(&image, 2, &[3]).expect("not refused");
+        let path = plain::replay(&image, 2, &[3]).expect("not refused");
         assert_eq!(path.symbols, [pushed(other), pushed(symbol)]);
-        let path = pozhdaghi::replay(&image, 2, &[0]).expect("not refused");
-        assert_eq!((path.symbols.len(), &path.scopes[..]), (0, &[3][..]));
-        let path = pozhdaghi::replay(&image, 2, &[0, 4]).expect("not refused");
-        assert_eq!((path.end, path.scopes.len()), (3, 0));
+        let path = plain::replay(&image, 2, &[0]).expect("not refused");
+        assert_eq!(
+            (path.symbols.len(), &path.scopes[..]),
+            (0, &[NodeId(3)][..])
+        );
+        let path = plain::replay(&image, 2, &[0, 4]).expect("not refused");
+        assert_eq!((path.end, path.scopes.len()), (NodeId(3), 0));
         for (edge, node) in [(1, 5), (2, 6)] {
             let wrong = refusal(15, &[node]);
-            assert_eq!(pozhdaghi::replay(&image, 2, &[edge]), Err(wrong));
+            assert_eq!(plain::replay(&image, 2, &[edge]), Err(wrong));
         }
     }
 }
@@ -202,7 +200,7 @@ fn is_told(symbols: &[u64]) {
         .map(|node| (node, node + 1, 0))
         .collect();
     let edges: Vec<u32> = (0..row.len() as u32).collect();
-    let path = pozhdaghi::replay(&wide::image(&nodes, &row), 3, &edges).expect("not refused");
+    let path = plain::replay(&wide::image(&nodes, &row), 3, &edges).expect("not refused");
     let found: Vec<u64> = path.symbols.iter().rev().map(|each| each.symbol).collect();
     assert_eq!(found, symbols);
 }

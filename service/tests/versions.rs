@@ -5,10 +5,10 @@
 mod common;
 
 use common::{
-    blank, graph_a, image, live, reference, refusal, scope, slots, versioned, wide, with_head,
-    Drawn, Edge, Record,
+    blank, graph_a, image, live, plain, plain::Counts, reference, refusal, scope, slots, versioned,
+    wide, with_head, Drawn, Edge, Record,
 };
-use pozhdaghi::{Counts, Limits, Refusal, Request, Visible, LONGEST_IMAGE};
+use pozhdaghi::{Limits, Refusal, Request, Visible, LONGEST_IMAGE};
 
 type Rewrite = fn(&[u8], &mut [u8]) -> Result<usize, Refusal>;
 
@@ -23,11 +23,11 @@ fn rewritten(call: Rewrite, image: &[u8], room: usize) -> Result<Vec<u8>, Refusa
 }
 
 fn widened(image: &[u8], room: usize) -> Result<Vec<u8>, Refusal> {
-    rewritten(pozhdaghi::widen, image, room)
+    rewritten(plain::widen, image, room)
 }
 
 fn narrowed(image: &[u8], room: usize) -> Result<Vec<u8>, Refusal> {
-    rewritten(pozhdaghi::narrow, image, room)
+    rewritten(plain::narrow, image, room)
 }
 
 /// A node: its kind, the file, symbol, scope and flag as far as the kind has them.
@@ -160,8 +160,8 @@ fn there_and_back() {
     for _ in 0..600 {
         let graph = drawn.graph(&FITTING);
         let (one, two) = (graph.image(1), graph.image(2));
-        assert!(pozhdaghi::check(&one).is_ok());
-        assert_eq!(pozhdaghi::check(&two), pozhdaghi::check(&one));
+        assert!(plain::check(&one).is_ok());
+        assert_eq!(plain::check(&two), plain::check(&one));
         for more in [0, 1, 60] {
             assert_eq!(widened(&one, two.len() + more), Ok(two.clone()));
             assert_eq!(narrowed(&two, one.len() + more), Ok(one.clone()));
@@ -183,7 +183,7 @@ fn symbols_that_do_not_fit() {
     for _ in 0..600 {
         let graph = drawn.graph(&ANY);
         let two = graph.image(2);
-        assert!(pozhdaghi::check(&two).is_ok());
+        assert!(plain::check(&two).is_ok());
         let symbols = graph.symbols();
         let first = symbols.iter().position(|&(_, fits)| !fits);
         let wanted = match first {
@@ -348,15 +348,15 @@ fn the_longest_image() {
     for size in [LONGEST_IMAGE - 1, LONGEST_IMAGE] {
         let (one, two) = (full(1, size), full(2, size));
         assert_eq!(two.len(), size);
-        let counts = pozhdaghi::check(&two).expect("accepted");
+        let counts = plain::check(&two).expect("accepted");
         assert_eq!((counts.files, counts.edges), (1, 4_096));
-        assert_eq!(pozhdaghi::check(&one), Ok(counts));
+        assert_eq!(plain::check(&one), Ok(counts));
         assert_eq!(widened(&one, size), Ok(two.clone()));
         assert_eq!(widened(&one, size + 1), Ok(two.clone()));
         assert_eq!(widened(&one, size - 1), Err(refusal(32, &[])));
         assert_eq!(narrowed(&two, size), Ok(one));
         let request = Request::default();
-        let found = pozhdaghi::direct(
+        let found = plain::direct(
             &two,
             Visible::All,
             3,
@@ -368,11 +368,11 @@ fn the_longest_image() {
     }
     for size in [LONGEST_IMAGE + 1, LONGEST_IMAGE + 2, 71_000] {
         let one = full(1, size);
-        assert!(pozhdaghi::check(&one).is_ok());
+        assert!(plain::check(&one).is_ok());
         for room in [0, one.len(), size - 1, size, size + 1] {
             assert_eq!(widened(&one, room), Err(refusal(2, &[])));
         }
-        assert_eq!(pozhdaghi::check(&full(2, size)), Err(refusal(2, &[])));
+        assert_eq!(plain::check(&full(2, size)), Err(refusal(2, &[])));
     }
 }
 
@@ -392,7 +392,7 @@ fn sizes() {
         (3, LONGEST_IMAGE + 1, length),
     ] {
         let answer: Result<Counts, Refusal> = wanted;
-        assert_eq!(pozhdaghi::check(&zeros(claimed, size)), answer);
+        assert_eq!(plain::check(&zeros(claimed, size)), answer);
     }
 }
 
@@ -412,26 +412,26 @@ fn all_calls(image: &[u8]) -> Vec<String> {
     };
     let mut told = Vec::new();
     let mut words = blank(ROOM);
-    told.push(format!("{:?}", pozhdaghi::fresh(image, &mut words)));
+    told.push(format!("{:?}", plain::fresh(image, &mut words)));
     for file in 0..3 {
         let (mut work, mut after) = (slots(ROOM), words.clone());
-        let replaced = pozhdaghi::replace_file(image, file, &request, &mut work, &mut after);
+        let replaced = plain::replace_file(image, file, &request, &mut work, &mut after);
         words = after;
         told.push(format!("{replaced:?} {words:?}"));
     }
-    let replaced = pozhdaghi::replace_aliases(image, &request, &mut slots(ROOM), &mut words);
+    let replaced = plain::replace_aliases(image, &request, &mut slots(ROOM), &mut words);
     told.push(format!("{replaced:?} {words:?}"));
     for node in 0..12 {
         let (mut work, mut result) = (slots(ROOM), slots(ROOM));
-        for call in [pozhdaghi::direct, pozhdaghi::direct_recorded] {
+        for call in [plain::direct, plain::direct_recorded] {
             let found = call(image, Visible::All, node, &request, &mut work, &mut result);
             told.push(format!("{found:?} {result:?}"));
         }
-        for call in [pozhdaghi::linear, pozhdaghi::linear_recorded] {
+        for call in [plain::linear, plain::linear_recorded] {
             let found = call(image, Visible::All, node, &request, &mut result);
             told.push(format!("{found:?} {result:?}"));
         }
-        for call in [pozhdaghi::stitched, pozhdaghi::stitched_recorded] {
+        for call in [plain::stitched, plain::stitched_recorded] {
             let found = call(
                 image,
                 Visible::All,
@@ -443,7 +443,7 @@ fn all_calls(image: &[u8]) -> Vec<String> {
             );
             told.push(format!("{found:?} {result:?}"));
         }
-        let name = pozhdaghi::find_name(image, Visible::All, node, Some(2), &mut work, &mut result);
+        let name = plain::find_name(image, Visible::All, node, Some(2), &mut work, &mut result);
         told.push(format!("{name:?} {result:?}"));
         told.extend(all_paths(image, node));
     }
@@ -452,15 +452,15 @@ fn all_calls(image: &[u8]) -> Vec<String> {
 
 /// What is said of short edge lists.
 fn all_paths(image: &[u8], node: u32) -> Vec<String> {
-    let mut told = vec![format!("{:?}", pozhdaghi::replay(image, node, &[]))];
+    let mut told = vec![format!("{:?}", plain::replay(image, node, &[]))];
     for edge in 0..9 {
         let edges = [edge, (edge + 1) % 9];
-        told.push(format!("{:?}", pozhdaghi::replay(image, node, &edges[..1])));
-        told.push(format!("{:?}", pozhdaghi::replay(image, node, &edges)));
+        told.push(format!("{:?}", plain::replay(image, node, &edges[..1])));
+        told.push(format!("{:?}", plain::replay(image, node, &edges)));
         told.push(format!(
             "{:?} {:?}",
-            pozhdaghi::is_complete(image, node, &edges[..1]),
-            pozhdaghi::shadows(image, (node, &edges[..1]), (node, &edges[1..]))
+            plain::is_complete(image, node, &edges[..1]),
+            plain::shadows(image, (node, &edges[..1]), (node, &edges[1..]))
         ));
     }
     told

@@ -5,8 +5,8 @@
 mod common;
 
 use common::{
-    blank, definition, filed, graph_a, graph_b, image, is_zero, reference, refusal, scope, slots,
-    Drawn, Edge, Record,
+    blank, definition, filed, graph_a, graph_b, image, is_zero, plain, reference, refusal, scope,
+    slots, Drawn, Edge, Record,
 };
 use pozhdaghi::{Limits, Order, PartialStatistics, Refusal, Request, Resolution, Visible};
 
@@ -16,7 +16,7 @@ fn figure(image: &[u8], order: Order) -> u64 {
         order,
         limits: Limits::default(),
     };
-    let found = pozhdaghi::direct(
+    let found = plain::direct(
         image,
         Visible::All,
         2,
@@ -38,7 +38,7 @@ fn small_graphs() {
         replaced(&a, &Request::default(), 128).map(|(counted, _)| counted.waited),
         Ok(4)
     );
-    let found = pozhdaghi::linear(&a, Visible::All, 2, &Request::default(), &mut slots(2));
+    let found = plain::linear(&a, Visible::All, 2, &Request::default(), &mut slots(2));
     assert_eq!(found.expect("not refused").statistics.waited, 0);
 }
 
@@ -52,7 +52,7 @@ fn nothing_expanded() {
             ..Limits::default()
         },
     };
-    let found = pozhdaghi::direct(
+    let found = plain::direct(
         &graph_b(),
         Visible::All,
         2,
@@ -127,11 +127,11 @@ fn searched(
 ) -> Searched {
     let (mut work, mut result) = (slots(waiting), slots(600));
     let found = match (words.is_empty(), recorded) {
-        (true, false) => pozhdaghi::direct(image, Visible::All, 2, request, &mut work, &mut result),
+        (true, false) => plain::direct(image, Visible::All, 2, request, &mut work, &mut result),
         (true, true) => {
-            pozhdaghi::direct_recorded(image, Visible::All, 2, request, &mut work, &mut result)
+            plain::direct_recorded(image, Visible::All, 2, request, &mut work, &mut result)
         }
-        (false, false) => pozhdaghi::stitched(
+        (false, false) => plain::stitched(
             image,
             Visible::All,
             words,
@@ -140,7 +140,7 @@ fn searched(
             &mut work,
             &mut result,
         ),
-        (false, true) => pozhdaghi::stitched_recorded(
+        (false, true) => plain::stitched_recorded(
             image,
             Visible::All,
             words,
@@ -161,9 +161,9 @@ fn replaced(
     waiting: usize,
 ) -> Result<(PartialStatistics, Vec<u32>), Refusal> {
     let mut words = blank(600);
-    pozhdaghi::fresh(image, &mut words).expect("not refused");
+    plain::fresh(image, &mut words).expect("not refused");
     let before = words.clone();
-    let counted = pozhdaghi::replace_file(image, 0, request, &mut slots(waiting), &mut words);
+    let counted = plain::replace_file(image, 0, request, &mut slots(waiting), &mut words);
     assert!(counted.is_ok() || words == before);
     counted.map(|counted| (counted, words))
 }

@@ -1,12 +1,13 @@
 // THE PUBLIC SURFACE. What is named here is offered; what is not is no public entry, whichever crate it stands in.
 // For Rattle: the calls by name, with the contracts that they have where they stand, and the types that they speak of.
-// For Rust and C: `filing`, `naming`, `reading`, `searching` and `versions` export the same calls on numbers and slices, each of which writes its answer as the numbers
+// For Rust and C: `filing`, `naming`, `reading`, `records`, `searching` and `versions` export the same calls on numbers and slices, each of which writes its answer as the numbers
 // of semantics/specs/Told.antt into an area that the caller lends. A slice is passed as a pointer and a length.
 mod asked;
 pub mod filing;
 pub mod naming;
 mod numbers;
 pub mod reading;
+pub mod records;
 pub mod searching;
 pub mod versions;
 
@@ -26,6 +27,10 @@ pub use path::judgement::is_complete;
 pub use path::judgement::shadows;
 pub use path::path::step;
 pub use path::replay::replay;
+pub use readers::listing::outgoing;
+pub use readers::listing::references;
+pub use readers::records::edge;
+pub use readers::records::node;
 pub use rewriting::rewrite::narrow;
 pub use rewriting::rewrite::widen;
 pub use stitching::stitched::search as stitched;
@@ -38,15 +43,19 @@ pub use semantics::answer::Checked;
 pub use semantics::answer::Compaction;
 pub use semantics::answer::Conversion;
 pub use semantics::answer::Creation;
+pub use semantics::answer::EdgeReading;
 pub use semantics::answer::Finding;
 pub use semantics::answer::Judgement;
 pub use semantics::answer::LinearResolution;
+pub use semantics::answer::Listing;
+pub use semantics::answer::NodeReading;
 pub use semantics::answer::Replacement;
 pub use semantics::answer::Replayed;
 pub use semantics::answer::Resolution;
 pub use semantics::answer::Rewriting;
 pub use semantics::graph::EdgeId;
 pub use semantics::graph::FileId;
+pub use semantics::graph::Node;
 pub use semantics::graph::NodeId;
 pub use semantics::graph::PartialPathId;
 pub use semantics::refusal::DatabaseRefusal;

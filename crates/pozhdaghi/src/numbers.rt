@@ -5,23 +5,30 @@ ghost use lib.ListN.{length, getD};
 ghost use Rattle.semantics.specs.Written.{written};
 ghost use Rattle.semantics.specs.Told.{toldFlag, toldStats, toldPartialStats};
 ghost use Rattle.semantics.specs.Told.{toldChecked, toldReplayed, toldJudgement, toldResolution, toldLinearResolution, toldCompaction, toldConversion, toldCreation, toldReplacement, toldFinding, toldRewriting};
+ghost use Rattle.semantics.specs.Told.{toldNode, toldNodeReading, toldEdgeReading, toldListing};
 ghost use Rattle.told.specs.Numbers.{numbersOf};
 ghost use Rattle.pozhdaghi.specs.Written.{numbersIn};
 use semantics::answer::Checked;
 use semantics::answer::Compaction;
 use semantics::answer::Conversion;
 use semantics::answer::Creation;
+use semantics::answer::EdgeReading;
 use semantics::answer::Finding;
 use semantics::answer::Judgement;
 use semantics::answer::LinearResolution;
+use semantics::answer::Listing;
+use semantics::answer::NodeReading;
 use semantics::answer::Replacement;
 use semantics::answer::Replayed;
 use semantics::answer::Resolution;
 use semantics::answer::Rewriting;
+use semantics::graph::Node;
+use semantics::kinds;
 use semantics::search::PartialPathStats;
 use semantics::search::SearchStats;
 use told::refusal;
 use told::refusal::Told;
+use words::bytes;
 
 // The longest answer: 0, the number of paths, four counts, three flags and the waiting figure. Nothing else names this number.
 const MOST: usize = 10;
@@ -77,13 +84,14 @@ pub(crate) fn pair(first: u64, second: u64) -> Numbers
     Numbers { count: 2, items }
 }
 
-fn counts(files: u32, nodes: u32, edges: u32) -> Numbers
-    ensures { λ r. ⌜ numbersIn r ≡ 0 ∷ files ∷ nodes ∷ edges ∷ [] ⌝ }
+// 0 and three numbers: the counts of an image, or an edge.
+fn three(first: u32, second: u32, third: u32) -> Numbers
+    ensures { λ r. ⌜ numbersIn r ≡ 0 ∷ first ∷ second ∷ third ∷ [] ⌝ }
 {
     let mut items = [0; MOST];
-    items[1] = files as u64;
-    items[2] = nodes as u64;
-    items[3] = edges as u64;
+    items[1] = first as u64;
+    items[2] = second as u64;
+    items[3] = third as u64;
     Numbers { count: 4, items }
 }
 
@@ -94,6 +102,19 @@ fn name(reference: u32) -> Numbers
     items[1] = 1;
     items[2] = reference as u64;
     Numbers { count: 3, items }
+}
+
+// A node's record: its kind, file, symbol, attached scope and flag.
+fn of_record(kind: u32, file: u32, symbol: u64, scope: u32, marked: bool) -> Numbers
+    ensures { λ r. ⌜ numbersIn r ≡ 0 ∷ kind ∷ file ∷ symbol ∷ scope ∷ toldFlag marked ∷ [] ⌝ }
+{
+    let mut items = [0; MOST];
+    items[1] = kind as u64;
+    items[2] = file as u64;
+    items[3] = symbol;
+    items[4] = scope as u64;
+    items[5] = flag(marked);
+    Numbers { count: 6, items }
 }
 
 fn found(paths: u64, stats: SearchStats) -> Numbers
@@ -133,7 +154,7 @@ pub(crate) fn of_checked(answer: Checked) -> Numbers
             files,
             nodes,
             edges,
-        } => counts(files, nodes, edges),
+        } => three(files, nodes, edges),
         Checked::Refused(r) => of_told(refusal::image(r)),
     }
 }
@@ -199,6 +220,74 @@ pub(crate) fn of_rewriting(answer: Rewriting) -> Numbers
         Rewriting::Image(r) => of_told(refusal::image(r)),
         Rewriting::WideSymbol { place } => of_told(refusal::wide_symbol(place)),
         Rewriting::NoRoom => of_told(refusal::no_room()),
+    }
+}
+
+fn of_node(node: Node) -> Numbers
+    ensures { λ r. ⌜ numbersIn r ≡ 0 ∷ toldNode node ⌝ }
+{
+    match node {
+        Node::Removed => of_record(kinds::REMOVED, 0, 0, 0, false),
+        Node::Root => of_record(kinds::ROOT, 0, 0, 0, false),
+        Node::JumpToScope => of_record(kinds::JUMP_TO_SCOPE, 0, 0, 0, false),
+        Node::Scope { file, exported } => of_record(kinds::SCOPE, file.0, 0, 0, exported),
+        Node::Push {
+            file,
+            symbol,
+            reference,
+        } => of_record(kinds::PUSH, file.0, symbol, 0, reference),
+        Node::Pop {
+            file,
+            symbol,
+            definition,
+        } => of_record(kinds::POP, file.0, symbol, 0, definition),
+        Node::PushScoped {
+            file,
+            symbol,
+            scope,
+            reference,
+        } => of_record(kinds::PUSH_SCOPED, file.0, symbol, scope.0, reference),
+        Node::PopScoped {
+            file,
+            symbol,
+            definition,
+        } => of_record(kinds::POP_SCOPED, file.0, symbol, 0, definition),
+        Node::DropScopes { file } => of_record(kinds::DROP_SCOPES, file.0, 0, 0, false),
+    }
+}
+
+pub(crate) fn of_node_reading(answer: NodeReading) -> Numbers
+    ensures { λ r. ⌜ numbersIn r ≡ toldNodeReading answer ⌝ }
+{
+    match answer {
+        NodeReading::Read(node) => of_node(node),
+        NodeReading::Image(r) => of_told(refusal::image(r)),
+        NodeReading::Unknown(n) => pair(10, n.0 as u64),
+    }
+}
+
+pub(crate) fn of_edge_reading(answer: EdgeReading) -> Numbers
+    ensures { λ r. ⌜ numbersIn r ≡ toldEdgeReading answer ⌝ }
+{
+    match answer {
+        EdgeReading::Read {
+            source,
+            target,
+            precedence,
+        } => three(source.0, target.0, bytes::unsigned(precedence)),
+        EdgeReading::Image(r) => of_told(refusal::image(r)),
+        EdgeReading::Unknown(e) => pair(12, e.0 as u64),
+    }
+}
+
+pub(crate) fn of_listing(answer: Listing) -> Numbers
+    ensures { λ r. ⌜ numbersIn r ≡ toldListing answer ⌝ }
+{
+    match answer {
+        Listing::Done { count } => pair(0, count as u64),
+        Listing::Image(r) => of_told(refusal::image(r)),
+        Listing::Unknown(n) => pair(10, n.0 as u64),
+        Listing::NoRoom => of_told(refusal::no_room()),
     }
 }
 

@@ -30,6 +30,7 @@ pub mod Entries
 pub mod Versions
 pub mod Compaction
 pub mod Desks
+pub mod Reading
 
 pub starred : List (Row (List (List ℕ)))
 unfolding directly partialsIn stitching firstFiled replaying linearly

@@ -15,6 +15,8 @@ use Rattle.semantics.specs.declared.answer.LinearResolution.{LinearResol
 use Rattle.semantics.specs.declared.answer.Creation.{Creation}
 use Rattle.semantics.specs.declared.answer.Replacement.{Replacement}
 use Rattle.semantics.specs.declared.answer.Finding.{Finding}
+use Rattle.semantics.specs.declared.answer.NodeReading.{NodeReading}
+use Rattle.semantics.specs.declared.answer.EdgeReading.{EdgeReading}
 use Rattle.semantics.specs.Limits.{base, former}
 use Rattle.semantics.specs.Answer.{Answer}
 use Rattle.semantics.specs.Graph.{Graph}
@@ -25,6 +27,7 @@ use Rattle.semantics.specs.Database.Conversion.{Converted, convertCall}
 use Rattle.semantics.specs.Database.Compaction.{Compacted, compactCall}
 use Rattle.semantics.specs.Calls.{ReplayOutcome, Request, LinearRequest, FileRequest, Outcome, Change, Reply, checkCall, replayCall, completeCall, shadowsCall, directCall, linearCall, stitchedCall, aliasRequest, freshCall, replaceCall, aliasCall}
 use Rattle.semantics.specs.Finding.{FindRequest, findCall}
+use Rattle.semantics.specs.Reading.{Listed, nodeCall, edgeCall, referencesCall, outgoingCall}
 use Rattle.semantics.specs.Rewriting.{Rewritten, widen, narrow}
 use Rattle.semantics.specs.Asked.{orderAsked, lengthAsked, expansionsAsked, limitsAsked}
 
@@ -81,6 +84,19 @@ stitchedSearch reply im visible words r order limits ws rs = stitchedCall base r
 -- a name for a definition: the image, the visible files, the node, the limit on length, the work and the result area
 abbrev pub findName : List ℕ → List ℕ → ℕ → Limit → List ℕ → List ℕ → Outcome Finding
 findName im visible n most ws rs = findCall base (seenIn im visible) (nameRequestOf most ws rs n)
+
+-- a graph read by number: the image, the visible files, the number, and the lent area, of which only the length counts
+abbrev pub nodeOf : List ℕ → List ℕ → ℕ → NodeReading
+nodeOf im visible n = nodeCall (seenIn im visible) n
+
+abbrev pub edgeOf : List ℕ → List ℕ → ℕ → EdgeReading
+edgeOf im visible e = edgeCall (seenIn im visible) e
+
+abbrev pub referencesOf : List ℕ → List ℕ → List ℕ → Listed
+referencesOf im visible rs = referencesCall (seenIn im visible) (length rs)
+
+abbrev pub outgoingOf : List ℕ → List ℕ → ℕ → List ℕ → Listed
+outgoingOf im visible n rs = outgoingCall (seenIn im visible) n (length rs)
 
 -- an image rewritten in the other version: the image, and the lent bytes
 abbrev pub widenImage : List ℕ → List ℕ → Rewritten

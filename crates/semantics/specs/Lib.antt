@@ -20,6 +20,7 @@ pub mod Words
 pub mod Database
 pub mod Calls
 pub mod Finding
+pub mod Reading
 pub mod Halves
 pub mod ReplayedPaths
 pub mod Asked

@@ -42,6 +42,15 @@ use Rattle.semantics.specs.declared.answer.Conversion.{Conversion}
 use Rattle.semantics.specs.declared.answer.Conversion.the-variants as Conversion
 use Rattle.semantics.specs.declared.answer.Compaction.{Compaction}
 use Rattle.semantics.specs.declared.answer.Compaction.the-variants as Compaction
+use Rattle.semantics.specs.declared.graph.Node.{Node}
+use Rattle.semantics.specs.declared.graph.Node.the-variants as N
+use Rattle.semantics.specs.declared.answer.NodeReading.{NodeReading}
+use Rattle.semantics.specs.declared.answer.NodeReading.the-variants as NodeReading
+use Rattle.semantics.specs.declared.answer.EdgeReading.{EdgeReading}
+use Rattle.semantics.specs.declared.answer.EdgeReading.the-variants as EdgeReading
+use Rattle.semantics.specs.declared.answer.Listing.{Listing}
+use Rattle.semantics.specs.declared.answer.Listing.the-variants as Listing
+use Rattle.semantics.specs.Bytes.Written.{unsigned}
 pub mod Laws
 
 -- THE REFUSALS, row by row of document 01's table
@@ -172,3 +181,35 @@ abbrev pub toldCompaction : Compaction → List ℕ
 toldCompaction (Compaction.Done live) = 0 ∷ live ∷ []
 toldCompaction Compaction.Malformed = 35 ∷ []
 toldCompaction Compaction.ListTooShort = 32 ∷ []
+
+-- A GRAPH READ BY NUMBER
+
+-- the kind as in an image, file, symbol, attached scope and flag; 0 where the kind has none
+abbrev pub toldNode : Node → List ℕ
+toldNode N.Removed = 0 ∷ 0 ∷ 0 ∷ 0 ∷ 0 ∷ []
+toldNode N.Root = 1 ∷ 0 ∷ 0 ∷ 0 ∷ 0 ∷ []
+toldNode N.JumpToScope = 2 ∷ 0 ∷ 0 ∷ 0 ∷ 0 ∷ []
+toldNode (N.Scope f exported) = 3 ∷ f .0 ∷ 0 ∷ 0 ∷ toldFlag exported ∷ []
+toldNode (N.Push f symbol reference) = 4 ∷ f .0 ∷ symbol ∷ 0 ∷ toldFlag reference ∷ []
+toldNode (N.Pop f symbol definition) = 5 ∷ f .0 ∷ symbol ∷ 0 ∷ toldFlag definition ∷ []
+toldNode (N.PushScoped f symbol scope reference) = 6 ∷ f .0 ∷ symbol ∷ scope .0 ∷ toldFlag reference ∷ []
+toldNode (N.PopScoped f symbol definition) = 7 ∷ f .0 ∷ symbol ∷ 0 ∷ toldFlag definition ∷ []
+toldNode (N.DropScopes f) = 8 ∷ f .0 ∷ 0 ∷ 0 ∷ 0 ∷ []
+
+abbrev pub toldNodeReading : NodeReading → List ℕ
+toldNodeReading (NodeReading.Read x) = 0 ∷ toldNode x
+toldNodeReading (NodeReading.Image r) = toldImage r
+toldNodeReading (NodeReading.Unknown n) = toldPath (Path.UnknownNode n)
+
+-- source, target, and the precedence as 32 bits in two's complement
+abbrev pub toldEdgeReading : EdgeReading → List ℕ
+toldEdgeReading (EdgeReading.Read source target precedence) = 0 ∷ source .0 ∷ target .0 ∷ unsigned precedence ∷ []
+toldEdgeReading (EdgeReading.Image r) = toldImage r
+toldEdgeReading (EdgeReading.Unknown e) = toldPath (Path.UnknownEdge e)
+
+-- how many numbers stand in the area
+abbrev pub toldListing : Listing → List ℕ
+toldListing (Listing.Done count) = 0 ∷ count ∷ []
+toldListing (Listing.Image r) = toldImage r
+toldListing (Listing.Unknown n) = toldPath (Path.UnknownNode n)
+toldListing Listing.NoRoom = 32 ∷ []

@@ -1,4 +1,6 @@
 // What the public calls answer. Document 01's number and values for each case stand in specs/Told.antt.
+use crate::graph::EdgeId;
+use crate::graph::Node;
 use crate::graph::NodeId;
 use crate::refusal::DatabaseRefusal;
 use crate::refusal::ImageRefusal;
@@ -91,4 +93,30 @@ pub enum Compaction {
     Done { live: u32 },
     Malformed,
     ListTooShort,
+}
+
+// A node read by its number: its record; 10 for one that is not known.
+pub enum NodeReading {
+    Read(Node),
+    Image(ImageRefusal),
+    Unknown(NodeId),
+}
+
+// An edge likewise; 12.
+pub enum EdgeReading {
+    Read {
+        source: NodeId,
+        target: NodeId,
+        precedence: i32,
+    },
+    Image(ImageRefusal),
+    Unknown(EdgeId),
+}
+
+// Numbers listed in a lent area: how many. 10 for a node that is not known, 32 where the area has fewer words than there are numbers.
+pub enum Listing {
+    Done { count: u32 },
+    Image(ImageRefusal),
+    Unknown(NodeId),
+    NoRoom,
 }

@@ -25,6 +25,10 @@ pub enum Call {
     StitchedRecorded,
     Widen,
     Narrow,
+    Node,
+    Edge,
+    References,
+    Outgoing,
 }
 
 impl Call {
@@ -40,13 +44,23 @@ impl Call {
         matches!(self, Self::Stitched | Self::StitchedRecorded)
     }
 
-    /// "Each search takes a set of visible files", finding a name too.
+    /// They read what stands in an image.
+    pub fn is_reader(self) -> bool {
+        matches!(self, Self::Node | Self::Edge) || self.is_list()
+    }
+
+    /// Readers that are lent words for numbers.
+    pub fn is_list(self) -> bool {
+        matches!(self, Self::References | Self::Outgoing)
+    }
+
+    /// "Each search takes a set of visible files", finding a name and reading too.
     pub fn takes_set(self) -> bool {
         let is_other = matches!(
             self,
             Self::Direct | Self::DirectRecorded | Self::Linear | Self::LinearRecorded
         );
-        is_other || self.is_stitched() || self == Self::FindName
+        is_other || self.is_stitched() || self.is_reader() || self == Self::FindName
     }
 
     pub fn is_recorded(self) -> bool {
@@ -64,8 +78,8 @@ pub struct Case {
     pub image: Vec<u8>,
     /// The set of visible files; every file, where no other is drawn.
     pub visible: Vec<u8>,
-    /// The reference, the node to be named, the file or the partial path; of the
-    /// left path in `shadows`.
+    /// The reference, the node to be named, the file or the partial path, the node or the
+    /// edge to be read; of the left path in `shadows`.
     pub number: u32,
     pub edges: Vec<u32>,
     pub right_number: u32,
@@ -75,8 +89,8 @@ pub struct Case {
     /// The database; of a conversion the old area.
     pub words: Vec<u32>,
     pub work: Vec<u32>,
-    /// The result slots, the words for a replayed path, the new area of a conversion, or
-    /// the list of a compaction.
+    /// The result slots, the words for a replayed path, the new area of a conversion, the
+    /// list of a compaction, or that of a reader.
     pub result: Vec<u32>,
     /// The bytes for a rewritten image.
     pub area: Vec<u8>,

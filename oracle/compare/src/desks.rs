@@ -87,6 +87,15 @@ fn ending(graph: &Graph, visible: &[u8]) -> Graph {
     }
 }
 
+/// The node that is asked for, or an end of the edge.
+fn asked_node(case: &Case, graph: &Graph) -> Option<u32> {
+    if case.call != Call::Edge {
+        return Some(case.number);
+    }
+    let edge = graph.edges.get(case.number as usize)?.as_ref()?;
+    Some(edge.source.max(edge.target))
+}
+
 /// Bytes that show a file.
 const YES: [u8; 4] = [1, 2, 128, 255];
 
@@ -115,7 +124,7 @@ pub fn draw(random: &mut Random, case: &Case) -> Vec<u8> {
         false => 0,
     };
     let mut visible: Vec<u8> = (0..length).map(|_| byte()).collect();
-    let asked_for = graph.and_then(|graph| graph.live_node(case.number)?.file());
+    let asked_for = graph.and_then(|graph| graph.live_node(asked_node(case, &graph)?)?.file());
     if let Some(place) = asked_for.and_then(|file| visible.get_mut(file as usize))
         && random.percent(85)
     {

@@ -24,7 +24,11 @@ pub fn has(case: &Case, number: u64) -> bool {
         | Call::Narrow
         | Call::ReplaceAliases
         | Call::Convert
-        | Call::Compact => false,
+        | Call::Compact
+        | Call::Node
+        | Call::Edge
+        | Call::References
+        | Call::Outgoing => false,
         Call::Lookup => is_buildable(&case.words),
         Call::ReplaceFile | Call::Stitched | Call::StitchedRecorded => {
             is_answer(number) && is_buildable(&case.words)

@@ -24,6 +24,7 @@ mod ours;
 mod partials;
 mod path;
 mod random;
+mod readers;
 mod replayed;
 mod report;
 mod requests;

@@ -50,6 +50,14 @@ unsafe extern "C" {
         words: *const u32, words_len: usize,
         reference: u32, asked: *const u64, asked_len: usize, work: *mut u32, work_len: usize,
         result: *mut u32, result_len: usize, answer: *mut u64, answer_len: usize);
+    fn pozhdaghi_node(image: *const u8, image_len: usize, visible: *const u8, visible_len: usize, node: u32,
+        answer: *mut u64, answer_len: usize);
+    fn pozhdaghi_edge(image: *const u8, image_len: usize, visible: *const u8, visible_len: usize, edge: u32,
+        answer: *mut u64, answer_len: usize);
+    fn pozhdaghi_references(image: *const u8, image_len: usize, visible: *const u8, visible_len: usize,
+        result: *mut u32, result_len: usize, answer: *mut u64, answer_len: usize);
+    fn pozhdaghi_outgoing(image: *const u8, image_len: usize, visible: *const u8, visible_len: usize, node: u32,
+        result: *mut u32, result_len: usize, answer: *mut u64, answer_len: usize);
     fn pozhdaghi_widen(image: *const u8, image_len: usize, area: *mut u8, area_len: usize,
         answer: *mut u64, answer_len: usize);
     fn pozhdaghi_narrow(image: *const u8, image_len: usize, area: *mut u8, area_len: usize,
@@ -112,6 +120,11 @@ fn call(c: &Case, o: &mut Outcome) {
                 asked, asked_n, work, work_n, result, result_n, answer, answer_n),
             Call::StitchedRecorded => pozhdaghi_stitched_recorded(image, n, seen, seen_n, words, words_n,
                 c.number, asked, asked_n, work, work_n, result, result_n, answer, answer_n),
+            Call::Node => pozhdaghi_node(image, n, seen, seen_n, c.number, answer, answer_n),
+            Call::Edge => pozhdaghi_edge(image, n, seen, seen_n, c.number, answer, answer_n),
+            Call::References => pozhdaghi_references(image, n, seen, seen_n, result, result_n, answer, answer_n),
+            Call::Outgoing => pozhdaghi_outgoing(image, n, seen, seen_n, c.number,
+                result, result_n, answer, answer_n),
             Call::Widen => pozhdaghi_widen(image, n, o.area.as_mut_ptr(), o.area.len(), answer, answer_n),
             Call::Narrow => pozhdaghi_narrow(image, n, o.area.as_mut_ptr(), o.area.len(), answer, answer_n),
         }

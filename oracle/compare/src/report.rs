@@ -22,6 +22,8 @@ pub struct Counts {
     given: u64,
     /// Per call and number of the answer.
     numbers: BTreeMap<Call, BTreeMap<u64, u64>>,
+    /// Numbers in the lists of readers.
+    listed: u64,
     /// Lookups that hand back an empty part.
     empty_parts: u64,
     paths: u64,
@@ -93,6 +95,9 @@ impl Counts {
             (Call::Convert, _) => self.add_converted(&compared.second.result),
             (Call::Replay, 0) => self.add_replayed(case),
             (Call::FindName, 0) => self.add_name(case),
+            (call, 0) if call.is_list() => {
+                self.listed += compared.second.answer.get(1).unwrap_or(&0)
+            }
             (_, 0) if !case.result.is_empty() => self.add_found(compared),
             _ => {}
         }
@@ -200,6 +205,7 @@ impl Counts {
     fn print_made(&self) {
         println!("lookups with an empty part {}", self.empty_parts);
         println!("paths in result slots {}", self.paths);
+        println!("nodes and edges listed {}", self.listed);
         let [names, behind, shadowed] = self.names;
         println!(
             "names found {names}: of a reference behind others {behind}, of a shadowed path {shadowed}"
@@ -226,8 +232,8 @@ impl Counts {
     fn print_desks(&self) {
         let [hiding, given] = self.hiding;
         println!(
-            "searches that hide a file {hiding}, of these also put to the given Rust {given}; \
-             searches also put to a graph with other hidden records {}; direct searches that \
+            "calls that hide a file {hiding}, of these also put to the given Rust {given}; \
+             calls also put to a graph with other hidden records {}; direct searches that \
              pass over an edge which the path rules would reject {}",
             self.apart, self.spared
         );

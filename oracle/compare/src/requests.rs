@@ -10,6 +10,7 @@ use crate::names::find_name;
 use crate::partials::{Owner, compute};
 use crate::path::{MOST_EDGES, replay};
 use crate::random::Random;
+use crate::readers::outgoing;
 use crate::rewriting::bytes_of_other;
 use crate::second::found;
 
@@ -125,6 +126,20 @@ fn draw_set(random: &mut Random, case: &mut Case) {
     if case.call.takes_set() {
         case.visible = desks::draw(random, case);
     }
+}
+
+/// Draws the set, the list and the length of the answer of a reader.
+pub fn read(random: &mut Random, case: &mut Case) {
+    draw_set(random, case);
+    if case.call.is_list() {
+        let listed = desks::seen_by(case).and_then(|graph| match case.call {
+            Call::References => Ok(graph.references()),
+            _ => outgoing(&graph, case.number),
+        });
+        let words = slots_about(random, listed.map_or(2, |numbers| numbers.len()), false);
+        case.result = random.rubbish(words);
+    }
+    case.answer_length = answer_length(random);
 }
 
 /// Mostly whole; the library writes as many numbers as are asked for.

@@ -27,6 +27,7 @@ const SEARCHES: [Call; 5] = [
 /// No room for the new slots.
 const FULL: u64 = 33;
 const STITCHED: [Call; 2] = [Call::Stitched, Call::StitchedRecorded];
+const READERS: [Call; 4] = [Call::Node, Call::Edge, Call::References, Call::Outgoing];
 
 pub fn scene(random: &mut Random) -> Vec<Case> {
     let kind = random.weighted(&[30, 30, 25, 15, 12, 15, 8, 10, 15]);
@@ -47,7 +48,9 @@ pub fn scene(random: &mut Random) -> Vec<Case> {
         7 => compactions(random, &graph),
         _ => desks(random, &graph),
     };
-    cases.push(Case::new(Call::Check, &graph.image()));
+    let image = graph.image();
+    cases.extend((0..3).map(|_| reading(random, &graph, &image)));
+    cases.push(Case::new(Call::Check, &image));
     cases
 }
 
@@ -112,6 +115,19 @@ fn replay(random: &mut Random, graph: &Graph, image: &[u8]) -> Case {
     };
     case.result = requests::path_area(random, graph, case.number, &case.edges);
     case.answer_length = requests::answer_length(random);
+    case
+}
+
+/// A node, an edge or a list of them, by any number.
+fn reading(random: &mut Random, graph: &Graph, image: &[u8]) -> Case {
+    let call = *random.one_of(&READERS);
+    let mut case = Case::new(call, image);
+    let bound = match call {
+        Call::Edge => graph.edges.len(),
+        _ => graph.nodes.len(),
+    };
+    case.number = number_about(random, bound);
+    requests::read(random, &mut case);
     case
 }
 
@@ -497,7 +513,8 @@ fn other_call(random: &mut Random, graph: &Graph, image: &[u8]) -> Option<Case> 
     if random.percent(30) {
         slots::spoil(random, &mut words);
     }
-    match random.below(9) {
+    match random.below(10) {
+        9 => Some(reading(random, graph, image)),
         8 => Some(rewriting(random, graph, image)),
         0 => Some(judgement(random, graph, image)),
         6 => Some(replay(random, graph, image)),

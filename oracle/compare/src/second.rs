@@ -11,6 +11,7 @@ use crate::graph::Version;
 use crate::names::find_name;
 use crate::partials::Owner;
 use crate::path::replay;
+use crate::readers;
 use crate::rewriting;
 use crate::search::{Found, direct, linear, stitched};
 
@@ -38,6 +39,7 @@ fn answered(case: &Case) -> Result<Outcome, Refusal> {
         Call::Convert => converted(case),
         Call::Compact => compacted(case),
         Call::Lookup => Ok(looked_up(case)),
+        Call::Node | Call::Edge | Call::References | Call::Outgoing => read(case),
         Call::Widen => rewritten(case, Version::Wide),
         Call::Narrow => rewritten(case, Version::Narrow),
     }
@@ -118,6 +120,26 @@ fn named(case: &Case) -> Result<Outcome, Refusal> {
     };
     let mut outcome = Outcome::new(case, vec![0, 1, reference.into()]);
     outcome.put_paths(&[path.edges]);
+    Ok(outcome)
+}
+
+/// What stands in the part of the image that the set shows.
+fn read(case: &Case) -> Result<Outcome, Refusal> {
+    let graph = desks::seen_by(case)?;
+    let told = match case.call {
+        Call::Node => readers::node(&graph, case.number)?,
+        Call::Edge => readers::edge(&graph, case.number)?,
+        Call::References => return listed(case, graph.references()),
+        _ => return listed(case, readers::outgoing(&graph, case.number)?),
+    };
+    Ok(Outcome::new(case, [vec![0], told].concat()))
+}
+
+/// The numbers in the first words, zeros behind.
+fn listed(case: &Case, numbers: Vec<u32>) -> Result<Outcome, Refusal> {
+    let numbers = readers::fitting(numbers, case.result.len())?;
+    let mut outcome = Outcome::new(case, vec![0, numbers.len() as u64]);
+    outcome.result[..numbers.len()].copy_from_slice(&numbers);
     Ok(outcome)
 }
 

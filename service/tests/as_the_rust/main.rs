@@ -7,7 +7,7 @@
 mod common;
 mod told;
 
-use common::{area, blank, database, is_zero, slots, Slot};
+use common::{area, blank, database, is_zero, plain, slots, Slot};
 use pozhdaghi::{Limits, Order, Refusal, Request, Resolution, Visible};
 
 /// Slots of every area, more than any line of the list needs.
@@ -45,20 +45,17 @@ fn answered(state: &mut State, request: &str) -> String {
         ["W", nodes, files, slots] => arbitrary(state, number(nodes), number(files), slots),
         ["B"] => told::slots(&state.words),
         ["Y", node, list] => told::outcome(
-            pozhdaghi::replay(&state.image, number(node), &edges(list)),
+            plain::replay(&state.image, number(node), &edges(list)),
             told::path,
         ),
         ["C", node, list] => told::outcome(
-            pozhdaghi::is_complete(&state.image, number(node), &edges(list)),
+            plain::is_complete(&state.image, number(node), &edges(list)),
             told::judgement,
         ),
         ["H", left, left_list, right, right_list] => {
             let left = (number(left), &edges(left_list)[..]);
             let right = (number(right), &edges(right_list)[..]);
-            told::outcome(
-                pozhdaghi::shadows(&state.image, left, right),
-                told::judgement,
-            )
+            told::outcome(plain::shadows(&state.image, left, right), told::judgement)
         }
         [letter, node, order, length, paths, complete] => {
             let request = asked([order, length, paths, complete]);
@@ -71,12 +68,12 @@ fn answered(state: &mut State, request: &str) -> String {
 fn load(state: &mut State, hexadecimal: &str) -> String {
     let byte = |at: usize| u8::from_str_radix(&hexadecimal[at..at + 2], 16).expect("two digits");
     state.image = (0..hexadecimal.len()).step_by(2).map(byte).collect();
-    told::outcome(pozhdaghi::check(&state.image), told::counts)
+    told::outcome(plain::check(&state.image), told::counts)
 }
 
 fn fresh(state: &mut State) -> String {
     state.words = blank(ROOM);
-    told::outcome(pozhdaghi::fresh(&state.image, &mut state.words), |()| {
+    told::outcome(plain::fresh(&state.image, &mut state.words), |()| {
         "ok".to_owned()
     })
 }
@@ -84,8 +81,7 @@ fn fresh(state: &mut State) -> String {
 fn replace_file(state: &mut State, file: u32, request: &Request) -> String {
     let mut work = slots(ROOM);
     let before = state.words.clone();
-    let replaced =
-        pozhdaghi::replace_file(&state.image, file, request, &mut work, &mut state.words);
+    let replaced = plain::replace_file(&state.image, file, request, &mut work, &mut state.words);
     assert!(is_zero(&work));
     assert!(replaced.is_ok() || state.words == before);
     told::outcome(replaced, told::partial_statistics)
@@ -118,7 +114,7 @@ fn search(state: &State, letter: &str, node: u32, request: &Request) -> String {
     let (mut work, mut result) = (slots(ROOM), slots(ROOM));
     let found = searched(state, letter, node, request, &mut work, &mut result);
     assert!(is_zero(&work));
-    let paths: Vec<&[u32]> = pozhdaghi::paths(&result).collect();
+    let paths: Vec<&[u32]> = plain::paths(&result).collect();
     assert_eq!(result, area(&paths, result.len()));
     assert_eq!(found.map_or(0, |found| found.paths), paths.len() as u64);
     told::outcome(found, |found| told::resolution(found, &paths))
@@ -133,18 +129,16 @@ fn searched(
     result: &mut [u32],
 ) -> Result<Resolution, Refusal> {
     match letter {
-        "D" => pozhdaghi::direct(image, Visible::All, node, request, work, result),
-        "d" => pozhdaghi::direct_recorded(image, Visible::All, node, request, work, result),
-        "S" => pozhdaghi::stitched(image, Visible::All, words, node, request, work, result),
-        "s" => {
-            pozhdaghi::stitched_recorded(image, Visible::All, words, node, request, work, result)
-        }
+        "D" => plain::direct(image, Visible::All, node, request, work, result),
+        "d" => plain::direct_recorded(image, Visible::All, node, request, work, result),
+        "S" => plain::stitched(image, Visible::All, words, node, request, work, result),
+        "s" => plain::stitched_recorded(image, Visible::All, words, node, request, work, result),
         _ => {
             // No work area is lent.
             work.fill(0);
             match letter {
-                "L" => pozhdaghi::linear(image, Visible::All, node, request, result),
-                "l" => pozhdaghi::linear_recorded(image, Visible::All, node, request, result),
+                "L" => plain::linear(image, Visible::All, node, request, result),
+                "l" => plain::linear_recorded(image, Visible::All, node, request, result),
                 _ => panic!("no search: {letter}"),
             }
         }

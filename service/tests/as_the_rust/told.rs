@@ -1,8 +1,8 @@
 //! What the calls answer, in the words of `oracle/README.md`.
 
+use crate::common::plain::{self, Counts};
 use pozhdaghi::{
-    Counts, PartialStatistics, Refusal, Replayed, Resolution, Step, Symbol, DATABASE_HEAD,
-    RECORD_WORDS,
+    PartialStatistics, Refusal, Replayed, Resolution, Step, Symbol, DATABASE_HEAD, RECORD_WORDS,
 };
 use std::fmt::Display;
 
@@ -23,14 +23,10 @@ fn flags<const N: usize>(flags: [bool; N]) -> String {
 pub fn outcome<T>(answer: Result<T, Refusal>, done: impl FnOnce(T) -> String) -> String {
     match answer {
         Ok(answer) => done(answer),
-        Err(Refusal {
-            number,
-            values: [first, 0],
-        }) if number != 13 => format!("err {number} {first}"),
-        Err(Refusal {
-            number,
-            values: [first, second],
-        }) => format!("err {number} {first} {second}"),
+        Err(refusal) => match (refusal.number(), refusal.values()) {
+            (number, [first, 0]) if number != 13 => format!("err {number} {first}"),
+            (number, [first, second]) => format!("err {number} {first} {second}"),
+        },
     }
 }
 
@@ -106,7 +102,7 @@ fn symbol(Symbol { symbol, scopes }: &Symbol) -> String {
 pub fn slots(words: &[u32]) -> String {
     let records = words[DATABASE_HEAD..].chunks_exact(RECORD_WORDS);
     let slots = records.zip(0..words[0]).map(|(record, number)| {
-        let edges = list(pozhdaghi::lookup(words, number), ",");
+        let edges = list(plain::lookup(words, number), ",");
         match record[..3] {
             [0, ..] => edges.replace('-', "x"),
             [owner, start, end] => format!("{}:{start}:{end}:{edges}", owner - 1),

@@ -2,6 +2,8 @@
 //! areas to search them in. Each file of tests uses some of it.
 #![allow(dead_code)]
 
+pub mod plain;
+
 use pozhdaghi::{Refusal, Request, DATABASE_HEAD, RECORD_WORDS, SLOT_WORDS};
 
 /// One node's record without its count byte.
@@ -207,18 +209,18 @@ pub fn blank(room: usize) -> Vec<u32> {
 pub fn filed(image: &[u8]) -> Vec<u32> {
     let mut words = blank(16);
     let request = Request::default();
-    pozhdaghi::fresh(image, &mut words).expect("not refused");
-    pozhdaghi::replace_file(image, 0, &request, &mut slots(16), &mut words).expect("not refused");
+    plain::fresh(image, &mut words).expect("not refused");
+    plain::replace_file(image, 0, &request, &mut slots(16), &mut words).expect("not refused");
     words
 }
 
-/// A refusal and the values that document 01 returns with it.
+/// A refusal by its number and the values that document 01 returns with it; the package
+/// has a name for it.
 pub fn refusal(number: u64, values: &[u64]) -> Refusal {
     let at = |place| values.get(place).copied().unwrap_or(0);
-    Refusal {
-        number,
-        values: [at(0), at(1)],
-    }
+    let refusal = Refusal::from_numbers(number, [at(0), at(1)]);
+    assert!(!matches!(refusal, Refusal::Unknown { .. }));
+    refusal
 }
 
 /// Numbers that look drawn: each the high part of a product.

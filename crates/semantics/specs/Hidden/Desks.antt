@@ -102,7 +102,7 @@ piece-stitched bd lim c g h db eb r e f =
 
 -- ON GRAPHS
 module _ (see : ℕ → Bool) (g h : Graph) (desk : SameDesk see g h) where
-  desk-view : viewOf (seen see g) ≡ viewOf (seen see h)
+  pub desk-view : viewOf (seen see g) ≡ viewOf (seen see h)
   desk-view = same-view (viewOf (seen see g)) (viewOf (seen see h)) (viewOf-lawful (seen see g)) (viewOf-lawful (seen see h)) (desk .nodes) (desk .edges)
 
   module _ (bd : Bounds) (reply : Reply) where
@@ -152,27 +152,28 @@ module _ (see : ℕ → Bool) (g h : Graph) (desk : SameDesk see g h) where
         ∙ by-presence ((traits ((viewOf (seen see h)) .node (q .node))) .removed)
 
 -- FROM BYTES AND WORDS: the same answer, and the same words of every area, whether the call is refused or not, for every reply
-module _ (w : ℕ → ℕ) (see : ℕ → Bool) (im im′ : List ℕ) (same : SameImages w see im im′) (bd : Bounds) where
-  seen-is : seenImage see (checkImage w im) ≡ ok (seen see (same .graph))
+module _ (w : ℕ → ℕ) (see : ℕ → Bool) (im im′ : List ℕ) (same : SameImages w see im im′) where
+  pub seen-is : seenImage see (checkImage w im) ≡ ok (seen see (same .graph))
   unfolding seenImage
   seen-is = ap (seenImage see) (same .accepted)
 
-  seen-is′ : seenImage see (checkImage w im′) ≡ ok (seen see (same .graph′))
+  pub seen-is′ : seenImage see (checkImage w im′) ≡ ok (seen see (same .graph′))
   unfolding seenImage
   seen-is′ = ap (seenImage see) (same .accepted′)
 
+module _ (w : ℕ → ℕ) (see : ℕ → Bool) (im im′ : List ℕ) (same : SameImages w see im im′) (bd : Bounds) where
   pub desk-direct : (reply : Reply) (q : Request) → directCall bd reply (seenImage see (checkImage w im)) q ≡ directCall bd reply (seenImage see (checkImage w im′)) q
-  desk-direct reply q = rw (seen-is, seen-is′) (graph-direct see (same .graph) (same .graph′) (same .desk) bd reply q)
+  desk-direct reply q = rw (seen-is w see im im′ same, seen-is′ w see im im′ same) (graph-direct see (same .graph) (same .graph′) (same .desk) bd reply q)
 
   pub desk-linear : (reply : Reply) (q : LinearRequest) → linearCall bd reply (seenImage see (checkImage w im)) q ≡ linearCall bd reply (seenImage see (checkImage w im′)) q
-  desk-linear reply q = rw (seen-is, seen-is′) (graph-linear see (same .graph) (same .graph′) (same .desk) bd reply q)
+  desk-linear reply q = rw (seen-is w see im im′ same, seen-is′ w see im im′ same) (graph-linear see (same .graph) (same .graph′) (same .desk) bd reply q)
 
   pub desk-stitched : (reply : Reply) (known : ℕ → ℕ → Bool) (words words′ : List ℕ) → SameDatabases bd known see (same .graph) (same .graph′) words words′ → (q : Request)
       → stitchedCall bd reply known see (seenImage see (checkImage w im)) words q ≡ stitchedCall bd reply known see (seenImage see (checkImage w im′)) words′ q
-  desk-stitched reply known words words′ b q = rw (seen-is, seen-is′) (graph-stitched see (same .graph) (same .graph′) (same .desk) bd reply known words words′ b q)
+  desk-stitched reply known words words′ b q = rw (seen-is w see im im′ same, seen-is′ w see im im′ same) (graph-stitched see (same .graph) (same .graph′) (same .desk) bd reply known words words′ b q)
 
   pub desk-name : (q : FindRequest) → findCall bd (seenImage see (checkImage w im)) q ≡ findCall bd (seenImage see (checkImage w im′)) q
-  desk-name q = rw (seen-is, seen-is′) (graph-name see (same .graph) (same .graph′) (same .desk) bd q)
+  desk-name q = rw (seen-is w see im im′ same, seen-is′ w see im im′ same) (graph-name see (same .graph) (same .graph′) (same .desk) bd q)
 
 -- OF THE ENTRIES: equal visible files, node, order, areas and limits
 module _ (visible im im′ : List ℕ) (same : SameImages symbolBytes (sees visible) im im′) where

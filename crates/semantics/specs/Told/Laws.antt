@@ -40,13 +40,23 @@ use Rattle.semantics.specs.declared.answer.Finding.{Finding}
 use Rattle.semantics.specs.declared.answer.Finding.the-variants as Finding
 use Rattle.semantics.specs.Lists.{or, pick}
 use Rattle.semantics.specs.Graph.{nodeId, edgeId, fileId}
-use Rattle.semantics.specs.Told.{toldFlag, toldImage, toldPath, toldReplayRefusal, toldSearch, toldLinear, toldPartial, toldDatabase, toldStats, toldPartialStats, toldChecked, toldReplayed, toldJudgement, toldResolution, toldLinearResolution, toldCreation, toldReplacement, toldFinding, toldRewriting, toldConversion, toldCompaction}
+use Rattle.semantics.specs.Told.{toldFlag, toldImage, toldPath, toldReplayRefusal, toldSearch, toldLinear, toldPartial, toldDatabase, toldStats, toldPartialStats, toldChecked, toldReplayed, toldJudgement, toldResolution, toldLinearResolution, toldCreation, toldReplacement, toldFinding, toldRewriting, toldConversion, toldCompaction, toldNode, toldNodeReading, toldEdgeReading, toldListing}
 use Rattle.semantics.specs.declared.answer.Rewriting.{Rewriting}
 use Rattle.semantics.specs.declared.answer.Rewriting.the-variants as Rewriting
 use Rattle.semantics.specs.declared.answer.Conversion.{Conversion}
 use Rattle.semantics.specs.declared.answer.Conversion.the-variants as Conversion
 use Rattle.semantics.specs.declared.answer.Compaction.{Compaction}
 use Rattle.semantics.specs.declared.answer.Compaction.the-variants as Compaction
+use Rattle.semantics.specs.declared.graph.Node.{Node}
+use Rattle.semantics.specs.declared.graph.Node.the-variants as N
+use Rattle.semantics.specs.declared.answer.NodeReading.{NodeReading}
+use Rattle.semantics.specs.declared.answer.NodeReading.the-variants as NodeReading
+use Rattle.semantics.specs.declared.answer.EdgeReading.{EdgeReading}
+use Rattle.semantics.specs.declared.answer.EdgeReading.the-variants as EdgeReading
+use Rattle.semantics.specs.declared.answer.Listing.{Listing}
+use Rattle.semantics.specs.declared.answer.Listing.the-variants as Listing
+use Rattle.semantics.specs.Bytes.{signed}
+use Rattle.semantics.specs.Bytes.Written.{fits32, signed-unsigned}
 
 -- what can be read back is told without loss
 told-alike : {A : Type 0} (told : A → List ℕ) (read : List ℕ → A) → ((a : A) → read (told a) ≡ a) → (a b : A) → told a ≡ told b → a ≡ b
@@ -400,3 +410,80 @@ compaction-back Compaction.ListTooShort = refl
 
 pub compaction-alike : (a b : Compaction) → toldCompaction a ≡ toldCompaction b → a ≡ b
 compaction-alike = told-alike toldCompaction readCompaction compaction-back
+
+-- A GRAPH READ BY NUMBER
+
+-- a node by its kind
+abbrev readNode : List ℕ → Node
+readNode t =
+    pick (eqb (value 0 t) 0) N.Removed
+    (pick (eqb (value 0 t) 1) N.Root
+    (pick (eqb (value 0 t) 2) N.JumpToScope
+    (pick (eqb (value 0 t) 3) (N.Scope (fileId (value 1 t)) (flag 4 t))
+    (pick (eqb (value 0 t) 4) (N.Push (fileId (value 1 t)) (value 2 t) (flag 4 t))
+    (pick (eqb (value 0 t) 5) (N.Pop (fileId (value 1 t)) (value 2 t) (flag 4 t))
+    (pick (eqb (value 0 t) 6) (N.PushScoped (fileId (value 1 t)) (value 2 t) (nodeId (value 3 t)) (flag 4 t))
+    (pick (eqb (value 0 t) 7) (N.PopScoped (fileId (value 1 t)) (value 2 t) (flag 4 t)) (N.DropScopes (fileId (value 1 t))))))))))
+
+node-back : (x : Node) → readNode (0 ∷ toldNode x) ≡ x
+node-back N.Removed = refl
+node-back N.Root = refl
+node-back N.JumpToScope = refl
+node-back (N.Scope f exported) = ap (N.Scope f) (flag-back exported)
+node-back (N.Push f symbol reference) = ap (N.Push f symbol) (flag-back reference)
+node-back (N.Pop f symbol definition) = ap (N.Pop f symbol) (flag-back definition)
+node-back (N.PushScoped f symbol scope reference) = ap (N.PushScoped f symbol scope) (flag-back reference)
+node-back (N.PopScoped f symbol definition) = ap (N.PopScoped f symbol) (flag-back definition)
+node-back (N.DropScopes f) = refl
+
+abbrev unknownNode : List ℕ → NodeReading
+unknownNode t = NodeReading.Unknown (nodeId (value 0 t))
+
+abbrev readNodeReading : List ℕ → NodeReading
+readNodeReading = readAnswer (λ t. NodeReading.Read (readNode t)) NodeReading.Image unknownNode
+
+node-reading-back : (a : NodeReading) → readNodeReading (toldNodeReading a) ≡ a
+node-reading-back (NodeReading.Read x) = ap NodeReading.Read (node-back x)
+node-reading-back (NodeReading.Image r) = image-answer (λ t. NodeReading.Read (readNode t)) NodeReading.Image unknownNode r
+node-reading-back (NodeReading.Unknown n) = refl
+
+pub node-reading-alike : (a b : NodeReading) → toldNodeReading a ≡ toldNodeReading b → a ≡ b
+node-reading-alike = told-alike toldNodeReading readNodeReading node-reading-back
+
+-- a precedence of 32 bits, which every image's is
+abbrev pub precedenceFits : EdgeReading → Type 0
+precedenceFits (EdgeReading.Read s t p) = fits32 p ≡ true
+precedenceFits (EdgeReading.Image r) = Unit {0}
+precedenceFits (EdgeReading.Unknown e) = Unit {0}
+
+abbrev readEdge : List ℕ → EdgeReading
+readEdge t = EdgeReading.Read (nodeId (value 0 t)) (nodeId (value 1 t)) (signed (value 2 t))
+
+abbrev unknownEdge : List ℕ → EdgeReading
+unknownEdge t = EdgeReading.Unknown (edgeId (value 0 t))
+
+abbrev readEdgeReading : List ℕ → EdgeReading
+readEdgeReading = readAnswer readEdge EdgeReading.Image unknownEdge
+
+edge-reading-back : (a : EdgeReading) → precedenceFits a → readEdgeReading (toldEdgeReading a) ≡ a
+edge-reading-back (EdgeReading.Read s t p) h = ap (EdgeReading.Read s t) (signed-unsigned p h)
+edge-reading-back (EdgeReading.Image r) h = image-answer readEdge EdgeReading.Image unknownEdge r
+edge-reading-back (EdgeReading.Unknown e) h = refl
+
+pub edge-reading-alike : (a b : EdgeReading) → precedenceFits a → precedenceFits b → toldEdgeReading a ≡ toldEdgeReading b → a ≡ b
+edge-reading-alike a b h k e = sym (edge-reading-back a h) ∙ ap readEdgeReading e ∙ edge-reading-back b k
+
+abbrev otherListing : List ℕ → Listing
+otherListing t = pick (eqb (number t) 10) (Listing.Unknown (nodeId (value 0 t))) Listing.NoRoom
+
+abbrev readListing : List ℕ → Listing
+readListing = readAnswer (λ t. Listing.Done (value 0 t)) Listing.Image otherListing
+
+listing-back : (a : Listing) → readListing (toldListing a) ≡ a
+listing-back (Listing.Done count) = refl
+listing-back (Listing.Image r) = image-answer (λ t. Listing.Done (value 0 t)) Listing.Image otherListing r
+listing-back (Listing.Unknown n) = refl
+listing-back Listing.NoRoom = refl
+
+pub listing-alike : (a b : Listing) → toldListing a ≡ toldListing b → a ≡ b
+listing-alike = told-alike toldListing readListing listing-back

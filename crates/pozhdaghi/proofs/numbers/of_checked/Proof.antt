@@ -8,8 +8,8 @@ use Rattle.pozhdaghi.proofs.numbers.of_checked.Tie as tie
 enum-known-answer : tie.Need-enum-known-answer
 enum-known-answer c = search needs
 
-counts-requires : tie.Need-counts-requires
-counts-requires c κs = search needs
+three-requires : tie.Need-three-requires
+three-requires c κs = search needs
 
 enum-known-answer-2 : tie.Need-enum-known-answer-2
 enum-known-answer-2 c = search needs
@@ -21,7 +21,7 @@ of-told-requires : tie.Need-of-told-requires
 of-told-requires c κs = search needs
 
 returns : tie.Need-returns
-returns c = c .counts .ensures ∙ sym (ap toldChecked (c .before .before .answer .given .1))
+returns c = c .three .ensures ∙ sym (ap toldChecked (c .before .before .answer .given .1))
 
 returns-2 : tie.Need-returns-2
 returns-2 c = c .of-told .ensures ∙ c .before .image .ensures ∙ sym (ap toldChecked (c .before .before .before .answer2 .given .1))
@@ -31,7 +31,7 @@ of-checked-spec =
     tie.close
     (tie.spec
     enum-known-answer
-    counts-requires
+    three-requires
     enum-known-answer-2
     image-requires
     of-told-requires
