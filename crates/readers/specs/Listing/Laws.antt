@@ -25,12 +25,6 @@ use Rattle.readers.specs.Listing.{Holds, Adds, Lists, outgoingLoaded}
 
 -- THE AREA
 
-written-length : (n : ℕ) (ns : List ℕ) → length (written n ns) ≡ n
-unfolding written
-written-length zero ns = refl
-written-length (suc n) [] = ap suc (written-length n [])
-written-length (suc n) (x ∷ ns) = ap suc (written-length n ns)
-
 written-none : (n : ℕ) → zeros n ≡ written n []
 unfolding written
 written-none zero = refl

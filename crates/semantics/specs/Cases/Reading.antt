@@ -15,6 +15,21 @@ use Rattle.semantics.specs.Cases.Desks.{tables, rates}
 abbrev everything : List ℕ
 everything = imageOf 2 (scope 1 ∷ exported 1 ∷ push 1 7 ∷ reference 1 9 ∷ pop 1 7 ∷ definition 1 8 ∷ pushScoped 1 7 3 ∷ scopedReference 1 9 3 ∷ popScoped 1 7 ∷ scopedDefinition 1 8 ∷ dropScopes 1 ∷ removedNode ∷ []) []
 
+-- a scope with two edges to itself, of the least precedence and of the greatest
+abbrev utmost : List ℕ
+utmost =
+    1 ∷ 0 ∷ 0 ∷ 0 ∷ 35 ∷ 0 ∷ 1 ∷ 0 ∷ 3 ∷ 0 ∷ 2
+    ∷ 1 ∷ 1
+    ∷ 1 ∷ 2
+    ∷ 4 ∷ 3 ∷ 0 ∷ 0 ∷ 0
+    ∷ 9 ∷ 1 ∷ 0 ∷ 2 ∷ 0 ∷ 2 ∷ 128 ∷ 0 ∷ 0 ∷ 0
+    ∷ 9 ∷ 1 ∷ 0 ∷ 2 ∷ 0 ∷ 2 ∷ 127 ∷ 255 ∷ 255 ∷ 255
+    ∷ []
+
+-- a reference to symbol 2^32 + 7, in version 2
+abbrev wider : List ℕ
+wider = 2 ∷ 0 ∷ 0 ∷ 0 ∷ 23 ∷ 0 ∷ 1 ∷ 0 ∷ 3 ∷ 0 ∷ 0 ∷ 1 ∷ 1 ∷ 1 ∷ 2 ∷ 12 ∷ 4 ∷ 0 ∷ 0 ∷ 0 ∷ 0 ∷ 0 ∷ 1 ∷ 0 ∷ 0 ∷ 0 ∷ 7 ∷ 1 ∷ []
+
 abbrev both : List ℕ
 both = 1 ∷ 1 ∷ []
 
@@ -34,6 +49,8 @@ nodeRows =
     ∷ (toldNodeReading (nodeOf everything both 10) gives 0 ∷ 7 ∷ 1 ∷ 7 ∷ 0 ∷ 0 ∷ [])
     ∷ (toldNodeReading (nodeOf everything both 11) gives 0 ∷ 7 ∷ 1 ∷ 8 ∷ 0 ∷ 1 ∷ [])
     ∷ (toldNodeReading (nodeOf everything both 12) gives 0 ∷ 8 ∷ 1 ∷ 0 ∷ 0 ∷ 0 ∷ [])
+    -- a symbol of 64 bits, whole
+    ∷ (toldNodeReading (nodeOf wider both 2) gives 0 ∷ 4 ∷ 0 ∷ 4294967303 ∷ 0 ∷ 1 ∷ [])
     -- removed, and behind the last
     ∷ (toldNodeReading (nodeOf everything both 13) gives 10 ∷ 13 ∷ [])
     ∷ (toldNodeReading (nodeOf everything both 14) gives 10 ∷ 14 ∷ [])
@@ -54,6 +71,9 @@ edgeRows =
     (toldEdgeReading (edgeOf imageA both 2) gives 0 ∷ 3 ∷ 5 ∷ 1 ∷ [])
     -- precedence -2
     ∷ (toldEdgeReading (edgeOf imageD both 0) gives 0 ∷ 2 ∷ 3 ∷ 4294967294 ∷ [])
+    -- -2^31 and 2^31 - 1
+    ∷ (toldEdgeReading (edgeOf utmost both 0) gives 0 ∷ 2 ∷ 2 ∷ 2147483648 ∷ [])
+    ∷ (toldEdgeReading (edgeOf utmost both 1) gives 0 ∷ 2 ∷ 2 ∷ 2147483647 ∷ [])
     -- removed, and behind the last
     ∷ (toldEdgeReading (edgeOf tables both 6) gives 12 ∷ 6 ∷ [])
     ∷ (toldEdgeReading (edgeOf tables both 9) gives 12 ∷ 9 ∷ [])
