@@ -1,4 +1,6 @@
 // The values that contracts speak about. What they mean stands in specs/.
+#![tactic(auto)]
+
 pub mod answer;
 pub mod bounds;
 pub mod graph;

@@ -209,10 +209,12 @@ module _ (g : Graph) (good : accepts g ≡ true) where
       (⊎_elim (λ z. z) (λ z. absurd (live.2 z)) (fileless-first g good n live.0 both.0), shared-end ((view_of g).node t.0) live.1 both.1)
 
   walk_ends : {n m e : ℕ} {es : List ℕ} → Walk (view_of g) (owned_by (view_of g) nobody) n (e ∷ es) m → is_endpoint ((view_of g).node m) ≡ true
-  walk_ends {es = []} w =
+  walk_ends {n = n} {m = m} {e = e} {es = []} w =
       let k = walk-cons (view_of g) (owned_by (view_of g) nobody) w in
       subst (λ x. is_endpoint ((view_of g).node x) ≡ true) (walk-nil (view_of g) (owned_by (view_of g) nobody) k.4) (fileless-ends _ _ k.0 k.1 k.2 k.3).1
-  walk_ends {es = x ∷ es} w = walk_ends (walk-cons (view_of g) (owned_by (view_of g) nobody) w).4
+  walk_ends {n = n} {m = m} {e = e} {es = x ∷ es} w =
+      let k = walk-cons (view_of g) (owned_by (view_of g) nobody) w in
+      walk_ends {n = k.0.0} {m = m} {e = x} {es = es} k.4
 
   pub nobody-starts : (bd : Bounds) (lim : Limit) (r : Route) → Partial bd lim (view_of g) (all_owners g) nobody r → r.start ≡ 0
   nobody-starts bd lim r p = ⊎_elim (λ z. z) (λ (h : (file_of ((view_of g).node r.start) ≡ some nobody) × (is_start ((view_of g).node r.start) ≡ true)). absurd (not-file ((suited g good).home r.start nobody h.0))) p.begins

@@ -189,10 +189,12 @@ module _ {W : Type 0} where
 module _ {R W : Type 0} where
   -- an item among the tries is among what they push, and a complete one among what they keep; and the other way round
   pushes-of : (b : Bool) (w : W) (ts : List (Try R W)) → Memᴰ (go b w) ts → Memᴰ w (pushes ts)
+  pushes-of b w [] x' = elim x' [ ]
   pushes-of b w (t ∷ ts) (mathlib.Core.List.Memᴰ.head e) = subst (λ x. Memᴰ w (pushed_of x ++ pushes ts)) e (mathlib.Core.List.Memᴰ.head refl)
   pushes-of b w (t ∷ ts) (mathlib.Core.List.Memᴰ.tail m) = mathlib.Core.List.Memᴰ.append_right (pushed_of t) (pushes-of b w ts m)
 
   news-of : (w : W) (ts : List (Try R W)) → Memᴰ (go true w) ts → Memᴰ w (news ts)
+  news-of w [] x' = elim x' [ ]
   news-of w (t ∷ ts) (mathlib.Core.List.Memᴰ.head e) = subst (λ x. Memᴰ w (new_of x ++ news ts)) e (mathlib.Core.List.Memᴰ.head refl)
   news-of w (t ∷ ts) (mathlib.Core.List.Memᴰ.tail m) = mathlib.Core.List.Memᴰ.append_right (new_of t) (news-of w ts m)
 
@@ -450,6 +452,7 @@ module _ {R W : Type 0} where
 
   pub each-stopless : (c : Setting R) (s u : State W) (ts : List (Try R W)) → each c s ts ≡ ok u → (r : R) → Memᴰ (stop r) ts → ⊥
   unfolding each one judged
+  each-stopless c s u [] e r x'' = elim x'' [ ]
   each-stopless c s u (t ∷ ts) e r (mathlib.Core.List.Memᴰ.head f) =
       let k = and_then-ok (one c s t) (λ x. each c x ts) u e in
       refuse-ok r k.0 (ap (one c s) f ∙ k.1)
