@@ -107,6 +107,7 @@ returned-lists bd g j s k = unshadowed-lists bd g j (recorded s) (recorded s) ow
 -- ---- a search that makes no copies
 
 once-not : (x : List ℕ) (ls ms : List (List ℕ)) → Once (ls ++ (x ∷ ms)) → Memᴰ x ls → ⊥
+once-not x [] ms o x3 = elim x3 [ ]
 once-not x (l ∷ ls) ms o (Memᴰ.head e) = o.0 (Memᴰ.append_right ls (Memᴰ.head (sym e)))
 once-not x (l ∷ ls) ms o (Memᴰ.tail m) = once-not x ls ms o.1 m
 

@@ -1,0 +1,11 @@
+-- `note_slot` meets its contract: the edges before this place are reached.
+use mathlib.Core.Path.{◌≡◌}
+use Prim.Native.Nat.{◌+◌, ◌*◌, ◌≤◌}
+use lib.ListN.{length, get_or}
+use Rattle.semantics.specs.Limits.{slot_length}
+use Rattle.reply.specs.ResultSlots.{count_of}
+use Rattle.reply.specs.Rivals.{Best}
+use Rattle.reply.proofs.rivals.note_slot.Given as goal
+
+abbrev pub invariant-loop-at : goal.invariant-loop-at
+invariant-loop-at l = (l.end ≡ slot_length * l.i + 1 + count_of slot_length (get_or l.res (slot_length * l.i) 0)) × (slot_length * l.i + 1 ≤ l.at) × (l.at ≤ l.end) × (length l.best ≡ length l.initial.best) × Best slot_length l.index l.res l.at l.best
