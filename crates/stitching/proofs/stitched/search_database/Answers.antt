@@ -1,0 +1,33 @@
+use Rattle.semantics.specs.Entries.{request_of}
+use Rattle.semantics.specs.Hidden.{sees}
+use Rattle.stitching.specs.StitchedAnswers.Laws.{checked-readable, database-refused, database-does}
+use Rattle.stitching.proofs.stitched.search_database.Goals as goal
+
+pub search_loaded-requires : goal.search_loaded-requires
+search_loaded-requires c =
+    let a = c.args in
+    let p = c.requires in (
+      p.holds,
+      checked-readable p.holds.graph a.words.now
+          (c.check.ensures p.holds.graph p.node-count p.file-count) p.holds.loaded
+          c.in-Sound.is,
+    )
+
+pub returns-in-Refused : goal.returns-in-Refused
+returns-in-Refused c =
+    let check = c.check in
+    let a = c.args in
+    λ g l j n f.
+    database-refused g a.words.now (check.ensures g n f) (sees a.visible.now) a.reply
+    (request_of a.order a.limits a.work.now a.res.now a.reference) c.in-Refused.r c.in-Refused.is
+    c.zero.ensures c.zero-in-Refused.ensures
+
+pub returns-in-Sound : goal.returns-in-Sound
+returns-in-Sound c =
+    let search-loaded = c.search_loaded in
+    let check = c.check in
+    let a = c.args in
+    λ g l j n f.
+    database-does g a.words.now (check.ensures g n f) (sees a.visible.now) a.reply
+    (request_of a.order a.limits a.work.now a.res.now a.reference) c.in-Sound.is search-loaded.result
+    search-loaded.new.work search-loaded.new.res (search-loaded.ensures g l j)
