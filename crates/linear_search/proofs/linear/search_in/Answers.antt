@@ -1,0 +1,35 @@
+-- `linear_search::linear::search_in`: the refusal of the image, or the search on the graph that it holds.
+use Rattle.semantics.specs.Entries.{graph_in, linear_request_of}
+use Rattle.semantics.specs.Image.{symbol_bytes}
+use Rattle.semantics.specs.Hidden.{sees, seen}
+use Rattle.storage.specs.Index.Use.{answer-accepted, refused-seen, accepted-seen}
+use Rattle.path.specs.Replays.Calls.{seen-jump}
+use Rattle.linear_search.specs.LinearAnswers.Laws.{image-refused, image_does}
+use Rattle.linear_search.proofs.linear.search_in.Goals as goal
+
+pub search_loaded-requires : goal.search_loaded-requires
+search_loaded-requires c =
+    let load-seen = c.load_seen in
+    let a = c.args in
+    let z = answer-accepted (graph_in a.image.now) c.in-Accepted.files c.in-Accepted.nodes c.in-Accepted.edges
+    load-seen.ensures.value c.in-Accepted.is in
+    record { graph = seen (sees a.visible.now) z.graph; loaded = load-seen.ensures.loaded z.graph z.is }
+
+pub returns-in-Refused : goal.returns-in-Refused
+returns-in-Refused c =
+    let load-seen = c.load_seen in
+    let a = c.args in
+    image-refused a.reply (linear_request_of a.limits a.res.now a.reference) c.in-Refused.r
+    (refused-seen (sees a.visible.now) (graph_in a.image.now) c.in-Refused.r load-seen.ensures.value c.in-Refused.is) c.zero.ensures
+
+pub returns-in-Accepted : goal.returns-in-Accepted
+returns-in-Accepted c =
+    let search-loaded = c.search_loaded in
+    let load-seen = c.load_seen in
+    let a = c.args in
+    let z = answer-accepted (graph_in a.image.now) c.in-Accepted.files c.in-Accepted.nodes c.in-Accepted.edges
+    load-seen.ensures.value c.in-Accepted.is in
+    let see = sees a.visible.now in
+    image_does a.reply (linear_request_of a.limits a.res.now a.reference) (seen see z.graph) (accepted-seen see z.is) search-loaded.result
+    search-loaded.new.res
+    (search-loaded.ensures (seen see z.graph) (load-seen.ensures.loaded z.graph z.is) (seen-jump see symbol_bytes a.image.now z.graph z.is))
