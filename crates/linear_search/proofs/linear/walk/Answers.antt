@@ -1,6 +1,7 @@
 use Prim.Native.Nat.{ℕ, ◌<◌}
 use native.Mathlib.Omega.{arith}
 use mathlib.Core.Path.{refl, sym, ap, subst, ◌∙◌}
+use borrow.Author.Tests.{not-true, not-false}
 use Rattle.semantics.specs.Limits.{looked_ever}
 use Rattle.semantics.specs.declared.refusal.LinearRefusal.TheVariants as Linear
 use Rattle.semantics.specs.Graph.{node_id}
@@ -29,7 +30,7 @@ returns-then-not-asked c =
     let e = c.expansions in
     λ v.
     turn-over v e.invariant.0 (e.invariant.3 v) admitted-expansion.ensures c.with_budget-state.ensures
-    (c.if-not-asked.true)
+    (not-true admitted-expansion.result.allowed c.if-not-asked.true)
 
 pub get_step-end-requires : goal.get_step-end-requires
 get_step-end-requires c =
@@ -54,7 +55,7 @@ try_edge-requires c =
     let e = c.expansions in
     let p = c.requires in
     let opening = turn-opening p e.invariant.0 (e.invariant.3 p) admitted-expansion.ensures with-budget.ensures
-    (if1.false) (ap (λ (s : Step). s.end) get-step.ensures) in
+    (not-false admitted-expansion.result.allowed if1.false) (ap (λ (s : Step). s.end) get-step.ensures) in
     (mid-walk opening (l.invariant.2 opening) (omega (arith, c.loop-link-test.true)))
 
 pub returns-in-Refused : goal.returns-in-Refused
@@ -67,7 +68,7 @@ returns-in-Refused c =
     let if1 = c.if-not-asked in
     let with-budget = c.with_budget-state in
     let admitted-expansion = c.admitted_expansion-asked in
-    let allowed-told = if1.false in
+    let allowed-told = not-false admitted-expansion.result.allowed if1.false in
     let e = c.expansions in
     let a = c.args in
     λ v.
@@ -97,7 +98,7 @@ loop-link-smaller c =
     let a = c.args in
     let p = c.requires in
     let opening = turn-opening p e.invariant.0 (e.invariant.3 p) admitted-expansion.ensures with-budget.ensures
-    (if1.false) (ap (λ (s : Step). s.end) get-step.ensures) in
+    (not-false admitted-expansion.result.allowed if1.false) (ap (λ (s : Step). s.end) get-step.ensures) in
     subst (λ (n : ℕ). left a.index.now n < left a.index.now l.link) (sym c.next-link.ensures)
     (mid-less opening (l.invariant.2 opening) (omega (arith, loop-test.true)))
 
@@ -127,7 +128,7 @@ returns-then-on-lt1 c =
     let if1 = c.if-not-asked in
     let with-budget = c.with_budget-state in
     let admitted-expansion = c.admitted_expansion-asked in
-    let allowed-told = if1.false in
+    let allowed-told = not-false admitted-expansion.result.allowed if1.false in
     let e = c.expansions in
     λ v.
     turn-none v e.invariant.0 (e.invariant.3 v) admitted-expansion.ensures with-budget.ensures allowed-told end_is
@@ -151,7 +152,7 @@ advance-requires c =
     let if1 = c.if-not-asked in
     let with-budget = c.with_budget-state in
     let admitted-expansion = c.admitted_expansion-asked in
-    let allowed-told = if1.false in
+    let allowed-told = not-false admitted-expansion.result.allowed if1.false in
     let e = c.expansions in
     let p = c.requires in
     let inv = l.invariant.2 (turn-opening p e.invariant.0 (e.invariant.3 p) admitted-expansion.ensures with-budget.ensures allowed-told end_is) in (
@@ -188,7 +189,7 @@ expansions-preserved c =
     let if1 = c.if-not-asked in
     let with-budget = c.with_budget-state in
     let admitted-expansion = c.admitted_expansion-asked in
-    let allowed-told = if1.false in
+    let allowed-told = not-false admitted-expansion.result.allowed if1.false in
     let e = c.expansions in
     (
       c.advance.auto.steps ∙ e.invariant.0,
@@ -212,7 +213,7 @@ returns c =
     let if1 = c.if-not-asked in
     let with-budget = c.with_budget-state in
     let admitted-expansion = c.admitted_expansion-asked in
-    let allowed-told = if1.false in
+    let allowed-told = not-false admitted-expansion.result.allowed if1.false in
     let e = c.expansions in
     let a = c.args in
     λ v.
