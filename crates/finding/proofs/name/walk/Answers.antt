@@ -22,7 +22,7 @@ returns-in-Found c =
     let a = c.args in
     λ g l e.
     walk-found g a.limit (length a.work.now) (length a.res.now) a.node k.n (k.invariant.3 g l e) (omega (arith, loop-test.true, e))
-    try-node.new.res c.in-Found.r (told_here g a.limit (length k.work) (length a.work.now) (length k.result)
+    try-node.new.res c.in-Found.r (told_here g a.limit (length k.work) (length a.work.now) (length k.res)
     (length a.res.now) a.node k.n (is_reference ((view_of g).node k.n)) try-node.new.res k.invariant.0 k.invariant.1
     try-node.result (Tried.Found c.in-Found.r) c.in-Found.is (try-node.ensures g l))
 
@@ -34,7 +34,7 @@ returns-in-Refused c =
     let a = c.args in
     λ g l e.
     walk_refused g a.limit (length a.work.now) (length a.res.now) a.node k.n (k.invariant.3 g l e) (omega (arith, loop-test.true, e))
-    try-node.new.res c.in-Refused.x (told_here g a.limit (length k.work) (length a.work.now) (length k.result)
+    try-node.new.res c.in-Refused.x (told_here g a.limit (length k.work) (length a.work.now) (length k.res)
     (length a.res.now) a.node k.n (is_reference ((view_of g).node k.n)) try-node.new.res k.invariant.0 k.invariant.1
     try-node.result (Tried.Refused c.in-Refused.x) c.in-Refused.is (try-node.ensures g l))
 
@@ -55,12 +55,12 @@ loop-n-preserved c =
       try-node.auto.res ∙ k.invariant.1,
       tells-cleared try-node.new.res
           (tried_of p.holds.graph a.limit (length a.work.now) (length a.res.now) a.node k.n (is_reference ((view_of p.holds.graph).node k.n)))
-          (told_here p.holds.graph a.limit (length k.work) (length a.work.now) (length k.result) (length a.res.now) a.node k.n
+          (told_here p.holds.graph a.limit (length k.work) (length a.work.now) (length k.res) (length a.res.now) a.node k.n
           (is_reference ((view_of p.holds.graph).node k.n)) try-node.new.res k.invariant.0 k.invariant.1 try-node.result Tried.Without
           c.in-Without.is (try-node.ensures p.holds.graph p.holds.loaded)),
       λ g l e. walk-again g a.limit (length a.work.now) (length
           a.res.now) a.node k.n (k.invariant.3 g l e) (omega (arith, loop-test.true, e)) try-node.new.res (told_here g a.limit
-          (length k.work) (length a.work.now) (length k.result) (length a.res.now) a.node k.n (is_reference ((view_of g).node k.n))
+          (length k.work) (length a.work.now) (length k.res) (length a.res.now) a.node k.n (is_reference ((view_of g).node k.n))
           try-node.new.res k.invariant.0 k.invariant.1 try-node.result Tried.Without c.in-Without.is (try-node.ensures g l)),
     )
 
@@ -70,4 +70,4 @@ returns c =
     let a = c.args in
     λ g l e.
     walk_end g a.limit (length a.work.now) (length a.res.now) a.node k.n (k.invariant.3 g l e) (omega (arith, c.loop-n-test.false, e))
-    k.result k.invariant.2
+    k.res k.invariant.2
