@@ -1,2 +1,4 @@
 // A tally by length. Document 02, order 9.
+#![tactic(auto)]
+
 pub mod lengths;
