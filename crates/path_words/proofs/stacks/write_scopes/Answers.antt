@@ -18,7 +18,7 @@ returns-then-cell-lt1 c =
     let l = c.loop-left in
     let all = scope_words (scopes_of f a.top) in
     left_end a.area.now l.area c.put.new.area a.from l.at c.put.result all
-    (scopes-none f l.false l.cell c.if-cell-lt1.true) l.invariant.1 c.put.ensures
+    (scopes-none f l.left l.cell c.if-cell-lt1.true) l.invariant.1 c.put.ensures
 
 pub loop-left-preserved : goal.loop-left-preserved
 loop-left-preserved c =
@@ -28,9 +28,9 @@ loop-left-preserved c =
     let s = c.part.result in
     let d = c.part-cell.result in
     let all = scope_words (scopes_of f a.top) in
-    let rest = scope_words (scopes_from f l.false l.cell) in
-    let next = scope_words (scopes_from f (l.false - 1) d) in
-    let turn = scopes-turn f l.false l.cell c.loop-left-test.true c.if-cell-lt1.false c.part.ensures c.part-cell.ensures in
+    let rest = scope_words (scopes_from f l.left l.cell) in
+    let next = scope_words (scopes_from f (l.left - 1) d) in
+    let turn = scopes-turn f l.left l.cell c.loop-left-test.true c.if-cell-lt1.false c.part.ensures c.part-cell.ensures in
     (search rules, left-more a.area.now l.area c.put_item-at.new.area a.from l.at c.put_item-at.result all (1 ∷ s ∷ []) next turn l.invariant.1 c.put_item-at.ensures)
 
 pub returns : goal.returns
@@ -39,5 +39,5 @@ returns c =
     let f = step_at a.steps.now in
     let l = c.loop-left in
     let all = scope_words (scopes_of f a.top) in
-    let rest = scope_words (scopes_from f l.false l.cell) in
-    left_end a.area.now l.area c.put-2.new.area a.from l.at c.put-2.result all (scopes-out f l.false l.cell (omega (arith, c.loop-left-test.false))) l.invariant.1 c.put-2.ensures
+    let rest = scope_words (scopes_from f l.left l.cell) in
+    left_end a.area.now l.area c.put-2.new.area a.from l.at c.put-2.result all (scopes-out f l.left l.cell (omega (arith, c.loop-left-test.false))) l.invariant.1 c.put-2.ensures

@@ -17,7 +17,7 @@ returns-then-cell-lt1 c =
     let l = c.loop-left in
     let all = symbol_words (symbols_of f a.top) in
     left_end a.area.now l.area c.put.new.area a.from l.at c.put.result all
-    (symbols-none f l.false l.cell c.if-cell-lt1.true) l.invariant.1 c.put.ensures
+    (symbols-none f l.left l.cell c.if-cell-lt1.true) l.invariant.1 c.put.ensures
 
 pub loop-left-preserved : goal.loop-left-preserved
 loop-left-preserved c =
@@ -28,9 +28,9 @@ loop-left-preserved c =
     let k = l.cell - 1 in
     let all = symbol_words (symbols_of f a.top) in
     let top = symbol_word (f k).symbol (attached_of f (f k).attached) in
-    let rest = symbol_words (symbols_from f l.false l.cell) in
-    let next = symbol_words (symbols_from f (l.false - 1) d) in
-    let turn = symbols-turn f l.false l.cell c.loop-left-test.true c.if-cell-lt1.false c.part-cell.ensures in
+    let rest = symbol_words (symbols_from f l.left l.cell) in
+    let next = symbol_words (symbols_from f (l.left - 1) d) in
+    let turn = symbols-turn f l.left l.cell c.loop-left-test.true c.if-cell-lt1.false c.part-cell.ensures in
     (search rules, left-more a.area.now l.area c.write_symbol-at.new.area a.from l.at c.write_symbol-at.result all top next turn l.invariant.1 c.write_symbol-at.ensures)
 
 pub returns : goal.returns
@@ -39,5 +39,5 @@ returns c =
     let f = step_at a.steps.now in
     let l = c.loop-left in
     let all = symbol_words (symbols_of f a.top) in
-    let rest = symbol_words (symbols_from f l.false l.cell) in
-    left_end a.area.now l.area c.put-2.new.area a.from l.at c.put-2.result all (symbols-out f l.false l.cell (omega (arith, c.loop-left-test.false))) l.invariant.1 c.put-2.ensures
+    let rest = symbol_words (symbols_from f l.left l.cell) in
+    left_end a.area.now l.area c.put-2.new.area a.from l.at c.put-2.result all (symbols-out f l.left l.cell (omega (arith, c.loop-left-test.false))) l.invariant.1 c.put-2.ensures
