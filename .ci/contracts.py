@@ -1,10 +1,11 @@
 #!/usr/bin/env python3
 """contracts.py [--check]: docs/CONTRACTS.txt, the promises of the public calls as they stand in the code.
 
-Every public call with its parameters in order and each clause; then every crate with the number of its functions, clauses and must-fail
+Every public call with its parameters in order and each clause; then every crate with the number of its functions, clauses, tests and must-fail
 edits. With --check nothing is written, and a difference is printed and ends with status 1: a promise that is weakened, left out or
-reordered shows as a change of that one file. The public calls are those that crates/pozhdaghi offers: the functions named by its `pub use` lines
-and those that it exports. Behind them stand the functions of crates/demand, which have demand 3 as their contracts.
+reordered shows as a change of that one file. The public calls are those that crates/pozhdaghi offers: the functions named by its `pub use` lines,
+and those on numbers and slices, which stand here as crates/pozhdaghi_c exports them (.ci/declarations.py sees to it that both say the same).
+Behind them stand the functions of crates/demand, which have demand 3 as their contracts.
 """
 
 import difflib
@@ -17,12 +18,14 @@ from signatures import crates
 TOP = Path(__file__).resolve().parent.parent
 LIST = TOP / "docs" / "CONTRACTS.txt"
 SURFACE = TOP / "crates" / "pozhdaghi" / "src" / "lib.rt"
-OFFERED = re.compile(r"^pub use (\w+::\w+::([a-z]\w*))(?: as \w+)?;", re.M)
+OFFERED = re.compile(r"^pub use (\w+::\w+)::(?:\{([^{}]*)\}|(\w+(?: as \w+)?));", re.M)
 
 
 def offered():
     """The functions that the public surface names: types begin with a capital."""
-    return {path for path, _ in OFFERED.findall(SURFACE.read_text())}
+    found = OFFERED.findall(SURFACE.read_text())
+    named = [(module, name.split()[0]) for module, several, one in found for name in (several or one).split(",") if name.strip()]
+    return {f"{module}::{name}" for module, name in named if name[0].islower()}
 
 
 def contract(function):
@@ -30,17 +33,19 @@ def contract(function):
     lines += [f"    {name}: {kind}" if kind else f"    {name}" for name, kind in function.parameters]
     if function.result:
         lines.append(f"    -> {function.result}")
-    lines += [f"    {clause} {text}" for clause, text in function.clauses]
+    lines += [f"    {clause}" for clause in function.clauses]
     return lines
 
 
 def counted(name, folder, functions):
-    kind = "program" if (folder / "src" / "main.rt").exists() else "library"
-    clauses = [clause for f in functions for clause, _ in f.clauses]
+    kind = "program" if (folder / "src" / "main.rt").exists() else "static library" if any(f.exported for f in functions) else "library"
+    tests = sum(f.is_test for f in functions)
+    functions = [f for f in functions if not f.is_test]
+    clauses = [clause.kind.rstrip("*") for f in functions for clause in f.clauses]
     edits = len(list(folder.glob("must-fail/*.edit")))
     return (
         f"{kind} {name}: {len(functions)} functions, {sum(f.seen == 'pub' for f in functions)} of them pub, "
-        f"{clauses.count('requires')} requires, {clauses.count('ensures')} ensures, {edits} edits"
+        f"{clauses.count('requires')} requires, {clauses.count('ensures')} ensures, {tests} tests, {edits} edits"
     )
 
 

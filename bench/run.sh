@@ -20,7 +20,7 @@ if [ "$IMAGES" = own ]; then
     rm -rf "$IMAGES"
     python3 "$HERE/images.py" "$IMAGES"
 fi
-(cd "$ROOT" && rt staticlib pozhdaghi > "$ROOT/target/bench-proof.log" 2>&1) || { tail -n 20 "$ROOT/target/bench-proof.log" >&2; exit 1; }
+"$ROOT/tools/archive.sh" > "$ROOT/target/bench-proof.log" 2>&1 || { tail -n 20 "$ROOT/target/bench-proof.log" >&2; exit 1; }
 bash "$ROOT/oracle/build.sh" "$SOURCE" > "$ROOT/target/bench-oracle.log" 2>&1 || { tail -n 20 "$ROOT/target/bench-oracle.log" >&2; exit 1; }
 export POZHDAGHI_LIB_DIR=$ROOT/target/staticlib
 cargo build --quiet --release --offline --manifest-path "$HERE/Cargo.toml" --target-dir "$ROOT/target/bench"

@@ -15,7 +15,7 @@ GIVEN=${GIVEN:-$ROOT/../shared/docs/src}
 "$HERE/lacks.sh" "$GIVEN" "POZHDAGHI_LIB_DIR with the folder of a proved libpozhdaghi.a"
 "$HERE/build.sh" "$GIVEN" "$ROOT/target/oracle"
 if [ -z "${POZHDAGHI_LIB_DIR:-}" ]; then
-    (cd "$ROOT" && rt staticlib pozhdaghi)
+    "$ROOT/tools/archive.sh"
     export POZHDAGHI_LIB_DIR=$ROOT/target/staticlib
 fi
 

@@ -3,8 +3,8 @@
 
     python3 oracle/resolve_runs.py [--program PROGRAM]
 
-PROGRAM is by default target/bin/resolve, which `rt check resolve` makes. What
-it must print is laid down in document 01, "Small graphs"; the searches come
+PROGRAM is by default crates/resolve/out/resolve, which `rt run` in
+crates/resolve and `rt ci` make. What it must print is laid down in document 01, "Small graphs"; the searches come
 from searches.py and the refusals of an image from refusals.py. The images:
 
 - A, B and C, with what document 01 prints for A; damaged images of A;
@@ -32,7 +32,7 @@ from refusals import Refused, checked
 from search_cases import MANY, at_end, chain
 from searches import MOST_EDGES, Request, searched
 
-PROGRAM = REPOSITORY / "target" / "bin" / "resolve"
+PROGRAM = REPOSITORY / "crates" / "resolve" / "out" / "resolve"
 MOST_BYTES, SLOTS = 65_536, 128
 PRINTED_FOR_A = "ref 2 returned 1 expanded 3 complete 1 rejected 1 cycles 0\npath 0 1\n"
 

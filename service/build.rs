@@ -1,5 +1,5 @@
-//! Proves the crate `pozhdaghi`, which writes `target/staticlib/libpozhdaghi.a`, and
-//! links a copy of it. With `POZHDAGHI_LIB_DIR` the archive of that folder is
+//! Has `tools/archive.sh` prove the library, which writes
+//! `target/staticlib/libpozhdaghi.a`, and links a copy of it. With `POZHDAGHI_LIB_DIR` the archive of that folder is
 //! linked, and nothing is proved here.
 
 use std::env;
@@ -13,7 +13,7 @@ use std::time::Instant;
 const ARCHIVE: &str = "libpozhdaghi.a";
 
 /// What `rt version` prints of the kit that the sources were last proved with.
-const KIT: &str = "rattle-kit-5b-plain logic 097e4c862dff5811";
+const KIT: &str = "rattle-kit-13f logic dac8208d650f15bf";
 
 fn main() {
     println!("cargo:rerun-if-env-changed=POZHDAGHI_LIB_DIR");
@@ -41,14 +41,19 @@ fn given(folder: OsString) -> PathBuf {
     folder
 }
 
-/// The folder with the proved archive: a copy of what `rt staticlib` writes, so
+/// The folder with the proved archive: a copy of what `tools/archive.sh` writes, so
 /// that the archive is there as long as this build counts as up to date. It is not proved
-/// again before one of the sources changes.
+/// again before one of the sources changes: what stands beside them in a crate's folder is
+/// written by the proof itself.
 fn proved() -> PathBuf {
     let package = env::var_os("CARGO_MANIFEST_DIR").unwrap_or_default();
     let repository = Path::new(&package).join("..");
-    for read in ["crates", "crates.txt"] {
-        println!("cargo:rerun-if-changed={}", repository.join(read).display());
+    println!(
+        "cargo:rerun-if-changed={}",
+        repository.join("crates.txt").display()
+    );
+    for sources in sources(&repository) {
+        println!("cargo:rerun-if-changed={}", sources.display());
     }
     compare_kit();
     prove(&repository);
@@ -58,6 +63,20 @@ fn proved() -> PathBuf {
         fail(&format!("{}: {error}", written.display()));
     }
     own
+}
+
+/// The folders with the code, the definitions and the proofs of each crate.
+fn sources(repository: &Path) -> Vec<PathBuf> {
+    let crates = repository.join("crates");
+    let folders = match fs::read_dir(&crates) {
+        Ok(folders) => folders,
+        Err(error) => fail(&format!("{}: {error}", crates.display())),
+    };
+    folders
+        .flatten()
+        .flat_map(|folder| ["src", "specs", "proofs"].map(|part| folder.path().join(part)))
+        .filter(|part| part.is_dir())
+        .collect()
 }
 
 /// Another kit may prove the sources as well, or may not: it is said, and no more.
@@ -78,14 +97,14 @@ fn compare_kit() {
 
 /// Without a proof there is no archive, and the build ends here.
 fn prove(repository: &Path) {
-    say("pozhdaghi: `rt staticlib pozhdaghi` proves the library; about ten minutes");
+    say("pozhdaghi: tools/archive.sh proves the library, which takes minutes");
     let start = Instant::now();
-    let proved = Command::new("rt")
-        .args(["staticlib", "pozhdaghi"])
+    let proved = Command::new("bash")
+        .arg("tools/archive.sh")
         .current_dir(repository)
         .status();
     if !matches!(&proved, Ok(status) if status.success()) {
-        fail(&format!("`rt staticlib pozhdaghi` failed: {proved:?}"));
+        fail(&format!("tools/archive.sh failed: {proved:?}"));
     }
     println!(
         "cargo:warning=the library was proved in {} s; it is proved again when its sources \

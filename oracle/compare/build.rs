@@ -1,5 +1,5 @@
-//! Links the static library of the crate `pozhdaghi`, which `rt staticlib pozhdaghi`
-//! writes. POZHDAGHI_LIB_DIR is the folder that holds it.
+//! Links the library's archive, which `tools/archive.sh` writes. POZHDAGHI_LIB_DIR is
+//! the folder that holds it.
 
 fn main() {
     let folder = std::env::var("POZHDAGHI_LIB_DIR").expect("compare.sh says where libpozhdaghi.a is");

@@ -1,4 +1,4 @@
-// The window over the expanded counts of the last searches, for callers in Rust and C: begun, a count entered, and what it reports.
+// On numbers and slices: the window over the expanded counts of the last searches, begun, a count entered, and what it reports.
 // Document 02, order 10. The contracts are those of crates/window with each answer told as numbers.
 ghost use Rattle.std.specs.Prelude.{◌≡◌, length};
 ghost use Rattle.semantics.specs.Written.{written};
@@ -9,16 +9,14 @@ use crate::numbers;
 use window::counts;
 
 // Empty; no answer, as nothing is refused.
-#[unsafe(no_mangle)]
-pub extern "C" fn pozhdaghi_window_begin(words: &mut [u32])
+pub fn pozhdaghi_window_begin(words: &mut [u32])
     ensures { words.new ≡ begin_window words.old }
 {
     counts::begin(words);
 }
 
 // 0; or 40.
-#[unsafe(no_mangle)]
-pub extern "C" fn pozhdaghi_window_enter(words: &mut [u32], count: u64, answer: &mut [u64])
+pub fn pozhdaghi_window_enter(words: &mut [u32], count: u64, answer: &mut [u64])
     ensures answer_after { answer.new ≡ written (length answer.old) (told_entered (enter_window words.old count).answer) }
     ensures words_after { words.new ≡ (enter_window words.old count).window }
 {
@@ -27,8 +25,7 @@ pub extern "C" fn pozhdaghi_window_enter(words: &mut [u32], count: u64, answer: 
 }
 
 // The sum and the greatest.
-#[unsafe(no_mangle)]
-pub extern "C" fn pozhdaghi_window_report(words: &[u32], answer: &mut [u64])
+pub fn pozhdaghi_window_report(words: &[u32], answer: &mut [u64])
     ensures { answer.new ≡ written (length answer.old) (told_trend (report_window words.now)) }
 {
     let trend = counts::report(words);

@@ -1,4 +1,4 @@
-// Exported: a cash flow of a directory. It answers 0, what the direct search from the row's reference tells, then 0, 1 or 2 for no definition, one or several, and the one; or the refusal.
+// On numbers and slices: a cash flow of a directory. It answers 0, what the direct search from the row's reference tells, then 0, 1 or 2 for no definition, one or several, and the one; or the refusal.
 ghost use Rattle.std.specs.Prelude.{◌≡◌, length};
 ghost use Rattle.semantics.specs.Entries.{key_of, flow_asked};
 ghost use Rattle.semantics.specs.Written.{written};
@@ -7,8 +7,7 @@ ghost use Rattle.semantics.specs.Told.{told_flow};
 use crate::{asked, numbers};
 use flow_directory::directory;
 
-#[unsafe(no_mangle)]
-pub extern "C" fn pozhdaghi_resolve_flow(
+pub fn pozhdaghi_resolve_flow(
     image: &[u8],
     visible: &[u8],
     rows: &[u8],

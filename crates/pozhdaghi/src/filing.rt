@@ -1,4 +1,4 @@
-// Exported: the database of partial paths in the caller's words.
+// On numbers and slices: the database of partial paths in the caller's words.
 ghost use Rattle.std.specs.Prelude.{◌≡◌, ◌+◌, ◌*◌, ◌≤◌, length};
 ghost use Rattle.semantics.specs.Limits.{record_length};
 ghost use Rattle.semantics.specs.Entries.{compact_database, convert_database, fresh_database, lookup_of, replace_asked, aliases_asked};
@@ -22,8 +22,7 @@ use semantics::graph::{FileId, PartialPathId};
 use storage::check;
 
 // 0; or the refusal.
-#[unsafe(no_mangle)]
-pub extern "C" fn pozhdaghi_fresh(image: &[u8], words: &mut [u32], answer: &mut [u64])
+pub fn pozhdaghi_fresh(image: &[u8], words: &mut [u32], answer: &mut [u64])
     ensures answer_after { answer.new ≡ written (length answer.old) (told_creation (fresh_database image.now words.old).answer) }
     ensures words_after { words.new ≡ (fresh_database image.now words.old).database }
 {
@@ -78,8 +77,7 @@ fn replace_large_for(
 }
 
 // A file replaced, with the index that the image asks for.
-#[unsafe(no_mangle)]
-pub extern "C" fn pozhdaghi_replace_file(
+pub fn pozhdaghi_replace_file(
     image: &[u8],
     file: u32,
     asked: &[u64],
@@ -101,8 +99,7 @@ pub extern "C" fn pozhdaghi_replace_file(
 }
 
 // The alias set replaced, likewise.
-#[unsafe(no_mangle)]
-pub extern "C" fn pozhdaghi_replace_aliases(
+pub fn pozhdaghi_replace_aliases(
     image: &[u8],
     asked: &[u64],
     work: &mut [u32],
@@ -123,8 +120,7 @@ pub extern "C" fn pozhdaghi_replace_aliases(
 }
 
 // 0; or the refusal. The old words are only read.
-#[unsafe(no_mangle)]
-pub extern "C" fn pozhdaghi_convert(old: &[u32], new: &mut [u32], answer: &mut [u64])
+pub fn pozhdaghi_convert(old: &[u32], new: &mut [u32], answer: &mut [u64])
     ensures answer_after { answer.new ≡ written (length answer.old) (told_conversion (convert_database old.now new.old).answer) }
     ensures after { new.new ≡ (convert_database old.now new.old).written }
 {
@@ -133,8 +129,7 @@ pub extern "C" fn pozhdaghi_convert(old: &[u32], new: &mut [u32], answer: &mut [
 }
 
 // 0 and the number of live slots; or the refusal. The list has the old and the new number of each.
-#[unsafe(no_mangle)]
-pub extern "C" fn pozhdaghi_compact(words: &mut [u32], list: &mut [u32], answer: &mut [u64])
+pub fn pozhdaghi_compact(words: &mut [u32], list: &mut [u32], answer: &mut [u64])
     ensures answer_after { answer.new ≡ written (length answer.old) (told_compaction (compact_database words.old list.old).answer) }
     ensures words_after { words.new ≡ (compact_database words.old list.old).database }
     ensures list_after { list.new ≡ (compact_database words.old list.old).list }
@@ -163,8 +158,7 @@ fn part_of(words: &[u32], number: u32) -> Numbers
 }
 
 // The place and the length of the part of the words that holds the edges of a partial path; 0 and 0 for an empty part.
-#[unsafe(no_mangle)]
-pub extern "C" fn pozhdaghi_lookup(words: &[u32], number: u32, answer: &mut [u64])
+pub fn pozhdaghi_lookup(words: &[u32], number: u32, answer: &mut [u64])
     ensures { answer.new ≡ written (length answer.old) (told_part (lookup_of number words.now)) }
 {
     numbers::write(part_of(words, number), answer);

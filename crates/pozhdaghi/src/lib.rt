@@ -1,7 +1,7 @@
 // THE PUBLIC SURFACE. What is named here is offered; what is not is no public entry, whichever crate it stands in.
 // For Rattle: the calls by name, with the contracts that they have where they stand, and the types that they speak of.
-// For Rust and C: `costs`, `directory`, `filing`, `naming`, `reading`, `records`, `searching`, `tallying` and `versions` export the same calls on numbers and slices, each of which writes its answer as the numbers
-// of semantics/specs/Told.antt into an area that the caller lends. A slice is passed as a pointer and a length.
+// On numbers and slices: `costs`, `directory`, `filing`, `naming`, `reading`, `records`, `searching`, `tallying` and `versions` have the same calls, each of which writes its answer as the numbers
+// of semantics/specs/Told.antt into an area that the caller lends. The crate pozhdaghi_c exports them for Rust and C.
 mod asked;
 pub mod costs;
 pub mod directory;

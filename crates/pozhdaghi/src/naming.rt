@@ -1,4 +1,4 @@
-// Exported: a name for a definition. It answers 0, then 1 and the reference whose path stands in the first result slot, or 0; or the refusal.
+// On numbers and slices: a name for a definition. It answers 0, then 1 and the reference whose path stands in the first result slot, or 0; or the refusal.
 ghost use Rattle.std.specs.Prelude.{◌≡◌, length};
 ghost use Rattle.semantics.specs.Entries.{name_asked};
 ghost use Rattle.semantics.specs.Written.{written};
@@ -9,8 +9,7 @@ use finding::name;
 use semantics::graph::NodeId;
 
 // Of what is asked only the limit on length is read.
-#[unsafe(no_mangle)]
-pub extern "C" fn pozhdaghi_find_name(
+pub fn pozhdaghi_find_name(
     image: &[u8],
     visible: &[u8],
     node: u32,

@@ -1,4 +1,4 @@
-// Exported: the check of an image, a replayed path, and what is judged of a path.
+// On numbers and slices: the check of an image, a replayed path, and what is judged of a path.
 ghost use Rattle.std.specs.Prelude.{◌≡◌, length};
 ghost use Rattle.semantics.specs.Entries.{check_of, replay_of, complete_of, shadows_of};
 ghost use Rattle.semantics.specs.Written.{written};
@@ -12,8 +12,7 @@ use semantics::graph::NodeId;
 use storage::check;
 
 // 0, F, N and M; or the refusal.
-#[unsafe(no_mangle)]
-pub extern "C" fn pozhdaghi_check(image: &[u8], answer: &mut [u64])
+pub fn pozhdaghi_check(image: &[u8], answer: &mut [u64])
     ensures { answer.new ≡ written (length answer.old) (told_checked (check_of image.now)) }
 {
     let checked = check::check(image);
@@ -21,8 +20,7 @@ pub extern "C" fn pozhdaghi_check(image: &[u8], answer: &mut [u64])
 }
 
 // 0, and the path of a reference and an edge list; or the refusal, and zeros in the place of the path.
-#[unsafe(no_mangle)]
-pub extern "C" fn pozhdaghi_replay(
+pub fn pozhdaghi_replay(
     image: &[u8],
     reference: u32,
     edges: &[u32],
@@ -39,13 +37,7 @@ pub extern "C" fn pozhdaghi_replay(
 }
 
 // 0, then 1 if the path of a reference and an edge list is complete; or the refusal.
-#[unsafe(no_mangle)]
-pub extern "C" fn pozhdaghi_is_complete(
-    image: &[u8],
-    reference: u32,
-    edges: &[u32],
-    answer: &mut [u64],
-)
+pub fn pozhdaghi_is_complete(image: &[u8], reference: u32, edges: &[u32], answer: &mut [u64])
     ensures { answer.new ≡ written (length answer.old) (told_judgement (complete_of image.now reference edges.now)) }
 {
     let judged = judgement::is_complete(image, NodeId(reference), edges);
@@ -53,8 +45,7 @@ pub extern "C" fn pozhdaghi_is_complete(
 }
 
 // 0, then 1 if the left path shadows the right one; or the refusal.
-#[unsafe(no_mangle)]
-pub extern "C" fn pozhdaghi_shadows(
+pub fn pozhdaghi_shadows(
     image: &[u8],
     left: u32,
     left_edges: &[u32],

@@ -1,4 +1,4 @@
-// Exported: the searches. Each takes the set of visible files behind the image, and answers 0, the number of paths in the result slots, four counts and three flags; or the refusal.
+// On numbers and slices: the searches. Each takes the set of visible files behind the image, and answers 0, the number of paths in the result slots, four counts and three flags; or the refusal.
 ghost use Rattle.std.specs.Prelude.{◌≡◌, ◌≤◌, length};
 ghost use Rattle.semantics.specs.Entries.{direct_asked, linear_asked, stitched_asked};
 ghost use Rattle.semantics.specs.Written.{written};
@@ -17,8 +17,7 @@ use stitching::stitched;
 use storage::check;
 
 // Direct search: the returned paths.
-#[unsafe(no_mangle)]
-pub extern "C" fn pozhdaghi_direct(
+pub fn pozhdaghi_direct(
     image: &[u8],
     visible: &[u8],
     reference: u32,
@@ -39,8 +38,7 @@ pub extern "C" fn pozhdaghi_direct(
 }
 
 // Direct search: the recorded paths.
-#[unsafe(no_mangle)]
-pub extern "C" fn pozhdaghi_direct_recorded(
+pub fn pozhdaghi_direct_recorded(
     image: &[u8],
     visible: &[u8],
     reference: u32,
@@ -109,8 +107,7 @@ fn linear_large(
 }
 
 // Linear search: the returned paths. It has no order and takes no work area.
-#[unsafe(no_mangle)]
-pub extern "C" fn pozhdaghi_linear(
+pub fn pozhdaghi_linear(
     image: &[u8],
     visible: &[u8],
     reference: u32,
@@ -146,8 +143,7 @@ pub extern "C" fn pozhdaghi_linear(
 }
 
 // Linear search: the recorded paths.
-#[unsafe(no_mangle)]
-pub extern "C" fn pozhdaghi_linear_recorded(
+pub fn pozhdaghi_linear_recorded(
     image: &[u8],
     visible: &[u8],
     reference: u32,
@@ -183,8 +179,7 @@ pub extern "C" fn pozhdaghi_linear_recorded(
 }
 
 // Stitched search over the database in the words: the returned paths.
-#[unsafe(no_mangle)]
-pub extern "C" fn pozhdaghi_stitched(
+pub fn pozhdaghi_stitched(
     image: &[u8],
     visible: &[u8],
     words: &[u32],
@@ -216,8 +211,7 @@ pub extern "C" fn pozhdaghi_stitched(
 }
 
 // Stitched search over the database in the words: the recorded paths.
-#[unsafe(no_mangle)]
-pub extern "C" fn pozhdaghi_stitched_recorded(
+pub fn pozhdaghi_stitched_recorded(
     image: &[u8],
     visible: &[u8],
     words: &[u32],

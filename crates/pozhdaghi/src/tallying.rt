@@ -1,4 +1,4 @@
-// Exported: a tally by length. It answers 0 and the numbers for the lengths 0 to 63, or the refusal. Nothing else has an answer of so many numbers.
+// On numbers and slices: a tally by length. It answers 0 and the numbers for the lengths 0 to 63, or the refusal. Nothing else has an answer of so many numbers.
 ghost use Rattle.std.specs.Prelude.{◌≡◌, ◌∷◌, length, get_or};
 ghost use Rattle.semantics.specs.Entries.{tally_lengths};
 ghost use Rattle.semantics.specs.Written.{written};
@@ -43,8 +43,7 @@ fn tell(told: Tallying, counts: &[u64], answer: &mut [u64])
     }
 }
 
-#[unsafe(no_mangle)]
-pub extern "C" fn pozhdaghi_tally(
+pub fn pozhdaghi_tally(
     image: &[u8],
     visible: &[u8],
     reference: u32,
