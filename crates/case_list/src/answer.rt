@@ -6,7 +6,7 @@ ghost use Rattle.case_list.specs.Bounds.{most_place};
 use crate::list;
 
 // The place of the first number, and how many there are.
-#[derive(Drop)]
+#[derive(Clone, Copy)]
 pub struct Expected {
     pub from: usize,
     pub count: usize,

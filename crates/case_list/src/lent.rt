@@ -26,7 +26,7 @@ pub const MOST_IMAGE: usize = 65537;
 pub const MOST_WORDS: usize = 536841;
 
 // How many bytes and words are lent.
-#[derive(Drop)]
+#[derive(Clone, Copy)]
 pub struct Lent {
     pub bytes: usize,
     pub words: usize,
