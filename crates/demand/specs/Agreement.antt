@@ -14,12 +14,13 @@ use Rattle.semantics.specs.Hidden.{sees, seen, seen_slots}
 use Rattle.semantics.specs.Image.{symbol_bytes}
 use Rattle.semantics.specs.Words.{lists_in}
 use Rattle.semantics.specs.Told.{told_resolution}
-use Rattle.semantics.specs.Told.Laws.{resolution-alike}
+use Rattle.semantics.proofs.Theorems.Told.Laws.{resolution-alike}
 use Rattle.semantics.specs.Demand.{file_owners, all_owners, Demand, DemandAll, Holds}
 use Rattle.semantics.specs.Database.{slots_in}
 use Rattle.semantics.specs.Calls.{Request, Outcome}
 use Rattle.demand.specs.declared.sets.Asked.{Asked}
-use Rattle.semantics.specs.Calls.Whole.{Finished, Premises, AliasPremises, direct_recorded, stitched_recorded, demand-3, demand-aliases}
+use Rattle.semantics.specs.Calls.Whole.{Finished, Premises, AliasPremises, direct_recorded, stitched_recorded}
+use Rattle.semantics.proofs.Theorems.Calls.Whole.{demand-3, demand-aliases}
 
 -- neither refused, nor with the flag of the path count or of complete paths
 pub record Ended (r : Resolution) : Type 0 where

@@ -22,14 +22,15 @@ use Rattle.semantics.specs.Answer.{Answer, ok}
 use Rattle.semantics.specs.Graph.{Graph, view_of}
 use Rattle.semantics.specs.declared.refusal.ImageRefusal.{ImageRefusal}
 use Rattle.semantics.specs.Image.{symbol_bytes}
-use Rattle.semantics.specs.Image.Laws.{image-accepted}
+use Rattle.semantics.proofs.Theorems.Image.Laws.{image-accepted}
 use Rattle.semantics.specs.Acceptance.{accepts}
 use Rattle.semantics.specs.Acceptance.Laws.{few-files}
 use Rattle.semantics.specs.Demand.{file_owners, all_owners, NoAliases, Holds}
 use Rattle.semantics.specs.Database.{slots_in, known_owners}
 use Rattle.semantics.specs.Database.Checked.{Checked}
 use Rattle.semantics.specs.Calls.{Change, alias_request, replace_call, alias_call}
-use Rattle.semantics.specs.Calls.Filing.{Refiled, Filed, begun, refiled, aliased, unlimited, still-none, refiled-holds, refiled-some, aliases-refiled, filed-holds}
+use Rattle.semantics.specs.Calls.Filing.{Refiled, Filed, begun, refiled, aliased, unlimited}
+use Rattle.semantics.proofs.Theorems.Calls.Filing.{still-none, refiled-holds, refiled-some, aliases-refiled, filed-holds}
 
 -- was the call answered with Done
 abbrev pub is_created : Creation → Bool

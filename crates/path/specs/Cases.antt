@@ -10,7 +10,7 @@ use Rattle.semantics.specs.declared.answer.Replayed.TheVariants as Replayed
 use Rattle.semantics.specs.Graph.{node_id}
 use Rattle.semantics.specs.Image.{check_image}
 use Rattle.semantics.specs.Cases.Graphs.{image_a, image_d}
-use Rattle.semantics.specs.Cases.Versions.{image_high}
+use Rattle.semantics.proofs.Theorems.Cases.Versions.{image_high}
 use Rattle.stepping.specs.Judged.{begun_of, judged_of}
 use Rattle.semantics.specs.declared.replayed.Path.{Path}
 use Rattle.path.specs.declared.replay.ReplayOutcome.{ReplayOutcome}

@@ -20,13 +20,13 @@ use Rattle.semantics.specs.Bytes.Written.{AllBytes}
 use Rattle.semantics.specs.Calls.{check_call}
 use Rattle.semantics.specs.Graph.{Graph, view_of}
 use Rattle.semantics.specs.Image.{symbol_bytes, only, most_bytes, longest_image, first_record, next_place, place_of, header, check_with, check_image}
-use Rattle.semantics.specs.Image.Laws.{image-accepted}
+use Rattle.semantics.proofs.Theorems.Image.Laws.{image-accepted}
 use Rattle.semantics.specs.Image.Encoding.{encode_image, symbol_fits, symbols_fit, symbols_in}
 use Rattle.semantics.specs.Image.Encoding.Laws.{encoded-wider, symbols-more}
-use Rattle.semantics.specs.Image.NoFreeBytes.{no-free-bytes, image-writable}
-use Rattle.semantics.specs.Image.Reading.{back_fits}
+use Rattle.semantics.proofs.Theorems.Image.NoFreeBytes.{no-free-bytes, image-writable}
+use Rattle.semantics.proofs.Theorems.Image.Reading.{back_fits}
 use Rattle.semantics.specs.Rewriting.{Rewritten, refused_bytes, first_wide, written_unless, rewrite_call}
-use Rattle.semantics.specs.Rewriting.Laws.{rewrite-does, rewrite-long, rewrite-cramped, image-version, same_check, forward-length}
+use Rattle.semantics.proofs.Theorems.Rewriting.Laws.{rewrite-does, rewrite-long, rewrite-cramped, image-version, same_check, forward-length}
 use Rattle.semantics.specs.Words.{zeros}
 use Rattle.image.specs.Reached.{is_sized}
 use Rattle.storage.specs.Index.{node_row, Loaded}

@@ -18,7 +18,7 @@ use Rattle.semantics.specs.Limits.{base, max_expansions, slot_length, steps_leng
 use Rattle.semantics.specs.Answer.{Answer, ok, refuse, and_then, wrap}
 use Rattle.semantics.specs.Graph.{Graph, View, view_of}
 use Rattle.semantics.specs.Path.{Path, from_reference, replay, append_all}
-use Rattle.semantics.specs.Path.Laws.{replay-of}
+use Rattle.semantics.proofs.Theorems.Path.Laws.{replay-of}
 use Rattle.semantics.specs.Enumeration.{State, Setting, Try, blank, with_pending, push_item, seed, run, merge, enumerate}
 use Rattle.semantics.specs.Enumeration.Laws.{place_ok}
 use Rattle.semantics.specs.Words.{zeros, encode}

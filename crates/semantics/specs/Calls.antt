@@ -37,13 +37,9 @@ use Rattle.semantics.specs.Hidden.{seen_slot, seen_slots}
 use Rattle.semantics.specs.Stitching.{stitched}
 use Rattle.semantics.specs.Words.{zeros, whole_slots, area}
 use Rattle.semantics.specs.Database.{check_database, fresh_words, has_room, replace_words}
-pub mod Laws
-pub mod Statistics
-pub mod Waiting
 pub mod Filing
 pub mod Whole
 pub mod Refused
-pub mod Compacted
 
 -- THE CHECK OF AN IMAGE
 unfoldable pub check_call : Answer ImageRefusal Graph → Checked

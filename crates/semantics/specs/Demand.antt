@@ -16,10 +16,6 @@ use Rattle.semantics.specs.Graph.{node_id, Graph, View, view_of, file_of, is_sta
 use Rattle.semantics.specs.Path.{Path, replay, is_complete}
 use Rattle.semantics.specs.Enumeration.{Setting, State}
 use Rattle.semantics.specs.PartialPaths.{Route, Slot, slot, belongs, is_fileless, owned_by, file_routes, alias_routes, replaced, SameLive}
-pub mod Laws
-pub mod Rules
-pub mod Aliases
-pub mod Filled
 
 -- LISTS THAT THE PATH RULES TAKE
 

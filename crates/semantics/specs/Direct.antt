@@ -14,9 +14,6 @@ use Rattle.semantics.specs.Answer.{Answer, ok, refuse, and_then, wrap}
 use Rattle.semantics.specs.Graph.{View}
 use Rattle.semantics.specs.Path.{Path, append, is_complete, from_reference}
 use Rattle.semantics.specs.Enumeration.{Try, reject, go, tested, Setting, slots, State, enumerate}
-pub mod Laws
-pub mod Unbounded
-pub mod Counted
 
 module _ {R : Type 0} where
   unfoldable pub extended : View → Answer PathRefusal Path → Try R Path

@@ -23,8 +23,6 @@ use Rattle.semantics.specs.Recorded.{edge_lists, returned}
 use Rattle.semantics.specs.Direct.{direct}
 use Rattle.semantics.specs.Words.{zeros, area}
 use Rattle.semantics.specs.Calls.{Request, Outcome, setting_of}
-pub mod Laws
-pub mod Desks
 
 -- THE ROWS: ISIN, tranche and leg, which are the key, then the reference; in bytes, with no header
 

@@ -16,7 +16,6 @@ pub mod Statistics
 pub mod Simulation
 pub mod Room
 pub mod Waiting
-pub mod Held
 pub mod Once
 pub mod Completes
 pub mod Alike

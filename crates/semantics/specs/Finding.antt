@@ -24,7 +24,6 @@ use Rattle.semantics.specs.Words.{zeros, whole_slots, area}
 use Rattle.semantics.specs.Calls.{Outcome}
 use Rattle.semantics.specs.declared.answer.Finding.{Finding}
 use Rattle.semantics.specs.declared.answer.Finding.TheVariants as Finding
-pub mod Laws
 
 -- a name that was found: the reference, and the edges of its path
 pub record Name : Type 0 where

@@ -13,13 +13,6 @@ use Rattle.semantics.specs.Limits.{nobody}
 use Rattle.semantics.specs.Answer.{Answer, ok, refuse}
 use Rattle.semantics.specs.Graph.{Graph, View, view_of, file_of}
 use Rattle.semantics.specs.PartialPaths.{Slot, dead, slot}
-pub mod Laws
-pub mod All
-pub mod Sets
-pub mod Holds
-pub mod Desks
-pub mod Refused
-pub mod Lists
 
 -- THE SET as it is lent: a file is visible where its byte is there and not 0
 abbrev pub sees : List ℕ → ℕ → Bool

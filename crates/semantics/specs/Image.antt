@@ -12,11 +12,7 @@ use Rattle.semantics.specs.Answer.{Answer, ok, refuse, and_then}
 use Rattle.semantics.specs.Bytes.{byte_at, short, long, wide, signed}
 use Rattle.semantics.specs.Graph.{node_id, file_id, Graph, view_of}
 use Rattle.semantics.specs.Acceptance.{node_fits, edge_fits}
-pub mod Laws
 pub mod Encoding
-pub mod NoFreeBytes
-pub mod Reading
-pub mod Former
 
 -- the bytes of a symbol, by version; 0 where there is no such version
 abbrev pub symbol_bytes : ℕ → ℕ

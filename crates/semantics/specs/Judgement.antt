@@ -13,7 +13,6 @@ use Rattle.semantics.specs.Lists.{and, pick}
 use Rattle.semantics.specs.Answer.{Answer, ok, refuse}
 use Rattle.semantics.specs.Graph.{node_id, edge_id, View, is_reference, is_definition, is_exported}
 use Rattle.semantics.specs.Path.{Stacks, Path, apply, is_empty}
-pub mod Laws
 
 -- from a reference to a definition with both stacks empty
 unfoldable pub complete_at : View → ℕ → ℕ → Stacks → Bool

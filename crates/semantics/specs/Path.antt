@@ -15,10 +15,6 @@ use Rattle.semantics.specs.Lists.{and}
 use Rattle.semantics.specs.Limits.{Bounds}
 use Rattle.semantics.specs.Answer.{Answer, ok, refuse, and_then, wrap}
 use Rattle.semantics.specs.Graph.{node_id, edge_id, View, traits, is_reference, is_definition, is_exported}
-pub mod Laws
-pub mod Rules
-pub mod Takes
-pub mod Scopes
 
 -- a symbol, and the scopes attached to it with the top one first, if any are
 pub record Symbol : Type 0 where

@@ -16,7 +16,6 @@ use Rattle.semantics.specs.Graph.{node_id, edge_id, Graph, view_of, traits}
 use Rattle.semantics.specs.Finding.{references_from}
 use Rattle.semantics.specs.Words.{zeros}
 use Rattle.semantics.specs.Written.{written}
-pub mod Laws
 
 -- A RECORD
 

@@ -14,8 +14,6 @@ use Rattle.semantics.specs.Graph.{View}
 use Rattle.semantics.specs.Path.{Path, append_all, is_complete, from_reference}
 use Rattle.semantics.specs.Enumeration.{Try, reject, stop, go, tested, Setting, State, enumerate}
 use Rattle.semantics.specs.PartialPaths.{Slot, dead, slot}
-pub mod Laws
-pub mod Used
 
 -- an unknown edge ends the search, any other refusal of the path rules is a rejection
 unfoldable pub ended : ReplayRefusal → Try SearchRefusal Path

@@ -19,9 +19,7 @@ use Rattle.semantics.specs.Recorded.{edge_lists}
 use Rattle.semantics.specs.Direct.{direct}
 use Rattle.semantics.specs.Words.{zeros, whole_slots}
 pub mod Laws
-pub mod Rules
 pub mod Refused
-pub mod Desks
 
 -- no limit at all
 abbrev pub no_limits : SearchLimits

@@ -58,7 +58,6 @@ use Rattle.semantics.specs.declared.answer.EdgeReading.TheVariants as EdgeReadin
 use Rattle.semantics.specs.declared.answer.Listing.{Listing}
 use Rattle.semantics.specs.declared.answer.Listing.TheVariants as Listing
 use Rattle.semantics.specs.Bytes.Written.{unsigned}
-pub mod Laws
 
 -- THE REFUSALS, row by row of document 01's table
 abbrev pub told_image : ImageRefusal → List ℕ

@@ -9,8 +9,6 @@ use Rattle.semantics.specs.Lists.{pick, select, total}
 use Rattle.semantics.specs.Limits.{Bounds}
 use Rattle.semantics.specs.Words.{zeros}
 use Rattle.semantics.specs.Enumeration.{greater}
-pub mod Laws
-pub mod History
 
 -- THE WORDS: an area of fewer than `most` + 1 is a window over as many entries as it has room for; words behind the last entry are no part of it
 abbrev pub entries_in : ℕ → List ℕ → List ℕ

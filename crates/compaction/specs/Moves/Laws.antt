@@ -20,7 +20,7 @@ use Rattle.semantics.specs.Told.{told_compaction}
 use Rattle.semantics.specs.Database.{used_in, records, well_formed, record_place}
 use Rattle.semantics.specs.Database.Laws.{AllLong, slots-long, length-packed}
 use Rattle.semantics.specs.Database.Compaction.{is_live, live_of, live_count, renumbered, compact_words, compact_call}
-use Rattle.semantics.specs.Database.Compaction.Laws.{length-renumbered, live-long, few-live}
+use Rattle.semantics.proofs.Theorems.Database.Compaction.Laws.{length-renumbered, live-long, few-live}
 use Rattle.words.specs.Slots.{slot_at, put_slot}
 use Rattle.database.specs.Records.{InWords, Whole, record_at, put_record, owner_word}
 use Rattle.database.specs.Records.Laws.{put_same, record-owner}

@@ -23,10 +23,10 @@ use Rattle.semantics.specs.Enumeration.Keeping.{keeping, Keeping, Rounded, over-
 use Rattle.semantics.specs.Recorded.{edge_lists}
 use Rattle.semantics.specs.Recorded.Laws.{mem-lists}
 use Rattle.semantics.specs.Direct.{direct}
-use Rattle.semantics.specs.Direct.Counted.{new-length}
+use Rattle.semantics.proofs.Theorems.Direct.Counted.{new-length}
 use Rattle.semantics.specs.Words.{zeros}
 use Rattle.semantics.specs.Calls as Calls
-use Rattle.semantics.specs.Calls.Laws.{length-lists}
+use Rattle.semantics.proofs.Theorems.Calls.Laws.{length-lists}
 use Rattle.semantics.specs.Tally.{of_length, lengths_from, lengths}
 use Rattle.semantics.specs.Tally.Laws.{lengths-more}
 use Rattle.semantics.specs.Entries.{request_of}

@@ -19,11 +19,11 @@ use Rattle.semantics.specs.Answer.{Answer, ok, refuse}
 use Rattle.semantics.specs.Graph.{Graph, view_of}
 use Rattle.semantics.specs.Graph.Laws.{view_of-lawful}
 use Rattle.semantics.specs.Path.{Path, from_reference, replay, append_all}
-use Rattle.semantics.specs.Path.Laws.{begun}
+use Rattle.semantics.proofs.Theorems.Path.Laws.{begun}
 use Rattle.semantics.specs.Enumeration.{State}
 use Rattle.semantics.specs.Enumeration.Laws.{Leads, here, on, enumerate-sound}
 use Rattle.semantics.specs.Direct.{tries, direct}
-use Rattle.semantics.specs.Direct.Laws.{direct-ok, step-taken}
+use Rattle.semantics.proofs.Theorems.Direct.Laws.{direct-ok, step-taken}
 use Rattle.semantics.specs.Demand.{Taken}
 use Rattle.semantics.specs.Words.{zeros}
 use Rattle.semantics.specs.Calls.{Request, setting_of, direct_call}

@@ -15,7 +15,7 @@ use Rattle.semantics.specs.Limits.{base, within, max_edges, slot_length}
 use Rattle.semantics.specs.Answer.{Answer, ok, wrap}
 use Rattle.semantics.specs.Graph.{View, view_of}
 use Rattle.semantics.specs.Path.{Path, append_under, replay}
-use Rattle.semantics.specs.Path.Laws.{append-ok, append_under-is, replay_snoc}
+use Rattle.semantics.proofs.Theorems.Path.Laws.{append-ok, append_under-is, replay_snoc}
 use Rattle.semantics.specs.Enumeration.{State, one, judged, with_stats, with_tally, add_looked, add_overlong, add_cycle, add_rejected, flag_length}
 use Rattle.storage.specs.Index.{node_row, edge_row}
 use Rattle.semantics.specs.Words.{encode}

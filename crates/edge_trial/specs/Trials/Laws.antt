@@ -14,9 +14,9 @@ use Rattle.semantics.specs.declared.judgement.EdgeJudgement.TheVariants as Judge
 use Rattle.semantics.specs.Answer.{ok}
 use Rattle.semantics.specs.Graph.{Graph, View, view_of, is_reference}
 use Rattle.semantics.specs.Path.{Path, append, is_complete}
-use Rattle.semantics.specs.Path.Laws.{append-ok}
+use Rattle.semantics.proofs.Theorems.Path.Laws.{append-ok}
 use Rattle.semantics.specs.Judgement.{judgement}
-use Rattle.semantics.specs.Judgement.Laws.{judgement_of, judgement-append, judged-refused, judged-extends}
+use Rattle.semantics.proofs.Theorems.Judgement.Laws.{judgement_of, judgement-append, judged-refused, judged-extends}
 use Rattle.semantics.specs.Enumeration.{cut, overlong, reject, stop, go, tested}
 use Rattle.semantics.specs.Direct.{extended, judge}
 use Rattle.storage.specs.Index.{node_row, edge_row, Loaded}

@@ -23,7 +23,7 @@ use Rattle.semantics.specs.Answer.{Answer, ok, refuse}
 use Rattle.semantics.specs.Graph.{Graph, view_of, traits, is_reference, is_definition}
 use Rattle.semantics.specs.Graph.Laws.{view_of-lawful}
 use Rattle.semantics.specs.Path.{Path}
-use Rattle.semantics.specs.Path.Laws.{begun, replay-ok, append_all-bound}
+use Rattle.semantics.proofs.Theorems.Path.Laws.{begun, replay-ok, append_all-bound}
 use Rattle.semantics.specs.Enumeration.{State, Setting}
 use Rattle.semantics.specs.Recorded.{edge_lists}
 use Rattle.semantics.specs.Recorded.Laws.{mem-lists}
@@ -31,7 +31,7 @@ use Rattle.semantics.specs.Direct.{search_setting}
 use Rattle.semantics.specs.Words.{zeros, flat, area, whole_slots}
 use Rattle.semantics.specs.Words.Laws.{area-none, length-flat}
 use Rattle.semantics.specs.Finding.{Name, first_to, references_from, named, find_in, only_length, name_to, FindRequest, found_as, if_definition, unless_removed, find_call}
-use Rattle.semantics.specs.Finding.Laws.{last_of, last-at, complete-ends, kept-taken, first-kept, one_on, one_found, one-refused}
+use Rattle.semantics.proofs.Theorems.Finding.Laws.{last_of, last-at, complete-ends, kept-taken, first-kept, one_on, one_found, one-refused}
 use Rattle.words.specs.Slots.{SlotsIn, slot_at, put_slot}
 use Rattle.storage.specs.Index.{edge_row, Loaded}
 use Rattle.reply.specs.EdgeLists.Paths.{length-lists}

@@ -11,14 +11,14 @@ use Rattle.semantics.specs.declared.answer.Definitions.TheVariants as Definition
 use Rattle.semantics.specs.Limits.{base, max_edges, slot_length}
 use Rattle.semantics.specs.Graph.{Graph, view_of}
 use Rattle.semantics.specs.Path.{Path, is_complete}
-use Rattle.semantics.specs.Path.Laws.{begun, replay-ok, append_all-bound}
+use Rattle.semantics.proofs.Theorems.Path.Laws.{begun, replay-ok, append_all-bound}
 use Rattle.semantics.specs.Demand.{Taken}
 use Rattle.semantics.specs.Recorded.{edge_lists}
 use Rattle.semantics.specs.Recorded.Laws.{mem-lists}
 use Rattle.semantics.specs.Words.{zeros, area}
-use Rattle.semantics.specs.Finding.Laws.{last_of, last-at, complete-ends}
+use Rattle.semantics.proofs.Theorems.Finding.Laws.{last_of, last-at, complete-ends}
 use Rattle.semantics.specs.Directory.{definitions_of, ends_of}
-use Rattle.semantics.specs.Directory.Laws.{all_one, several-of}
+use Rattle.semantics.proofs.Theorems.Directory.Laws.{all_one, several-of}
 use Rattle.storage.specs.Index.{edge_row, Loaded}
 use Rattle.reply.specs.Ends.{Stand}
 use Rattle.reply.specs.EdgeLists.Paths.{length-lists}

@@ -25,7 +25,7 @@ use Rattle.semantics.specs.Recorded.{edge_lists, beaten, cons_unless, unbeaten, 
 use Rattle.semantics.specs.Demand.{Taken}
 use Rattle.semantics.specs.Words.{zeros, area}
 use Rattle.semantics.specs.Calls.{setting_of}
-use Rattle.semantics.specs.Finding.Laws.{kept-taken, recorded-kept}
+use Rattle.semantics.proofs.Theorems.Finding.Laws.{kept-taken, recorded-kept}
 use Rattle.semantics.specs.Isin.{in_form, is_checked, is_isin}
 use Rattle.semantics.specs.declared.search.SearchOrder.{SearchOrder}
 use Rattle.semantics.specs.declared.search.SearchLimits.{SearchLimits}

@@ -15,7 +15,7 @@ use Rattle.semantics.specs.Lists.Laws.{and-true}
 use Rattle.semantics.specs.Graph.{Graph, view_of, file_of}
 use Rattle.semantics.specs.Acceptance.{every_from, edge_fits, one_file, is_live, count_fits, accepts, place_fits, file_fits, node_fits}
 use Rattle.semantics.specs.Hidden.{sees_file, node_if, edge_if, seen_node, seen_edge, seen}
-use Rattle.semantics.specs.Hidden.Laws.{seen-node, seen-edge}
+use Rattle.semantics.proofs.Theorems.Hidden.Laws.{seen-node, seen-edge}
 use Rattle.image.specs.Filling.{Filled, Held}
 use Rattle.image.specs.Filling.Laws.{filled-as}
 use Rattle.hiding.specs.Hiding.{seen_to, pruned, pruned_to}

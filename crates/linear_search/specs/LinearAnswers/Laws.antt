@@ -27,11 +27,11 @@ use Rattle.semantics.specs.Answer.Laws.{and_then-ok, wrap-ok}
 use Rattle.semantics.specs.Graph.{node_id, Graph, View, view_of}
 use Rattle.semantics.specs.Graph.Laws.{view_of-lawful}
 use Rattle.semantics.specs.Path.{Path, from_reference, replay, append_all}
-use Rattle.semantics.specs.Path.Laws.{begun}
+use Rattle.semantics.proofs.Theorems.Path.Laws.{begun}
 use Rattle.semantics.specs.Enumeration.{State, figured, Setting, Try, cut, overlong, reject, stop, go, blank, with_pending, place, push_item, seed, run, merge, enumerate}
 use Rattle.semantics.specs.Enumeration.Laws.{Leads, here, on, enumerate-sound}
 use Rattle.semantics.specs.Direct.{tries}
-use Rattle.semantics.specs.Direct.Laws.{step-taken}
+use Rattle.semantics.proofs.Theorems.Direct.Laws.{step-taken}
 use Rattle.semantics.specs.Linear.{first, later, only_tries, linear}
 use Rattle.semantics.specs.Demand.{Taken}
 use Rattle.semantics.specs.Words.{zeros, encode, area}

@@ -13,7 +13,7 @@ use Rattle.semantics.specs.Limits.{within, max_edges, slot_length}
 use Rattle.semantics.specs.Answer.{Answer, ok, refuse}
 use Rattle.semantics.specs.Graph.{node_id, view_of}
 use Rattle.semantics.specs.Path.{Path, append}
-use Rattle.semantics.specs.Path.Laws.{append-ok}
+use Rattle.semantics.proofs.Theorems.Path.Laws.{append-ok}
 use Rattle.semantics.specs.Enumeration.{State, Setting, Try, Tally, cut, overlong, reject, stop, go, one, judged, each, keep, place, push_item, with_stats, with_tally, with_pending, add_looked, add_overlong, add_cycle, add_rejected, flag_length}
 use Rattle.semantics.specs.Enumeration.Statistics.{one-moved}
 use Rattle.semantics.specs.Linear.{first, later}

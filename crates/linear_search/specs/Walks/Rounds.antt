@@ -17,7 +17,7 @@ use Rattle.semantics.specs.Answer.{Answer, ok, refuse, wrap}
 use Rattle.semantics.specs.Answer.Laws.{ok-inj, ok-refuse}
 use Rattle.semantics.specs.Graph.{view_of}
 use Rattle.semantics.specs.Path.{Path, append, append_under, replay, append_all}
-use Rattle.semantics.specs.Path.Laws.{append-ok, append_under-is, replay-of, replay_snoc}
+use Rattle.semantics.proofs.Theorems.Path.Laws.{append-ok, append_under-is, replay-of, replay_snoc}
 use Rattle.semantics.specs.Enumeration.{State, Try, expand, each, turn, popped, admit, run, merge, add_expanded, flag_count}
 use Rattle.semantics.specs.Linear.{only_tries}
 use Rattle.storage.specs.Index.{node_row, edge_row}

@@ -18,12 +18,12 @@ use Rattle.semantics.specs.Graph.{Graph, View, view_of, is_reference}
 use Rattle.semantics.specs.Acceptance.{accepts}
 use Rattle.semantics.specs.Acceptance.Laws.{jump-only, jump-there}
 use Rattle.semantics.specs.Hidden.{seen}
-use Rattle.semantics.specs.Hidden.Laws.{seen-accepted}
+use Rattle.semantics.proofs.Theorems.Hidden.Laws.{seen-accepted}
 use Rattle.semantics.specs.Image.{check_image}
-use Rattle.semantics.specs.Image.Laws.{image-accepted}
+use Rattle.semantics.proofs.Theorems.Image.Laws.{image-accepted}
 use Rattle.semantics.specs.Path as Model
 use Rattle.semantics.specs.Path.{append_under, append_all, replay}
-use Rattle.semantics.specs.Path.Laws.{append-ok, append_under-ok, append_all-edges, append_all-bound, begun, replay-ok}
+use Rattle.semantics.proofs.Theorems.Path.Laws.{append-ok, append_under-ok, append_all-edges, append_all-bound, begun, replay-ok}
 use Rattle.semantics.specs.Told.{told_replayed}
 use Rattle.semantics.specs.Calls.{replay_answer, complete_answer, shadows_answer, left_first, replay_call, complete_call, shadows_call}
 use Rattle.storage.specs.Index.{node_row, edge_row, Loaded}

@@ -23,7 +23,7 @@ use Rattle.semantics.specs.Answer.{Answer, ok, refuse, and_then, wrap}
 use Rattle.semantics.specs.Graph.{Graph, View, view_of}
 use Rattle.semantics.specs.Path as Model
 use Rattle.semantics.specs.Path.{append_if, append_under, append_all, from_reference, replay}
-use Rattle.semantics.specs.Path.Laws.{append_under-is}
+use Rattle.semantics.proofs.Theorems.Path.Laws.{append_under-is}
 use Rattle.storage.specs.Index.{node_row, edge_row, Loaded}
 use Rattle.stepping.specs.declared.step.Effect.{Effect}
 use Rattle.stepping.specs.declared.step.Effect.TheVariants.{Done, Refused}

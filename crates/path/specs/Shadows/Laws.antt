@@ -20,8 +20,8 @@ use Rattle.semantics.specs.Answer.{Answer, ok}
 use Rattle.semantics.specs.Answer.Laws.{ok-inj, refuse-ok, and_then-ok}
 use Rattle.semantics.specs.Graph.{node_id, View, traits, is_exported}
 use Rattle.semantics.specs.Path.{Step, along, jumped, Stacks, Path, apply, jump_to, jump_top, land, extend, append_under, append_all, replay, source_of, precedence_of, if_greater, if_same_source, shadowing, shadows}
-use Rattle.semantics.specs.Path.Laws.{append-ok, append_under-ok, replay-ok}
-use Rattle.semantics.specs.Path.Rules.{start-begins}
+use Rattle.semantics.proofs.Theorems.Path.Laws.{append-ok, append_under-ok, replay-ok}
+use Rattle.semantics.proofs.Theorems.Path.Rules.{start-begins}
 use Rattle.semantics.specs.Lists.Laws.{eqb-true}
 use Rattle.path.specs.Shadows.{alike, meet, yes, after, shadows_edges}
 use Rattle.path.specs.declared.shadows.Met.{Met}

@@ -22,7 +22,7 @@ use Rattle.semantics.specs.Answer.{ok}
 use Rattle.semantics.specs.Graph.{View}
 use Rattle.semantics.specs.Path as Model
 use Rattle.semantics.specs.Path.{along, jumped, append}
-use Rattle.semantics.specs.Path.Laws.{Appended, append-ok}
+use Rattle.semantics.proofs.Theorems.Path.Laws.{Appended, append-ok}
 use Rattle.semantics.specs.Calls.{Passage, edge, jump, passages, no_path}
 use Rattle.stepping.specs.StepWords.{with_step}
 use Rattle.stepping.specs.StepWords.Laws.{step_same, step_other}

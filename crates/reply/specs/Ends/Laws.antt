@@ -11,8 +11,8 @@ use Rattle.semantics.specs.Limits.{Bounds, slot_words}
 use Rattle.semantics.specs.Words.{area}
 use Rattle.semantics.specs.Graph.{Graph, View, view_of}
 use Rattle.semantics.specs.Path.{Path}
-use Rattle.semantics.specs.Path.Laws.{replay-ok, append_all-bound}
-use Rattle.semantics.specs.Path.Rules.{start-begins}
+use Rattle.semantics.proofs.Theorems.Path.Laws.{replay-ok, append_all-bound}
+use Rattle.semantics.proofs.Theorems.Path.Rules.{start-begins}
 use Rattle.semantics.specs.Enumeration.{State}
 use Rattle.semantics.specs.Recorded.{edge_lists, recorded, returned}
 use Rattle.semantics.specs.Recorded.Laws.{mem-lists}

@@ -14,7 +14,7 @@ use Rattle.semantics.specs.Answer.{Answer, ok}
 use Rattle.semantics.specs.Answer.Laws.{ok-inj}
 use Rattle.semantics.specs.Graph.{view_of}
 use Rattle.semantics.specs.Path.{Path, append_all}
-use Rattle.semantics.specs.Path.Laws.{begun, replay-ok}
+use Rattle.semantics.proofs.Theorems.Path.Laws.{begun, replay-ok}
 use Rattle.semantics.specs.Enumeration.{State, Try, Tally, each, merge}
 use Rattle.semantics.specs.Enumeration.Statistics.{each-moved}
 use Rattle.semantics.specs.Words.{encode}

@@ -14,7 +14,7 @@ use Rattle.semantics.specs.Answer.{ok, refuse}
 use Rattle.semantics.specs.Answer.Laws.{ok-inj, ok-refuse, and_then-ok}
 use Rattle.semantics.specs.Graph.{Graph, View, view_of}
 use Rattle.semantics.specs.Path.{Path, append, append_all, append_under}
-use Rattle.semantics.specs.Path.Laws.{append_under-ok, append_all-append, append_all-edges}
+use Rattle.semantics.proofs.Theorems.Path.Laws.{append_under-ok, append_all-append, append_all-edges}
 use Rattle.storage.specs.Index.{BLOCK, node_row, edge_row, target_row, Loaded}
 use Rattle.storage.specs.Index.Laws.{target_row_lem, edge-inside, node-inside}
 use Rattle.semantics.specs.declared.replayed.Step.{Step}

@@ -8,7 +8,6 @@ use Rattle.semantics.specs.Lists.{pick, cons_if}
 use Rattle.semantics.specs.Limits.{Bounds, record_words}
 use Rattle.semantics.specs.Words.{zeros}
 use Rattle.semantics.specs.Database.{used_in, nodes_in, files_in, records, well_formed}
-pub mod Laws
 
 unfoldable pub is_live : List ℕ → Bool
 is_live [] = false

@@ -11,7 +11,7 @@ use Rattle.semantics.specs.Limits.{base, within, max_edges, slot_length}
 use Rattle.semantics.specs.Answer.{ok}
 use Rattle.semantics.specs.Graph.{view_of}
 use Rattle.semantics.specs.Path.{Path, append_all, replay}
-use Rattle.semantics.specs.Path.Laws.{append_all-edges, replay-append}
+use Rattle.semantics.proofs.Theorems.Path.Laws.{append_all-edges, replay-append}
 use Rattle.semantics.specs.Enumeration.{Try, go, one}
 use Rattle.semantics.specs.Stitching.{judge_slot}
 use Rattle.semantics.specs.Words.{encode}

@@ -20,13 +20,13 @@ use Rattle.semantics.specs.Answer.{Answer, ok, refuse, and_then, ok_if}
 use Rattle.semantics.specs.Answer.Laws.{ok-refuse}
 use Rattle.semantics.specs.Graph.{Graph, View, view_of}
 use Rattle.semantics.specs.Path.{Path, from_reference, replay, append_all}
-use Rattle.semantics.specs.Path.Laws.{begun, replay-of, replay-append, append_all-edges}
+use Rattle.semantics.proofs.Theorems.Path.Laws.{begun, replay-of, replay-append, append_all-edges}
 use Rattle.semantics.specs.Enumeration.{State, go}
 use Rattle.semantics.specs.Enumeration.Laws.{Leads, here, on, enumerate-sound}
 use Rattle.semantics.specs.PartialPaths.{Slot}
 use Rattle.semantics.specs.Demand.{file_owners}
 use Rattle.semantics.specs.Stitching.{slot_tries, stitched}
-use Rattle.semantics.specs.Stitching.Laws.{judge-go, tries-are, stitched-ok}
+use Rattle.semantics.proofs.Theorems.Stitching.Laws.{judge-go, tries-are, stitched-ok}
 use Rattle.semantics.specs.Words.{zeros}
 use Rattle.semantics.specs.Database.{nodes_in, files_in, known_owners, slots_in, well_formed, check_database}
 use Rattle.semantics.specs.Calls.{Request, setting_of, stitched_outcome, stitched_call}

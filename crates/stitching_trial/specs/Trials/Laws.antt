@@ -21,7 +21,7 @@ use Rattle.semantics.specs.Limits.{base, within, max_edges, step_length}
 use Rattle.semantics.specs.Answer.{ok, refuse}
 use Rattle.semantics.specs.Graph.{View, view_of, is_reference}
 use Rattle.semantics.specs.Path.{Path, append, append_under, append_all, is_complete}
-use Rattle.semantics.specs.Path.Laws.{append-ok, append_under-ok, append_under-is}
+use Rattle.semantics.proofs.Theorems.Path.Laws.{append-ok, append_under-ok, append_under-is}
 use Rattle.semantics.specs.Answer.Laws.{ok-inj, and_then-ok}
 use Rattle.semantics.specs.Enumeration.{go, tested}
 use Rattle.semantics.specs.Stitching.{ended, extended, joined, judge_slot}

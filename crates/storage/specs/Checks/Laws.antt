@@ -14,7 +14,7 @@ use Rattle.semantics.specs.Lists.{pick}
 use Rattle.semantics.specs.Answer.{Answer, ok, refuse, and_then}
 use Rattle.semantics.specs.Acceptance.{accepts}
 use Rattle.semantics.specs.Answer.Laws.{ok-inj, refuse-ok, and_then-ok}
-use Rattle.semantics.specs.Hidden.Laws.{seen-nodes, seen-edges, seen-accepted}
+use Rattle.semantics.proofs.Theorems.Hidden.Laws.{seen-nodes, seen-edges, seen-accepted}
 use Rattle.hiding.specs.Hiding.Whole.{edge_at}
 use Rattle.semantics.specs.Graph.{Graph, view_of}
 use Rattle.semantics.specs.Image.{symbol_bytes, width_in, first_record, first_edge, files_of, nodes_of, edges_of, header, node_record, edge_record, scan, place_of, edge_misfit, graph_of, references, check_image}

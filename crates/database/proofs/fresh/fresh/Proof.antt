@@ -1,7 +1,7 @@
 -- `fresh::fresh`: the image's refusal, or what is made for its graph.
 use Rattle.semantics.specs.Entries.{graph_in}
 use Rattle.semantics.specs.Calls.{check_call}
-use Rattle.semantics.specs.Told.Laws.{checked-alike}
+use Rattle.semantics.proofs.Theorems.Told.Laws.{checked-alike}
 use Rattle.storage.specs.Index.Use.{answer-refused, answer-accepted}
 use Rattle.database.specs.Fresh.{fresh-created, fresh-image}
 use borrow.Author.Rules.{rules}

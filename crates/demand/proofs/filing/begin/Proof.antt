@@ -2,7 +2,7 @@
 use mathlib.Core.Path.{ap, ◌∙◌}
 use borrow.Author.Rules.{rules}
 use Rattle.semantics.specs.Entries.{fresh_database}
-use Rattle.semantics.specs.Told.Laws.{creation-alike}
+use Rattle.semantics.proofs.Theorems.Told.Laws.{creation-alike}
 use Rattle.demand.specs.Filings.{is_created}
 use Rattle.demand.proofs.filing.begin.Statement.{statement}
 use Rattle.demand.proofs.filing.begin.Tie as tie

@@ -1,7 +1,7 @@
 -- `demand::filing::refile`: an answer told like the call's is the call's.
 use mathlib.Core.Path.{ap, ◌∙◌}
 use borrow.Author.Rules.{rules}
-use Rattle.semantics.specs.Told.Laws.{replacement-alike}
+use Rattle.semantics.proofs.Theorems.Told.Laws.{replacement-alike}
 use Rattle.demand.specs.Filings.{is_replaced, refiling}
 use Rattle.demand.proofs.filing.refile.Statement.{statement}
 use Rattle.demand.proofs.filing.refile.Tie as tie

@@ -1,7 +1,7 @@
 -- `demand::filing::refile_aliases`: an answer told like the call's is the call's.
 use mathlib.Core.Path.{ap, ◌∙◌}
 use borrow.Author.Rules.{rules}
-use Rattle.semantics.specs.Told.Laws.{replacement-alike}
+use Rattle.semantics.proofs.Theorems.Told.Laws.{replacement-alike}
 use Rattle.demand.specs.Filings.{is_replaced, aliasing}
 use Rattle.demand.proofs.filing.refile_aliases.Statement.{statement}
 use Rattle.demand.proofs.filing.refile_aliases.Tie as tie

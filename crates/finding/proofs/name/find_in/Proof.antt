@@ -1,7 +1,7 @@
 -- `finding::name::find_in`: the refusal of the image, or the name on the graph that it holds.
 use mathlib.Core.Path.{sym, ◌∙◌}
 use Rattle.semantics.specs.Entries.{graph_in, seen_in, name_request_of}
-use Rattle.semantics.specs.Hidden.Laws.{seen-nodes}
+use Rattle.semantics.proofs.Theorems.Hidden.Laws.{seen-nodes}
 use Rattle.semantics.specs.Hidden.{sees, seen}
 use Rattle.storage.specs.Index.Use.{answer-accepted, refused-seen, accepted-seen}
 use Rattle.finding.specs.Names.Laws.{image-refused, image_does}

@@ -4,7 +4,7 @@ use native.Mathlib.Omega.{arith}
 use mathlib.Core.Path.{sym, subst}
 use Rattle.semantics.specs.Graph.{Graph}
 use Rattle.semantics.specs.Hidden.{sees}
-use Rattle.semantics.specs.Hidden.All.{seen_all}
+use Rattle.semantics.proofs.Theorems.Hidden.All.{seen_all}
 use Rattle.image.specs.Filling.{Held}
 use Rattle.hiding.proofs.hiding.hide.Statement.{statement}
 use Rattle.hiding.proofs.hiding.hide.Tie as tie

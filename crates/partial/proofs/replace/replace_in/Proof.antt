@@ -6,7 +6,7 @@ use native.Mathlib.Omega.{arith}
 use Rattle.semantics.specs.Acceptance.Laws.{few-files}
 use Rattle.semantics.specs.Entries.{graph_in}
 use Rattle.semantics.specs.Image.{symbol_bytes}
-use Rattle.semantics.specs.Image.Laws as Image
+use Rattle.semantics.proofs.Theorems.Image.Laws as Image
 use Rattle.semantics.specs.Words.{zeros}
 use Rattle.storage.specs.Index.Use.{answer-refused, answer-accepted}
 use Rattle.partial_trial.specs.Own.{Kept}

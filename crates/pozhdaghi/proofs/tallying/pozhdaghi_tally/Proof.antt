@@ -4,7 +4,7 @@ use lib.ListN.{length}
 use Rattle.semantics.specs.Entries.{tally_lengths}
 use Rattle.semantics.specs.Written.{written}
 use Rattle.semantics.specs.Told.{told_tally}
-use Rattle.semantics.specs.Told.Laws.{tallying-alike}
+use Rattle.semantics.proofs.Theorems.Told.Laws.{tallying-alike}
 use borrow.Author.Rules.{rules}
 use Rattle.pozhdaghi.proofs.tallying.pozhdaghi_tally.Statement.{statement}
 use Rattle.pozhdaghi.proofs.tallying.pozhdaghi_tally.Tie as tie

@@ -4,7 +4,7 @@ use Prim.Native.Nat.{ℕ}
 use lib.ListN.{length}
 use Rattle.semantics.specs.Entries.{graph_in, seen_in}
 use Rattle.semantics.specs.Hidden.{sees, seen}
-use Rattle.semantics.specs.Hidden.Laws.{seen-nodes}
+use Rattle.semantics.proofs.Theorems.Hidden.Laws.{seen-nodes}
 use Rattle.semantics.specs.Words.{zeros}
 use Rattle.semantics.specs.Finding.{references_from}
 use Rattle.semantics.specs.Reading.{listed}

@@ -4,7 +4,7 @@ use mathlib.Core.Path.{sym, ◌∙◌}
 use Rattle.semantics.specs.Entries.{graph_in, request_of}
 use Rattle.semantics.specs.Image.{symbol_bytes}
 use Rattle.semantics.specs.Hidden.{sees, seen}
-use Rattle.semantics.specs.Hidden.Laws.{seen-nodes, seen-files}
+use Rattle.semantics.proofs.Theorems.Hidden.Laws.{seen-nodes, seen-files}
 use Rattle.storage.specs.Index.Use.{answer-accepted, refused-seen, accepted-seen}
 use Rattle.path.specs.Replays.Calls.{seen-jump}
 use Rattle.stitching.specs.StitchedAnswers.Laws.{image-refused, image_does}

@@ -5,7 +5,7 @@ use mathlib.Core.Path.{sym, ◌∙◌}
 use Rattle.semantics.specs.Entries.{graph_in}
 use Rattle.semantics.specs.Hidden.{sees}
 use Rattle.semantics.specs.Image.{symbol_bytes}
-use Rattle.semantics.specs.Image.Laws.{image-accepted}
+use Rattle.semantics.proofs.Theorems.Image.Laws.{image-accepted}
 use Rattle.storage.specs.Index.{Loaded}
 use Rattle.storage.specs.Index.Use.{answer-accepted}
 use Rattle.storage.specs.Checks.{shown}

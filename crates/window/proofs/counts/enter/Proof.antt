@@ -4,7 +4,7 @@ use native.Mathlib.Omega.{arith}
 use Rattle.semantics.specs.Limits.{base, window_entries}
 use Rattle.semantics.specs.Told.{told_entered}
 use Rattle.semantics.specs.Window.{Entering}
-use Rattle.semantics.specs.Window.Laws.{call-refused, call-entered}
+use Rattle.semantics.proofs.Theorems.Window.Laws.{call-refused, call-entered}
 use Rattle.window.specs.Extent.{entered-words}
 use borrow.Author.Rules.{rules}
 use Rattle.window.proofs.counts.enter.Statement.{statement}

@@ -8,7 +8,7 @@ use Rattle.semantics.specs.Window as Window
 use Rattle.semantics.specs.Enumeration.{greater}
 use Rattle.semantics.specs.Window.{trend_of}
 use Rattle.semantics.specs.Lists.{total}
-use Rattle.semantics.specs.Window.Laws.{total-more, greatest-more}
+use Rattle.semantics.proofs.Theorems.Window.Laws.{total-more, greatest-more}
 use borrow.Author.Rules.{rules}
 use Rattle.window.proofs.counts.trend.Statement.{statement}
 use Rattle.window.proofs.counts.trend.Tie as tie

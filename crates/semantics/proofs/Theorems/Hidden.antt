@@ -1,0 +1,7 @@
+pub mod Laws
+pub mod All
+pub mod Sets
+pub mod Holds
+pub mod Desks
+pub mod Refused
+pub mod Lists

@@ -1,0 +1,4 @@
+pub mod Laws
+pub mod NoFreeBytes
+pub mod Reading
+pub mod Former
