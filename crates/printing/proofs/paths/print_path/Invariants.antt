@@ -1,4 +1,4 @@
-use Rattle.std.proofs.Common.{◌≡◌, ◌≤◌, ◌++◌, ◌+◌, length, take, drop}
+use Rattle.std.proofs.Common.{◌++◌, take, drop}
 use Rattle.std.specs.Io.KnownBytes.{Appends}
 use Rattle.printing.specs.Lines.{spaced}
 use Rattle.printing.proofs.paths.print_path.Given as goal
