@@ -1,5 +1,7 @@
 // The cases counted: of each kind how many there are, and behind that how many answers differ.
-ghost use Rattle.std.specs.Prelude.{◌≤◌};
+ghost use Rattle.std.specs.Prelude.{◌≡◌, ◌≤◌, OnOk, slice_index};
+ghost use Rattle.std.specs.Io.KnownBytes.{Appends};
+ghost use Rattle.case_list.specs.Lines.{sums_lines};
 
 use crate::{answer, kinds, places, report};
 use std::io;
@@ -8,7 +10,9 @@ use std::io::Write;
 // Two for each kind.
 pub const SUMS: usize = 26;
 
-fn sum(sums: &[u64], at: usize) -> u64 {
+fn sum(sums: &[u64], at: usize) -> u64
+    ensures { result ≡ slice_index sums.now at }
+{
     if at < sums.len() { sums[at] } else { 0 }
 }
 
@@ -49,7 +53,9 @@ pub fn compare<W: Write>(
 }
 
 // The sums of every kind.
-pub fn tell<W: Write>(out: &mut W, sums: &[u64]) -> io::Result<()> {
+pub fn tell<W: Write>(out: &mut W, sums: &[u64]) -> io::Result<()>
+    ensures { OnOk result (Appends (W.contents out.old) (W.contents out.new) (sums_lines sums.now 13)) }
+{
     for kind in 0..kinds::NONE {
         report::tell_sums(out, kind, sum(sums, 2 * kind), sum(sums, 2 * kind + 1))?;
     }
