@@ -13,7 +13,7 @@ use semantics::bounds;
 use semantics::refusal::DatabaseRefusal;
 
 // What a check finds: a database, or 35 or 34.
-#[derive(Drop)]
+#[derive(Clone, Copy)]
 pub enum Inspected {
     Sound,
     Refused(DatabaseRefusal),

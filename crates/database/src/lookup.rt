@@ -12,7 +12,7 @@ use semantics::bounds;
 use semantics::graph::PartialPathId;
 
 // From one place of the words up to another.
-#[derive(Drop)]
+#[derive(Clone, Copy)]
 pub struct Span {
     pub from: usize,
     pub up_to: usize,

@@ -11,13 +11,13 @@ use semantics::search::{SearchLimits, SearchOrder};
 use stitching::stitched;
 
 // How a search is asked for.
-#[derive(Drop)]
+#[derive(Clone, Copy)]
 pub struct Asked {
     pub order: SearchOrder,
     pub limits: SearchLimits,
 }
 
-#[derive(Drop)]
+#[derive(Clone, Copy)]
 pub struct Answers {
     pub direct: Resolution,
     pub stitched: Resolution,

@@ -40,7 +40,7 @@ use storage::{blocks, check, store};
 use words::slots;
 
 // What becomes of the edges from a link on: those that lead nowhere are counted, up to the first that lengthens the path or meets the bound.
-#[derive(Drop)]
+#[derive(Clone, Copy)]
 pub enum Led {
     End,
     TooLong,
@@ -48,7 +48,7 @@ pub enum Led {
 }
 
 // What was counted, the link to the edge that ended it, 0 at the end, and what that edge does.
-#[derive(Drop)]
+#[derive(Clone, Copy)]
 pub struct Pass {
     pub passed: DeadEnds,
     pub link: u32,
@@ -56,7 +56,7 @@ pub struct Pass {
 }
 
 // What one trial adds, or what it leads to.
-#[derive(Drop)]
+#[derive(Clone, Copy)]
 pub enum Counted {
     More(DeadEnds),
     TooLong,

@@ -13,7 +13,7 @@ use search_state::path_slot;
 use semantics::bounds::MAX_EDGES;
 use semantics::judgement::EdgeJudgement;
 
-#[derive(Drop)]
+#[derive(Clone, Copy)]
 pub enum EdgeTrial {
     Cut,
     Overlong,

@@ -24,7 +24,7 @@ use storage::{blocks, check, store};
 use words::slots;
 
 // What became of one reference, or of several: a path to the node from this one stands in the first result slot, none has one, or a search was refused.
-#[derive(Drop)]
+#[derive(Clone, Copy)]
 pub enum Tried {
     Found(u32),
     Without,

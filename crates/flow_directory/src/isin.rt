@@ -26,7 +26,7 @@ const COUNTRY: usize = 2;
 const CHECK_DIGIT: usize = 11;
 
 // Luhn's sum of the digits to the right, and whether the next one is doubled.
-#[derive(Drop)]
+#[derive(Clone, Copy)]
 pub struct Sum {
     pub total: u32,
     pub doubled: bool,

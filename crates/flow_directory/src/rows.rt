@@ -10,14 +10,14 @@ use semantics::bounds::{KEY_BYTES, ROW_BYTES};
 use words::{bytes, halves};
 
 // A key of 16 bytes in two halves.
-#[derive(Drop)]
+#[derive(Clone, Copy)]
 pub struct Key {
     pub high: u64,
     pub low: u64,
 }
 
 // The reference of the row that has the key; no row has it; or the rows are none of a directory.
-#[derive(Drop)]
+#[derive(Clone, Copy)]
 pub enum Looked {
     Found(u32),
     Missing,

@@ -2,7 +2,7 @@
 use semantics::refusal::ImageRefusal;
 
 // The place behind what was checked, or the refusal.
-#[derive(Drop)]
+#[derive(Clone, Copy)]
 pub enum Reached {
     Next(usize),
     Refused(ImageRefusal),

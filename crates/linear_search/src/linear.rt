@@ -29,7 +29,7 @@ use storage::{blocks, check, store};
 use words::slots;
 
 // An expansion on the way: `found` is the link to the edge that was appended, its number plus 1, or 0 for none yet.
-#[derive(Drop)]
+#[derive(Clone, Copy)]
 pub struct Expansion {
     pub state: SearchState,
     pub found: u32,
@@ -47,7 +47,7 @@ impl Expansion {
 }
 
 // What one edge does: the expansion goes on, or a second edge could be appended, or the search is refused.
-#[derive(Drop)]
+#[derive(Clone, Copy)]
 pub enum Pace {
     On(Expansion),
     Second,
@@ -55,7 +55,7 @@ pub enum Pace {
 }
 
 // The search is over, or refused.
-#[derive(Drop)]
+#[derive(Clone, Copy)]
 pub enum Walked {
     Over(SearchState),
     Refused(LinearRefusal),

@@ -18,7 +18,7 @@ use semantics::search::PartialPathStats;
 use words::slots;
 
 // The computation has ended with these counts, or it is refused.
-#[derive(Drop)]
+#[derive(Clone, Copy)]
 pub enum Computed {
     Done(PartialPathStats),
     Refused(PartialPathRefusal),

@@ -31,14 +31,14 @@ use storage::{blocks, check};
 use words::slots;
 
 // Whose partial paths are replaced: those of a file, or of nobody, which are the alias set.
-#[derive(Drop)]
+#[derive(Clone, Copy)]
 pub enum Owner {
     File(FileId),
     Nobody,
 }
 
 // What an accepted graph counts.
-#[derive(Drop)]
+#[derive(Clone, Copy)]
 pub struct Sizes {
     pub files: u32,
     pub nodes: u32,

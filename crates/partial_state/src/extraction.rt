@@ -17,7 +17,7 @@ use semantics::refusal::PartialPathRefusal;
 use semantics::search::{Limit, PartialPathStats, SearchOrder};
 
 // The frontier order, and the limits on edges of a path and on expansions.
-#[derive(Drop)]
+#[derive(Clone, Copy)]
 pub struct Config {
     pub order: SearchOrder,
     pub length: Limit,
@@ -25,7 +25,7 @@ pub struct Config {
 }
 
 // What a computation never changes: its order, limits, and waiting slots. Their words become more when a route is too long for them.
-#[derive(Drop)]
+#[derive(Clone, Copy)]
 pub struct ExtractionFrame {
     pub order: SearchOrder,
     pub length: Limit,
@@ -35,7 +35,7 @@ pub struct ExtractionFrame {
 }
 
 // What it changes: the frontier's place, counts and flags.
-#[derive(Drop)]
+#[derive(Clone, Copy)]
 pub struct Extraction {
     pub first: usize,
     pub count: usize,
@@ -49,14 +49,14 @@ pub struct Extraction {
 }
 
 // The computation goes on, or ends with a refusal.
-#[derive(Drop)]
+#[derive(Clone, Copy)]
 pub enum Extracting {
     On(Extraction),
     Refused(PartialPathRefusal),
 }
 
 // At the top of a round: the computation is over, or the route in the item is to be expanded, or it would be one expansion too many.
-#[derive(Drop)]
+#[derive(Clone, Copy)]
 pub enum ExtractionTurn {
     Over(Extraction),
     Expand(Extraction),

@@ -10,7 +10,7 @@ use crate::route::Ends;
 use database::{layout, replace};
 
 // Records of the file, from record `first` on, at most `room` of them.
-#[derive(Drop)]
+#[derive(Clone, Copy)]
 pub struct Filing {
     pub file: u32,
     pub first: usize,

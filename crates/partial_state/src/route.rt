@@ -10,7 +10,7 @@ use storage::store;
 use words::slots;
 
 // Where a route starts and where it stands.
-#[derive(Drop)]
+#[derive(Clone, Copy)]
 pub struct Ends {
     pub start: u32,
     pub end: u32,

@@ -17,7 +17,7 @@ use storage::store;
 
 // Which of the edges that leave a node an owner has, as far as that node tells, which they share: all of them; or those to a node of the file; or those to
 // a node that lacks a file; or none. Three answers and not one of four, which would be asked of every edge by a jump through a table.
-#[derive(Drop)]
+#[derive(Clone, Copy)]
 pub struct Sought {
     pub all: bool,
     pub of_file: bool,

@@ -14,7 +14,7 @@ use stepping::steps::{get_step, judge, put_step};
 use storage::store;
 
 // What became of an edge, and the path behind it.
-#[derive(Drop)]
+#[derive(Clone, Copy)]
 pub struct Grown {
     pub effect: Effect,
     pub path: Path,

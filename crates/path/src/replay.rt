@@ -21,7 +21,7 @@ use stepping::step::Effect;
 use storage::{blocks, check};
 
 // The answer of a replay, and the path beside it; no path where it is refused.
-#[derive(Drop)]
+#[derive(Clone, Copy)]
 pub struct ReplayOutcome {
     pub answer: Replayed,
     pub path: Path,

@@ -10,7 +10,7 @@ use semantics::graph::{Edge, EdgeId, JUMP};
 use storage::store;
 
 // Where the walk stands behind two edges.
-#[derive(Drop)]
+#[derive(Clone, Copy)]
 pub enum Met {
     Decided(bool),
     Onward,

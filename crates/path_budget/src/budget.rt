@@ -10,7 +10,7 @@ ghost use Rattle.path_budget.specs.Budget.{fresh, with_max_length, with_max_path
 use semantics::search::{Limit, SearchStats};
 
 // A flag is set only by a refusal, never by a count that merely reaches its limit.
-#[derive(Drop)]
+#[derive(Clone, Copy)]
 pub struct Budget {
     pub max_length: Limit,
     pub max_paths: Limit,
@@ -23,7 +23,7 @@ pub struct Budget {
 }
 
 // Whether the work is allowed, and the budget after the question.
-#[derive(Drop)]
+#[derive(Clone, Copy)]
 pub struct Admitted {
     pub allowed: bool,
     pub budget: Budget,

@@ -16,7 +16,7 @@ pub const SHORT_SLOT: usize = 16;
 
 // `count` slots of `length` words wait, from slot `first` on; the newest `pending` of them were pushed since the last pop. No more than `most`
 // waited together before that pop: between two pops their number only grows, so that it is looked at there and a push stays short.
-#[derive(Drop)]
+#[derive(Clone, Copy)]
 pub struct Frontier {
     pub order: SearchOrder,
     pub length: usize,
@@ -27,13 +27,13 @@ pub struct Frontier {
     pub most: usize,
 }
 
-#[derive(Drop)]
+#[derive(Clone, Copy)]
 pub enum Pushed {
     Done(Frontier),
     Full,
 }
 
-#[derive(Drop)]
+#[derive(Clone, Copy)]
 pub enum Popped {
     Item(Frontier),
     Empty,

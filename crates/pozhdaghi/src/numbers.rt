@@ -26,7 +26,7 @@ const SEARCH: usize = 10;
 const MOST: usize = SEARCH + 2;
 
 // As many of the items as are counted.
-#[derive(Drop)]
+#[derive(Clone, Copy)]
 pub struct Numbers {
     pub count: usize,
     pub items: [u64; MOST],

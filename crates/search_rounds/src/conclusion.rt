@@ -15,7 +15,7 @@ use semantics::refusal::SearchRefusal;
 use words::slots;
 
 // The search is over, or refused.
-#[derive(Drop)]
+#[derive(Clone, Copy)]
 pub enum SearchEnd {
     Over(Finished),
     Refused(SearchRefusal),

@@ -3,7 +3,7 @@
 ghost use Rattle.std.specs.Prelude.{◌≡◌, ◌+◌, ◌<◌, ◌^◌};
 ghost use Rattle.search_state.specs.Passes.{nothing_passed, passed_cut, passed_rejection, passed_length};
 
-#[derive(Drop)]
+#[derive(Clone, Copy)]
 pub struct DeadEnds {
     pub cycles: u64,
     pub rejected: u64,

@@ -15,7 +15,7 @@ use semantics::refusal::SearchRefusal;
 use semantics::search::{SearchLimits, SearchOrder};
 
 // What a search never changes: its order, limits, and areas.
-#[derive(Drop)]
+#[derive(Clone, Copy)]
 pub struct Frame {
     pub order: SearchOrder,
     pub limits: SearchLimits,
@@ -24,7 +24,7 @@ pub struct Frame {
 }
 
 // What it changes: the frontier's place, counts and flags.
-#[derive(Drop)]
+#[derive(Clone, Copy)]
 pub struct Progress {
     pub first: usize,
     pub count: usize,
@@ -42,14 +42,14 @@ pub struct Progress {
 }
 
 // The search goes on, or ends with a refusal.
-#[derive(Drop)]
+#[derive(Clone, Copy)]
 pub enum Course {
     On(Progress),
     Refused(SearchRefusal),
 }
 
 // At the top of a round, as `Taken` is.
-#[derive(Drop)]
+#[derive(Clone, Copy)]
 pub enum Next {
     Over(Finished),
     Expand(Progress),

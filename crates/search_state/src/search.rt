@@ -13,28 +13,28 @@ use semantics::bounds::MAX_EXPANSIONS;
 use semantics::refusal::SearchRefusal;
 use semantics::search::SearchStats;
 
-#[derive(Drop)]
+#[derive(Clone, Copy)]
 pub struct Search {
     pub frontier: Frontier,
     pub state: SearchState,
 }
 
 // The search goes on, or ends with a refusal.
-#[derive(Drop)]
+#[derive(Clone, Copy)]
 pub enum Going {
     On(Search),
     Refused(SearchRefusal),
 }
 
 // A search that is over: what was counted and kept, and how many paths ever waited together.
-#[derive(Drop)]
+#[derive(Clone, Copy)]
 pub struct Finished {
     pub state: SearchState,
     pub waited: u64,
 }
 
 // At the top of a round: the search is over, or the path in the item is to be expanded, or it would be one expansion too many.
-#[derive(Drop)]
+#[derive(Clone, Copy)]
 pub enum Taken {
     Over(Finished),
     Expand(Search),

@@ -11,7 +11,7 @@ use semantics::search::{SearchLimits, SearchStats};
 use words::slots;
 
 // `kept` of the `results` result slots are taken.
-#[derive(Drop)]
+#[derive(Clone, Copy)]
 pub struct SearchState {
     pub budget: Budget,
     pub cycles: u64,
@@ -20,7 +20,7 @@ pub struct SearchState {
     pub results: usize,
 }
 
-#[derive(Drop)]
+#[derive(Clone, Copy)]
 pub enum Recorded {
     Done(SearchState),
     Full,

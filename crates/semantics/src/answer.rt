@@ -6,14 +6,14 @@ use crate::refusal::{
 use crate::search::{PartialPathStats, SearchStats};
 
 // The check of an image: the counts of an accepted graph, or 1 to 5.
-#[derive(Drop)]
+#[derive(Clone, Copy)]
 pub enum Checked {
     Accepted { files: u32, nodes: u32, edges: u32 },
     Refused(ImageRefusal),
 }
 
 // Replay. The path itself stands beside this answer.
-#[derive(Drop)]
+#[derive(Clone, Copy)]
 pub enum Replayed {
     Done,
     Image(ImageRefusal),
@@ -21,7 +21,7 @@ pub enum Replayed {
 }
 
 // Completeness and shadowing.
-#[derive(Drop)]
+#[derive(Clone, Copy)]
 pub enum Judgement {
     Done { holds: bool },
     Image(ImageRefusal),
@@ -29,7 +29,7 @@ pub enum Judgement {
 }
 
 // Direct and stitched search: how many paths stand in the result slots. Direct search lends no database, so it never answers Database.
-#[derive(Drop)]
+#[derive(Clone, Copy)]
 pub enum Resolution {
     Done { paths: u64, stats: SearchStats },
     Image(ImageRefusal),
@@ -38,7 +38,7 @@ pub enum Resolution {
 }
 
 // Linear search.
-#[derive(Drop)]
+#[derive(Clone, Copy)]
 pub enum LinearResolution {
     Done { paths: u64, stats: SearchStats },
     Image(ImageRefusal),
@@ -46,7 +46,7 @@ pub enum LinearResolution {
 }
 
 // A fresh database: under 3 words are 35.
-#[derive(Drop)]
+#[derive(Clone, Copy)]
 pub enum Creation {
     Done,
     Image(ImageRefusal),
@@ -54,7 +54,7 @@ pub enum Creation {
 }
 
 // A file replaced: 35 and 34, then 21 and the computation, then 33.
-#[derive(Drop)]
+#[derive(Clone, Copy)]
 pub enum Replacement {
     Done { stats: PartialPathStats },
     Image(ImageRefusal),
@@ -64,7 +64,7 @@ pub enum Replacement {
 }
 
 // A name for a definition: the reference whose path stands in the first result slot, or none. 10 is told as the path rules tell it; 37 has its case.
-#[derive(Drop)]
+#[derive(Clone, Copy)]
 pub enum Finding {
     Found { reference: NodeId },
     Nothing,
@@ -74,7 +74,7 @@ pub enum Finding {
 }
 
 // A tally by length. The numbers themselves stand beside this answer; all are 0 where it is refused.
-#[derive(Drop)]
+#[derive(Clone, Copy)]
 pub enum Tallying {
     Done,
     Image(ImageRefusal),
@@ -83,7 +83,7 @@ pub enum Tallying {
 
 // An image rewritten in another version: how many bytes were written. 1 to 5 of the given image, 38 with the place there of the first record whose symbol does not fit,
 // 2, told as Image, where the result would be too long, and 32.
-#[derive(Drop)]
+#[derive(Clone, Copy)]
 pub enum Rewriting {
     Done { length: u32 },
     Image(ImageRefusal),
@@ -92,7 +92,7 @@ pub enum Rewriting {
 }
 
 // A database of longer slots converted: 35, then 33 for too few words or slots, then 39 for a live path over the bound.
-#[derive(Drop)]
+#[derive(Clone, Copy)]
 pub enum Conversion {
     Done,
     Malformed,
@@ -101,7 +101,7 @@ pub enum Conversion {
 }
 
 // A database compacted: how many slots are live. 35, then 32 for a list of under two words a live slot.
-#[derive(Drop)]
+#[derive(Clone, Copy)]
 pub enum Compaction {
     Done { live: u32 },
     Malformed,
@@ -109,21 +109,21 @@ pub enum Compaction {
 }
 
 // A count entered into the window over the last searches: 40 above the bound on expansions.
-#[derive(Drop)]
+#[derive(Clone, Copy)]
 pub enum Entered {
     Done,
     TooGreat,
 }
 
 // What the window reports: the sum of its entries, and the greatest of them.
-#[derive(Drop)]
+#[derive(Clone, Copy)]
 pub struct Trend {
     pub sum: u64,
     pub greatest: u32,
 }
 
 // The definitions that the returned paths of a search end at.
-#[derive(Drop)]
+#[derive(Clone, Copy)]
 pub enum Definitions {
     Nothing,
     One(NodeId),
@@ -132,7 +132,7 @@ pub enum Definitions {
 
 // A cash flow of a directory resolved: the definitions that were found, beside what the search from its reference gives. 1 to 5 of the image, then 41 for the ISIN,
 // 42 for the rows, 43 for a key that no row has, then the refusals of the search.
-#[derive(Drop)]
+#[derive(Clone, Copy)]
 pub enum Flow {
     Done {
         definitions: Definitions,
@@ -147,7 +147,7 @@ pub enum Flow {
 }
 
 // A node read by its number: its record; 10 for one that is not known.
-#[derive(Drop)]
+#[derive(Clone, Copy)]
 pub enum NodeReading {
     Read(Node),
     Image(ImageRefusal),
@@ -155,7 +155,7 @@ pub enum NodeReading {
 }
 
 // An edge likewise; 12.
-#[derive(Drop)]
+#[derive(Clone, Copy)]
 pub enum EdgeReading {
     Read {
         source: NodeId,
@@ -167,7 +167,7 @@ pub enum EdgeReading {
 }
 
 // Numbers listed in a lent area: how many. 10 for a node that is not known, 32 where the area has fewer words than there are numbers.
-#[derive(Drop)]
+#[derive(Clone, Copy)]
 pub enum Listing {
     Done { count: u32 },
     Image(ImageRefusal),

@@ -1,14 +1,14 @@
 // Numbers of four separate kinds, and the records of a graph: document 01, "Graph image".
-#[derive(Drop)]
+#[derive(Clone, Copy)]
 pub struct NodeId(pub u32);
 
-#[derive(Drop)]
+#[derive(Clone, Copy)]
 pub struct EdgeId(pub u32);
 
-#[derive(Drop)]
+#[derive(Clone, Copy)]
 pub struct FileId(pub u32);
 
-#[derive(Drop)]
+#[derive(Clone, Copy)]
 pub struct PartialPathId(pub u32);
 
 // The nodes that lack a file: root is node 0, jump is node 1.
@@ -17,7 +17,7 @@ pub const ROOT: u32 = 0;
 pub const JUMP: u32 = 1;
 
 // A node record by its kind, 0 to 8.
-#[derive(Drop)]
+#[derive(Clone, Copy)]
 pub enum Node {
     Removed,
     Root,
@@ -53,7 +53,7 @@ pub enum Node {
 }
 
 // An edge record by its kind, 0 or 1.
-#[derive(Drop)]
+#[derive(Clone, Copy)]
 pub enum Edge {
     Removed,
     Live {

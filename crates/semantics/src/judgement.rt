@@ -2,7 +2,7 @@
 use crate::refusal::PathRefusal;
 
 // The refusal that appending it gives, or none, and then whether the extension is complete.
-#[derive(Drop)]
+#[derive(Clone, Copy)]
 pub enum EdgeJudgement {
     Refused(PathRefusal),
     Extends { complete: bool },

@@ -2,7 +2,7 @@
 use crate::graph::{EdgeId, FileId, NodeId};
 
 // An image: 1 to 5, the last two with the record's place.
-#[derive(Drop)]
+#[derive(Clone, Copy)]
 pub enum ImageRefusal {
     Version,
     Length,
@@ -12,7 +12,7 @@ pub enum ImageRefusal {
 }
 
 // The path rules: 10 to 19.
-#[derive(Drop)]
+#[derive(Clone, Copy)]
 pub enum PathRefusal {
     UnknownNode(NodeId),
     NotReference(NodeId),
@@ -27,14 +27,14 @@ pub enum PathRefusal {
 }
 
 // A replay: 10 to 19 whole, 30.
-#[derive(Drop)]
+#[derive(Clone, Copy)]
 pub enum ReplayRefusal {
     Path(PathRefusal),
     TooLong,
 }
 
 // A direct or a stitched search: 10 to 19 whole, 30, 31, 32, 36.
-#[derive(Drop)]
+#[derive(Clone, Copy)]
 pub enum SearchRefusal {
     Path(PathRefusal),
     TooLong,
@@ -44,7 +44,7 @@ pub enum SearchRefusal {
 }
 
 // A linear search: 10 to 19 whole, 20 with the node, 30, 32, 36. Nothing waits, so there is no 31.
-#[derive(Drop)]
+#[derive(Clone, Copy)]
 pub enum LinearRefusal {
     Path(PathRefusal),
     MultipleEdges(NodeId),
@@ -54,7 +54,7 @@ pub enum LinearRefusal {
 }
 
 // The partial paths of a file: 21, 30, 31, 36.
-#[derive(Drop)]
+#[derive(Clone, Copy)]
 pub enum PartialPathRefusal {
     UnknownFile(FileId),
     TooLong,
@@ -63,7 +63,7 @@ pub enum PartialPathRefusal {
 }
 
 // Database words that are lent to be read: 35, 34.
-#[derive(Drop)]
+#[derive(Clone, Copy)]
 pub enum DatabaseRefusal {
     Malformed,
     Outgrown,

@@ -2,7 +2,7 @@
 use crate::bounds::{MAX_EDGES, STEPS_WORDS};
 
 // A step of a path: step 0 is the reference, and each edge makes one more. Both stacks are chains of cells: cell 0 is none, cell j + 1 is what step j made.
-#[derive(Drop)]
+#[derive(Clone, Copy)]
 pub struct Step {
     // the edge that was appended, and the node where the path stands behind it
     pub edge: u32,
@@ -18,7 +18,7 @@ pub struct Step {
 }
 
 // "in a fixed array": the edges. What both stacks hold stands in the steps, as inside the searches.
-#[derive(Drop)]
+#[derive(Clone, Copy)]
 pub struct Path {
     // the reference, the node where the path stands, and how many edges it has
     pub start: u32,

@@ -1,26 +1,26 @@
 // What a search is told and what it tells: document 01, "Budget and frontier" and "Answer".
-#[derive(Drop)]
+#[derive(Clone, Copy)]
 pub enum SearchOrder {
     DepthFirst,
     BreadthFirst,
 }
 
 // A limit is a number or absent.
-#[derive(Drop)]
+#[derive(Clone, Copy)]
 pub enum Limit {
     Absent,
     AtMost(u64),
 }
 
 // On a path's length, on expansions (the path count), and on the complete paths that are kept.
-#[derive(Drop)]
+#[derive(Clone, Copy)]
 pub struct SearchLimits {
     pub length: Limit,
     pub expansions: Limit,
     pub complete: Limit,
 }
 
-#[derive(Drop)]
+#[derive(Clone, Copy)]
 pub struct SearchStats {
     pub expanded: u64,
     pub complete: u64,
@@ -33,7 +33,7 @@ pub struct SearchStats {
     pub waited: u64,
 }
 
-#[derive(Drop)]
+#[derive(Clone, Copy)]
 pub struct PartialPathStats {
     pub expanded: u64,
     pub found: u64,

@@ -14,7 +14,7 @@ use semantics::replayed::Step;
 use storage::store;
 
 // What becomes of an edge: the step that is added, or the refusal.
-#[derive(Drop)]
+#[derive(Clone, Copy)]
 pub enum Effect {
     Done(Step),
     Refused(PathRefusal),

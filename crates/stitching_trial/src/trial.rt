@@ -10,7 +10,7 @@ use semantics::refusal::{PathRefusal, SearchRefusal};
 use stepping::step::Effect;
 use stepping::{step, steps};
 
-#[derive(Drop)]
+#[derive(Clone, Copy)]
 pub enum StitchTrial {
     Cut,
     Overlong,

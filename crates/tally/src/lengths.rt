@@ -20,7 +20,7 @@ use storage::{blocks, check};
 use words::slots;
 
 // The answer, and the numbers for the lengths 0 to 63 beside it.
-#[derive(Drop)]
+#[derive(Clone, Copy)]
 pub struct TallyOutcome {
     pub answer: Tallying,
     pub numbers: [u64; LENGTHS],

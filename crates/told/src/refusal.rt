@@ -10,7 +10,7 @@ use semantics::refusal::{
 };
 
 // A number and up to two values; count is how many of the three there are, and the others are 0.
-#[derive(Drop)]
+#[derive(Clone, Copy)]
 pub struct Told {
     pub count: u32,
     pub number: u32,
