@@ -1,5 +1,7 @@
 // The graph image: its check, its loaded form and its records by number.
 // Document 01, "Graph image" and the rows 1 to 5 of "Turned back".
+#![tactic(auto)]
+
 pub mod check;
 pub mod links;
 pub mod refs;

@@ -1,0 +1,20 @@
+-- `storage::check::judge`: a header that goes on stands in front of the first record.
+use mathlib.Core.Path.{◌≡◌, sym, ap, ◌∙◌}
+use Rattle.semantics.specs.Answer.{ok}
+use Rattle.semantics.specs.Image.{symbol_bytes, header}
+use Rattle.image.specs.Records.Laws.{headed}
+use Rattle.image.specs.Reached.{answer_of}
+use Rattle.storage.specs.Checks.Laws.{bad-header, told-refused, none-known}
+use Rattle.storage.proofs.check.judge.Goals as goal
+
+pub read-requires : goal.read-requires
+read-requires c =
+    let im = c.args.image.now in
+    let e : header symbol_bytes im ≡ ok c.in-Next.field-0 = sym c.header.ensures ∙ ap answer_of c.in-Next.is in
+    record { image_value = e ∙ ap ok (headed im _ e).1; takes = c.requires }
+
+pub returns-in-Refused : goal.returns-in-Refused
+returns-in-Refused c =
+    let im = c.args.image.now in
+    let e = bad-header im c.in-Refused.r (sym c.header.ensures ∙ ap answer_of c.in-Refused.is) in
+    record { value = told-refused _ e; unlinked = λ g q. none-known _ e g q }
