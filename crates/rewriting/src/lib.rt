@@ -1,4 +1,6 @@
 // A graph image rewritten in another version. Document 02, order 3.
+#![tactic(auto)]
+
 mod back;
 mod forward;
 mod record;

@@ -1,0 +1,21 @@
+use borrow.Author.Tests.{eq-eqb, ne_eqb}
+use mathlib.Core.Path.{ap}
+use Rattle.stepping.specs.declared.step.Effect.TheVariants.{Done}
+use Rattle.stepping.specs.Steps.{pop_of}
+use Rattle.stepping.proofs.step.pop.Goals as goal
+
+pub returns-then-last-eq0 : goal.returns-then-last-eq0
+unfolding pop_of
+returns-then-last-eq0 c = simp (eq-eqb _ 0 c.if-last-eq0.true)
+
+pub returns-then-top-symbol : goal.returns-then-top-symbol
+unfolding pop_of
+returns-then-top-symbol c = simp (ne_eqb _ 0 c.if-last-eq0.false, ne_eqb _ _ c.if-top-symbol.true)
+
+pub returns-then-top-ne0 : goal.returns-then-top-ne0
+unfolding pop_of
+returns-then-top-ne0 c = simp (ne_eqb _ 0 c.if-last-eq0.false, eq-eqb _ _ c.if-top-symbol.false, ne_eqb _ 0 c.if-top-ne0.true)
+
+pub returns : goal.returns
+unfolding pop_of
+returns c = simp (ne_eqb _ 0 c.if-last-eq0.false, eq-eqb _ _ c.if-top-symbol.false, eq-eqb _ 0 c.if-top-ne0.false) (ap Done c.plain.ensures)
