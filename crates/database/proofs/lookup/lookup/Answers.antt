@@ -23,3 +23,13 @@ returns c =
     let p = part_of c.find-part.result in
     let w = subst (Inside c.args.words.now) (sym c.find-part.ensures) (lookup-inside base known_owners c.args.number.0 c.args.words.now) in
     record { result_value = words-part p a.words.now w.0 ∙ ap (λ (q : Part). words_of q a.words.now) c.find-part.ensures; ref_ptr_value = ap (λ (q : Part). word_place a.words.ref_ptr q.from) c.find-part.ensures }
+
+pub slice_bounds-result-start : goal.slice_bounds-result-start
+slice_bounds-result-start c =
+    let w = subst (Inside c.args.words.now) (sym c.find-part.ensures) (lookup-inside base known_owners c.args.number.0 c.args.words.now) in
+    w.0
+
+pub slice_bounds-result-end : goal.slice_bounds-result-end
+slice_bounds-result-end c =
+    let w = subst (Inside c.args.words.now) (sym c.find-part.ensures) (lookup-inside base known_owners c.args.number.0 c.args.words.now) in
+    w.1

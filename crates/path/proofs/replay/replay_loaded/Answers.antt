@@ -9,7 +9,7 @@ use Rattle.path.proofs.replay.replay_loaded.Goals as goal
 pub returns-in_default : goal.returns-in_default
 returns-in_default c =
     let a = c.args in
-    let e = begun-stops a.index.now a.reference a.edges.now c.outcome-begun.result (c.outcome-begun.ensures ∙ ap outcome_of c.from_reference.ensures) (let h = c.in_default in ?) in
+    let e = begun-stops a.index.now a.reference a.edges.now c.outcome-begun.result (c.outcome-begun.ensures ∙ ap outcome_of c.from_reference.ensures) c.in_default.not-Done in
     record { value = e; answers = loaded-says a.index.now a.reference a.edges.now c.outcome-begun.result e }
 
 pub loop-i-init : goal.loop-i-init
