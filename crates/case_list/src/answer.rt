@@ -1,6 +1,6 @@
 // An answer as numbers in lent words, and as it is expected in the list: a count, in 1 or 2 bytes, and as many numbers of 4 bytes.
 // It begins with document 01's number, 0 where nothing is refused, and the values that belong to it.
-ghost use Rattle.std.specs.Prelude.{◌≡◌, ◌+◌, ◌*◌, ◌<◌};
+ghost use Rattle.std.specs.Prelude.{◌≡◌, ◌+◌, ◌*◌, ◌<◌, slice_index};
 ghost use Rattle.case_list.specs.Bounds.{most_place};
 
 use crate::list;
@@ -45,7 +45,9 @@ pub fn behind(expected: Expected) -> usize
 }
 
 // The word at a place; 0 behind the words.
-pub fn word(words: &[u32], at: usize) -> u32 {
+pub fn word(words: &[u32], at: usize) -> u32
+    ensures { result ≡ slice_index words.now at }
+{
     if at < words.len() { words[at] } else { 0 }
 }
 

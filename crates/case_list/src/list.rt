@@ -1,9 +1,12 @@
 // A list of cases in bytes, read at any place. Numbers are big-endian.
-ghost use Rattle.std.specs.Prelude.{◌≡◌, ◌+◌, ◌<◌, ◌≤◌, min};
+ghost use Rattle.std.specs.Prelude.{◌≡◌, ◌+◌, ◌<◌, ◌≤◌, min, slice_index};
 ghost use Rattle.case_list.specs.Bounds.{most_place};
+ghost use Rattle.case_list.specs.Numbers.{short_at, long_at, longest_at};
 
 // The byte at a place; 0 behind the list.
-pub fn byte(list: &[u8], at: usize) -> u8 {
+pub fn byte(list: &[u8], at: usize) -> u8
+    ensures { result ≡ slice_index list.now at }
+{
     if at < list.len() { list[at] } else { 0 }
 }
 
@@ -15,14 +18,16 @@ pub fn put_byte(bytes: &mut [u8], at: usize, byte: u8) {
 }
 
 fn wide(x: u8) -> u32
-    ensures { result < 256 }
+    ensures range { result < 256 }
+    ensures value { result ≡ x }
 {
     x as u32
 }
 
 // A number of 8 bits.
 pub fn tiny(list: &[u8], at: usize) -> u32
-    ensures { result < 256 }
+    ensures range { result < 256 }
+    ensures value { result ≡ slice_index list.now at }
 {
     wide(byte(list, at))
 }
@@ -30,7 +35,8 @@ pub fn tiny(list: &[u8], at: usize) -> u32
 // A number of 16 bits.
 pub fn short(list: &[u8], at: usize) -> u32
     requires { at < most_place }
-    ensures { result < 65536 }
+    ensures range { result < 65536 }
+    ensures value { result ≡ short_at list.now at }
 {
     let high = tiny(list, at);
     let low = tiny(list, at + 1);
@@ -40,6 +46,7 @@ pub fn short(list: &[u8], at: usize) -> u32
 // A number of 32 bits.
 pub fn long(list: &[u8], at: usize) -> u32
     requires { at + 2 < most_place }
+    ensures { result ≡ long_at list.now at }
 {
     let high = short(list, at);
     let low = short(list, at + 2);
@@ -49,6 +56,7 @@ pub fn long(list: &[u8], at: usize) -> u32
 // A number of 64 bits.
 pub fn longest(list: &[u8], at: usize) -> u64
     requires { at + 6 < most_place }
+    ensures { result ≡ longest_at list.now at }
 {
     let high = long(list, at) as u64;
     let low = long(list, at + 4) as u64;

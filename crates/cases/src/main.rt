@@ -2,7 +2,9 @@
 // Standard input is five lists, each its length in 4 bytes and then its bytes: images, paths, searches, partial paths, stitched searches. The scripts
 // oracle/*_cases.py write and describe them. It prints the first case of each kind whose answer differs, then how many cases of each kind there are
 // and how many answers differ.
-ghost use Rattle.std.specs.Prelude.{◌<◌, ◌≤◌, length};
+#![tactic(auto)]
+
+ghost use Rattle.std.specs.Prelude.{◌<◌, ◌≤◌, length, IfOk};
 
 mod images;
 mod partials;
@@ -13,7 +15,9 @@ mod shown;
 use case_list::compared::SUMS;
 use case_list::lent::{Lent, MOST_IMAGE, MOST_WORDS};
 use case_list::{compared, kinds, lent, list, places};
-use libc::STDIN_FILENO;
+use printing::input;
+use std::io;
+use std::io::{Read, Write};
 
 const LISTS: usize = 5;
 
@@ -47,33 +51,41 @@ fn library_answer(
 }
 
 // The call at a case is made and its answer compared.
-fn compare(case: &[u8], kind: usize, image: &mut [u8], words: &mut [u32], sums: &mut [u64])
+fn compare<W: Write>(
+    out: &mut W,
+    case: &[u8],
+    kind: usize,
+    image: &mut [u8],
+    words: &mut [u32],
+    sums: &mut [u64],
+) -> io::Result<()>
     requires { kind ≤ 13 }
 {
-    let mut out = [0u32; MOST_NUMBERS];
-    let count = library_answer(case, kind, image, words, &mut out);
-    compared::compare(case, kind, &out, count, sums);
+    let mut given = [0u32; MOST_NUMBERS];
+    let count = library_answer(case, kind, image, words, &mut given);
+    compared::compare(out, case, kind, &given, count, sums)
 }
 
 // What a case lends is copied, or its call is made. It answers what is lent to the next.
-fn visit(
+fn visit<W: Write>(
+    out: &mut W,
     case: &[u8],
     kind: usize,
     last: Lent,
     image: &mut [u8],
     words: &mut [u32],
     sums: &mut [u64],
-) -> Lent
+) -> io::Result<Lent>
     requires { (kind ≤ 13) × (last.bytes ≤ length image.old) × (last.words ≤ length words.old) }
-    ensures { (result.bytes ≤ length image.old) × (result.words ≤ length words.old) }
+    ensures { IfOk result (λ lent. (lent.bytes ≤ length image.old) × (lent.words ≤ length words.old)) }
 {
     let lent = lent::read(case, last, image, words);
     let b = lent.bytes;
     let w = lent.words;
     if kind < kinds::NONE {
-        compare(case, kind, &mut image[0..b], &mut words[0..w], sums);
+        compare(out, case, kind, &mut image[0..b], &mut words[0..w], sums)?;
     }
-    lent
+    Ok(lent)
 }
 
 // The place behind a case that begins at a place and takes some bytes.
@@ -88,40 +100,54 @@ fn next(list: &[u8], at: usize, bytes: usize) -> usize
 }
 
 // Every case of a list in its order.
-fn replay(which: usize, list: &[u8], image: &mut [u8], words: &mut [u32], sums: &mut [u64]) {
+fn replay<W: Write>(
+    out: &mut W,
+    which: usize,
+    list: &[u8],
+    image: &mut [u8],
+    words: &mut [u32],
+    sums: &mut [u64],
+) -> io::Result<()> {
     let mut at: usize = 0;
     let mut lent = Lent { bytes: 0, words: 0 };
     while at < list.len() {
         let kind = kinds::kind(which, list::byte(list, at));
-        lent = visit(&list[at..], kind, lent, image, words, sums);
+        lent = visit(out, &list[at..], kind, lent, image, words, sums)?;
         at = next(list, at, places::bytes(&list[at..], kind));
     }
+    Ok(())
 }
 
 // The next list is read; one that is not there has no bytes.
-fn read(list: &mut [u8]) -> usize
-    ensures { result ≤ length list.old }
+fn read<R: Read>(reader: &mut R, list: &mut [u8]) -> io::Result<usize>
+    ensures { IfOk result (λ n. n ≤ length list.old) }
 {
     let mut length = [0u8; 4];
-    io::read_full(STDIN_FILENO, &mut length);
+    input::read_full(reader, &mut length)?;
     let n = list::lesser(list::long(&length, 0) as usize, list.len());
-    io::read_full(STDIN_FILENO, &mut list[0..n])
+    input::read_full(reader, &mut list[0..n])
 }
 
-fn replay_all(list: &mut [u8], image: &mut [u8], words: &mut [u32]) {
+fn replay_all<R: Read, W: Write>(
+    reader: &mut R,
+    out: &mut W,
+    list: &mut [u8],
+    image: &mut [u8],
+    words: &mut [u32],
+) -> io::Result<()> {
     let mut sums = [0u64; SUMS];
-    let mut which: usize = 0;
-    while which < LISTS {
-        let n = read(list);
-        replay(which, &list[0..n], image, words, &mut sums);
-        which += 1;
+    for which in 0..LISTS {
+        let n = read(reader, list)?;
+        replay(out, which, &list[0..n], image, words, &mut sums)?;
     }
-    compared::tell(&sums);
+    compared::tell(out, &sums)
 }
 
-fn main() {
+fn main(rt: HostRuntime) -> io::Result<()> {
     let mut list = [0u8; MOST_BYTES];
     let mut image = [0u8; MOST_IMAGE];
     let mut words = [0u32; MOST_WORDS];
-    replay_all(&mut list, &mut image, &mut words);
+    let mut reader = rt.stdin();
+    let mut out = rt.stdout();
+    replay_all(&mut reader, &mut out, &mut list, &mut image, &mut words)
 }

@@ -1,24 +1,38 @@
-// A line of named numbers on standard output.
-use libc::STDOUT_FILENO;
+// A line of named numbers. On an error some of its bytes may have been written.
+ghost use Rattle.std.specs.Prelude.{◌≡◌, ◌++◌, decimal, OnOk, ◌∷◌, []};
+ghost use Rattle.std.specs.Io.KnownBytes.{Appends};
 
-pub fn print(bytes: &[u8]) {
-    io::write_all(STDOUT_FILENO, bytes);
+use std::io;
+use std::io::Write;
+
+pub fn print<W: Write>(out: &mut W, bytes: &[u8]) -> io::Result<()>
+    ensures { OnOk result (Appends (W.contents out.old) (W.contents out.new) bytes.now) }
+{
+    out.write_all(bytes)
 }
 
-pub fn print_named(name: &[u8], number: u64) {
-    print(name);
-    io::print_decimal(STDOUT_FILENO, number);
+pub fn print_named<W: Write>(out: &mut W, name: &[u8], number: u64) -> io::Result<()>
+    ensures { OnOk result (Appends (W.contents out.old) (W.contents out.new) (name.now ++ decimal number)) }
+{
+    print(out, name)?;
+    write!(out, "{number}")
 }
 
-pub(crate) fn wide(word: u32) -> u64 {
+pub(crate) fn wide(word: u32) -> u64
+    ensures { result ≡ word }
+{
     word as u64
 }
 
 // The same of a number of 32 bits.
-pub fn print_word(name: &[u8], word: u32) {
-    print_named(name, wide(word));
+pub fn print_word<W: Write>(out: &mut W, name: &[u8], word: u32) -> io::Result<()>
+    ensures { OnOk result (Appends (W.contents out.old) (W.contents out.new) (name.now ++ decimal word)) }
+{
+    print_named(out, name, wide(word))
 }
 
-pub fn end_line() {
-    print(b"\n");
+pub fn end_line<W: Write>(out: &mut W) -> io::Result<()>
+    ensures { OnOk result (Appends (W.contents out.old) (W.contents out.new) (10 ∷ [])) }
+{
+    print(out, b"\n")
 }

@@ -1,10 +1,14 @@
 // The paths of a result area, a line for each.
-ghost use Rattle.std.specs.Prelude.{◌≡◌, ◌≤◌, length};
+ghost use Rattle.std.specs.Prelude.{◌≡◌, ◌≤◌, min, length, OnOk};
+ghost use Rattle.std.specs.Io.KnownBytes.{Appends};
 ghost use Rattle.semantics.specs.Limits.{slot_length};
-ghost use Rattle.printing.specs.Areas.{area_words};
+ghost use Rattle.printing.specs.Areas.{area_words, slots};
+ghost use Rattle.printing.specs.Lines.{path_line, path_lines};
 
 use crate::line;
 use semantics::bounds::{MAX_EDGES, SLOT_WORDS};
+use std::io;
+use std::io::Write;
 
 // Each area has 128 slots.
 const SLOTS: usize = 128;
@@ -13,7 +17,8 @@ pub const AREA_WORDS: usize = SLOTS * SLOT_WORDS;
 
 // The lesser of the two, for numbers that are never greater than the bound.
 fn at_most(number: u64, bound: usize) -> usize
-    ensures { result ≤ bound }
+    ensures upper_bound { result ≤ bound }
+    ensures value { result ≡ min number bound }
 {
     if number < bound as u64 {
         number as usize
@@ -23,23 +28,26 @@ fn at_most(number: u64, bound: usize) -> usize
 }
 
 // The edges of a slot, behind their count.
-fn print_path(name: &[u8], slot: &[u32])
+fn print_path<W: Write>(out: &mut W, name: &[u8], slot: &[u32]) -> io::Result<()>
     requires { length slot.now ≡ slot_length }
+    ensures { OnOk result (Appends (W.contents out.old) (W.contents out.new) (path_line name.now slot.now)) }
 {
     let count = at_most(line::wide(slot[0]), MAX_EDGES);
-    line::print(name);
+    line::print(out, name)?;
     for j in 0..count {
-        line::print_word(b" ", slot[1 + j]);
+        line::print_word(out, b" ", slot[1 + j])?;
     }
-    line::end_line();
+    line::end_line(out)
 }
 
 // The paths of the first slots, each behind the name.
-pub fn print_paths(name: &[u8], res: &[u32], paths: u64)
+pub fn print_paths<W: Write>(out: &mut W, name: &[u8], res: &[u32], paths: u64) -> io::Result<()>
     requires { length res.now ≡ area_words }
+    ensures { OnOk result (Appends (W.contents out.old) (W.contents out.new) (path_lines name.now res.now (min paths slots))) }
 {
     for i in 0..at_most(paths, SLOTS) {
         let at = SLOT_WORDS * i;
-        print_path(name, &res[at..at + SLOT_WORDS]);
+        print_path(out, name, &res[at..at + SLOT_WORDS])?;
     }
+    Ok(())
 }

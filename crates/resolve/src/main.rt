@@ -2,19 +2,26 @@
 // is searched directly, breadth-first, without limits, with 128 waiting and 128 result slots. report.rt says what is printed. Beyond the document: the image is
 // read from a file where an argument names one, and --help tells how to call it. What cannot be read, and that output was lost, is told on standard error; a program has
 // no exit status to tell it by.
+#![tactic(auto)]
+
 ghost use Rattle.std.specs.Prelude.{◌≡◌, length};
 ghost use Rattle.storage.specs.Index.{INDEX};
 ghost use Rattle.printing.specs.Areas.{area_words};
 
+mod failure;
 mod report;
 mod usage;
 
 use direct_search::direct;
-use libc::{STDERR_FILENO, STDIN_FILENO};
+use printing::input;
 use printing::paths::AREA_WORDS;
 use semantics::answer::{Checked, Resolution};
 use semantics::graph::NodeId;
 use semantics::search::{Limit, SearchLimits, SearchOrder};
+use std::env::{Env, FillError};
+use std::fs::{File, Files};
+use std::io::{Read, Write};
+use std::{io, str};
 use stepping::node::is_reference;
 use storage::{blocks, check, store};
 use told::refusal;
@@ -29,13 +36,20 @@ const MOST_FILES: usize = 256;
 
 const VISIBLE: u8 = 1;
 
-// The program's name, and the only argument behind it.
-const PROGRAM: usize = 0;
-
+// The only argument, behind the program's name.
 const ARGUMENT: usize = 1;
 
+// Room for any path.
+const MOST_ARGUMENT: usize = 4096;
+
 // The search from one reference, and what is printed of it. The image is accepted and there is no database, so only the search itself may refuse.
-fn resolve(image: &[u8], reference: u32, work: &mut [u32], res: &mut [u32])
+fn resolve<W: Write>(
+    image: &[u8],
+    reference: u32,
+    work: &mut [u32],
+    res: &mut [u32],
+    out: &mut W,
+) -> io::Result<()>
     requires { length res.old ≡ area_words }
 {
     let limits = SearchLimits {
@@ -46,154 +60,218 @@ fn resolve(image: &[u8], reference: u32, work: &mut [u32], res: &mut [u32])
     let order = SearchOrder::BreadthFirst;
     let visible = [VISIBLE; MOST_FILES];
     match direct::search(image, &visible, NodeId(reference), order, limits, work, res) {
-        Resolution::Done { paths, stats } => report::tell_found(reference, paths, stats, res),
-        Resolution::Image(r) => report::tell_refused(reference, refusal::image(r).number),
-        Resolution::Database(r) => report::tell_refused(reference, refusal::database(r).number),
-        Resolution::Refused(r) => report::tell_refused(reference, refusal::search(r).number),
+        Resolution::Done { paths, stats } => report::tell_found(out, reference, paths, stats, res),
+        Resolution::Image(r) => report::tell_refused(out, reference, refusal::image(r).number),
+        Resolution::Database(r) => report::tell_refused(
+            out,
+            reference,
+            refusal::database(r).number,
+        ),
+        Resolution::Refused(r) => report::tell_refused(out, reference, refusal::search(r).number),
     }
 }
 
 // A node that is no reference is passed over.
-fn resolve_node(image: &[u8], index: &[u32], n: u32, work: &mut [u32], res: &mut [u32])
+fn resolve_node<W: Write>(
+    image: &[u8],
+    index: &[u32],
+    n: u32,
+    work: &mut [u32],
+    res: &mut [u32],
+    out: &mut W,
+) -> io::Result<()>
     requires { (length index.now ≡ INDEX) × (length res.old ≡ area_words) }
 {
     if is_reference(store::node(index, NodeId(n))) {
-        resolve(image, n, work, res);
+        return resolve(image, n, work, res, out);
     }
+    Ok(())
 }
 
 // Every reference of the loaded graph, by ascending number.
-fn resolve_all(image: &[u8], index: &[u32], nodes: u32, work: &mut [u32], res: &mut [u32])
+fn resolve_all<W: Write>(
+    image: &[u8],
+    index: &[u32],
+    nodes: u32,
+    work: &mut [u32],
+    res: &mut [u32],
+    out: &mut W,
+) -> io::Result<()>
     requires { (length index.now ≡ INDEX) × (length res.old ≡ area_words) }
 {
     for n in 0..nodes {
-        resolve_node(image, index, n, work, res);
+        resolve_node(image, index, n, work, res, out)?;
     }
+    Ok(())
 }
 
 // The image is checked once here, for its nodes.
-fn resolve_image(image: &[u8], work: &mut [u32], res: &mut [u32])
+fn resolve_image<W: Write>(
+    image: &[u8],
+    work: &mut [u32],
+    res: &mut [u32],
+    out: &mut W,
+) -> io::Result<()>
     requires { length res.old ≡ area_words }
 {
     let mut index = [0u32; blocks::INDEX];
     match check::load(image, &mut index) {
-        Checked::Refused(r) => report::tell_image_refused(refusal::image(r).number),
+        Checked::Refused(r) => report::tell_image_refused(out, refusal::image(r).number),
         Checked::Accepted {
             files: _,
             nodes,
             edges: _,
-        } => resolve_all(image, &index, nodes, work, res),
+        } => resolve_all(image, &index, nodes, work, res, out),
     }
 }
 
-fn resolve_bytes(image: &[u8], work: &mut [u32], res: &mut [u32])
+fn resolve_bytes<W: Write>(
+    image: &[u8],
+    work: &mut [u32],
+    res: &mut [u32],
+    out: &mut W,
+) -> io::Result<()>
     requires { length res.old ≡ area_words }
 {
     if MOST_BYTES < image.len() {
-        report::tell_image_refused(TOO_MANY_BYTES);
-        return;
+        return report::tell_image_refused(out, TOO_MANY_BYTES);
     }
-    resolve_image(image, work, res);
-}
-
-// Errno becomes 0: an argument that is there and fits is handed out, which the program's name is. What is printed leaves it so unless a write fails.
-fn forget_errors() {
-    let mut name = io::buffer();
-    os::arg(PROGRAM, &mut name);
-}
-
-// What failed, and why: errno is read when the rest of the line is written. It is told once.
-fn fail_with(what: &[u8]) {
-    io::write_all(STDERR_FILENO, b"resolve: ");
-    os::fail(what);
-    forget_errors();
+    resolve_image(image, work, res, out)
 }
 
 // Some write before this one failed.
-fn tell_lost() {
-    if os::errno() != 0 {
-        fail_with(b"standard output");
+fn tell_lost<E: Write>(written: io::Result<()>, err: &mut E) {
+    if let Err(error) = written {
+        failure::tell(err, b"standard output", &error);
     }
 }
 
-fn resolve_input(bytes: &mut [u8], work: &mut [u32], res: &mut [u32])
+// What is open is read under its name.
+fn resolve_open<I: Read, W: Write, E: Write>(
+    reader: &mut I,
+    name: &[u8],
+    bytes: &mut [u8],
+    work: &mut [u32],
+    res: &mut [u32],
+    out: &mut W,
+    err: &mut E,
+) -> io::Result<()>
     requires { length res.old ≡ area_words }
 {
-    let n = io::read_full(STDIN_FILENO, bytes);
-    if os::errno() != 0 {
-        fail_with(b"standard input");
-        return;
+    match input::read_full(reader, bytes) {
+        Ok(n) => resolve_bytes(&bytes[0..n], work, res, out),
+        Err(error) => {
+            failure::tell(err, name, &error);
+            Ok(())
+        }
     }
-    resolve_bytes(&bytes[0..n], work, res);
 }
 
-// Errno is 0 before this call, as the argument was there, and no longer so where a read failed.
-fn resolve_open(fd: i32, path: &[u8], bytes: &mut [u8], work: &mut [u32], res: &mut [u32])
+fn resolve_input<R: Input, W: Write, E: Write>(
+    rt: &R,
+    bytes: &mut [u8],
+    work: &mut [u32],
+    res: &mut [u32],
+    out: &mut W,
+    err: &mut E,
+) -> io::Result<()>
     requires { length res.old ≡ area_words }
 {
-    let n = io::read_full(fd, bytes);
-    if os::errno() != 0 {
-        fail_with(path);
-        return;
-    }
-    resolve_bytes(&bytes[0..n], work, res);
+    let mut reader = rt.reader();
+    resolve_open(&mut reader, b"standard input", bytes, work, res, out, err)
 }
 
-fn resolve_file(path: &[u8], bytes: &mut [u8], work: &mut [u32], res: &mut [u32])
+fn resolve_file<R: Files, W: Write, E: Write>(
+    rt: &R,
+    path: &[u8],
+    bytes: &mut [u8],
+    work: &mut [u32],
+    res: &mut [u32],
+    out: &mut W,
+    err: &mut E,
+) -> io::Result<()>
     requires { length res.old ≡ area_words }
 {
-    let fd = os::open_read(path);
-    if fd < 0 {
-        fail_with(path);
-        return;
+    let Ok(name) = str::from_utf8(path) else {
+        failure::tell_cause(err, path, b"the name is not UTF-8");
+        return Ok(());
+    };
+    match File::open(rt, name) {
+        Ok(mut file) => resolve_open(&mut file, path, bytes, work, res, out, err),
+        Err(error) => {
+            failure::tell(err, path, &error);
+            Ok(())
+        }
     }
-    resolve_open(fd, path, bytes, work, res);
-    libc::close(fd);
 }
 
-fn resolve_named(argument: &[u8], bytes: &mut [u8], work: &mut [u32], res: &mut [u32])
+fn resolve_named<R: Files, W: Write, E: Write>(
+    rt: &R,
+    argument: &[u8],
+    bytes: &mut [u8],
+    work: &mut [u32],
+    res: &mut [u32],
+    out: &mut W,
+    err: &mut E,
+) -> io::Result<()>
     requires { length res.old ≡ area_words }
 {
     if usage::asks_help(argument) {
-        usage::tell_help();
-        return;
+        return usage::tell_help(out);
     }
-    resolve_file(argument, bytes, work, res);
+    resolve_file(rt, argument, bytes, work, res, out, err)
 }
 
-fn resolve_argument(bytes: &mut [u8], work: &mut [u32], res: &mut [u32])
+// With no argument standard input is read.
+fn resolve_argument<R: Env + Input + Files, W: Write, E: Write>(
+    rt: &R,
+    bytes: &mut [u8],
+    work: &mut [u32],
+    res: &mut [u32],
+    out: &mut W,
+    err: &mut E,
+) -> io::Result<()>
     requires { length res.old ≡ area_words }
 {
-    let mut argument = io::buffer();
-    let length = os::arg(ARGUMENT, &mut argument);
-    if os::errno() != 0 {
-        fail_with(b"the argument");
-        return;
+    let mut argument = [0u8; MOST_ARGUMENT];
+    match rt.arg(ARGUMENT, &mut argument) {
+        Ok(n) => resolve_named(rt, &argument[..n], bytes, work, res, out, err),
+        Err(FillError::NotPresent) => resolve_input(rt, bytes, work, res, out, err),
+        Err(FillError::TooLong) => {
+            failure::tell_cause(err, b"the argument", b"File name too long");
+            Ok(())
+        }
     }
-    resolve_named(&argument[..length], bytes, work, res);
 }
 
-// The program's own name is counted too.
-fn resolve_asked(bytes: &mut [u8], work: &mut [u32], res: &mut [u32])
+// Whether an argument stands at a place, however long it is.
+fn is_given<R: Env>(rt: &R, place: usize) -> bool {
+    !matches!(rt.arg(place, &mut []), Err(FillError::NotPresent))
+}
+
+fn resolve_asked<R: Env + Input + Files, W: Write, E: Write>(
+    rt: &R,
+    bytes: &mut [u8],
+    work: &mut [u32],
+    res: &mut [u32],
+    out: &mut W,
+    err: &mut E,
+) -> io::Result<()>
     requires { length res.old ≡ area_words }
 {
-    let count = os::arg_count();
-    if ARGUMENT + 1 < count {
-        usage::tell_misuse();
-        return;
+    if is_given(rt, ARGUMENT + 1) {
+        usage::tell_misuse(err);
+        return Ok(());
     }
-    if count <= ARGUMENT {
-        resolve_input(bytes, work, res);
-        return;
-    }
-    resolve_argument(bytes, work, res);
+    resolve_argument(rt, bytes, work, res, out, err)
 }
 
-fn main() {
+fn main(rt: HostRuntime) {
     let mut bytes = [0u8; MOST_BYTES + 1];
     let mut work = [0u32; AREA_WORDS];
     let mut result = [0u32; AREA_WORDS];
-    forget_errors();
-    resolve_asked(&mut bytes, &mut work, &mut result);
-    tell_lost();
+    let mut out = rt.stdout();
+    let mut err = rt.stderr();
+    let written = resolve_asked(&rt, &mut bytes, &mut work, &mut result, &mut out, &mut err);
+    tell_lost(written, &mut err);
 }

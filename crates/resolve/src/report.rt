@@ -5,27 +5,35 @@ ghost use Rattle.printing.specs.Areas.{area_words};
 
 use printing::{line, paths};
 use semantics::search::SearchStats;
+use std::io;
+use std::io::Write;
 
-pub(crate) fn tell_found(reference: u32, paths: u64, stats: SearchStats, res: &[u32])
+pub(crate) fn tell_found<W: Write>(
+    out: &mut W,
+    reference: u32,
+    paths: u64,
+    stats: SearchStats,
+    res: &[u32],
+) -> io::Result<()>
     requires { length res.now ≡ area_words }
 {
-    line::print_word(b"ref ", reference);
-    line::print_named(b" returned ", paths);
-    line::print_named(b" expanded ", stats.expanded);
-    line::print_named(b" complete ", stats.complete);
-    line::print_named(b" rejected ", stats.rejected);
-    line::print_named(b" cycles ", stats.cycles);
-    line::end_line();
-    paths::print_paths(b"path", res, paths);
+    line::print_word(out, b"ref ", reference)?;
+    line::print_named(out, b" returned ", paths)?;
+    line::print_named(out, b" expanded ", stats.expanded)?;
+    line::print_named(out, b" complete ", stats.complete)?;
+    line::print_named(out, b" rejected ", stats.rejected)?;
+    line::print_named(out, b" cycles ", stats.cycles)?;
+    line::end_line(out)?;
+    paths::print_paths(out, b"path", res, paths)
 }
 
-pub(crate) fn tell_refused(reference: u32, number: u32) {
-    line::print_word(b"ref ", reference);
-    line::print_word(b" refused ", number);
-    line::end_line();
+pub(crate) fn tell_refused<W: Write>(out: &mut W, reference: u32, number: u32) -> io::Result<()> {
+    line::print_word(out, b"ref ", reference)?;
+    line::print_word(out, b" refused ", number)?;
+    line::end_line(out)
 }
 
-pub(crate) fn tell_image_refused(number: u32) {
-    line::print_word(b"refused ", number);
-    line::end_line();
+pub(crate) fn tell_image_refused<W: Write>(out: &mut W, number: u32) -> io::Result<()> {
+    line::print_word(out, b"refused ", number)?;
+    line::end_line(out)
 }

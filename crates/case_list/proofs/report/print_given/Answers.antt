@@ -1,0 +1,10 @@
+use Rattle.std.proofs.Common.{subst}
+use Rattle.std.specs.Io.KnownBytes.{Appends}
+use Rattle.std.proofs.KnownBytes.{Appends-trans}
+use Rattle.case_list.proofs.Lines.{given_more}
+use Rattle.case_list.proofs.report.print_given.Goals as goal
+
+pub loop-i-preserved : goal.loop-i-preserved
+loop-i-preserved g c =
+    subst (Appends _ _) (given_more c.args.given.now c.loop-i.i _ c.word.ensures)
+    (Appends-trans _ _ _ _ _ c.loop-i.invariant c.in_ok-print_one.ensures)

@@ -1,0 +1,7 @@
+use Rattle.std.specs.Io.KnownBytes.{Appends}
+use Rattle.case_list.specs.Lines.{given_words}
+use Rattle.case_list.proofs.report.print_given.Given as goal
+
+-- what stands before this place was printed
+abbrev pub invariant-loop-i : goal.invariant-loop-i
+invariant-loop-i g l = Appends (g.W.Write.contents l.fn.out) (g.W.Write.contents l.out) (given_words l.given l.i)
