@@ -2,6 +2,8 @@
 // For Rattle: the calls by name, with the contracts that they have where they stand, and the types that they speak of.
 // On numbers and slices: `costs`, `directory`, `filing`, `naming`, `reading`, `records`, `searching`, `tallying` and `versions` have the same calls, each of which writes its answer as the numbers
 // of semantics/specs/Told.antt into an area that the caller lends. The crate pozhdaghi_c exports them for Rust and C.
+#![tactic(auto)]
+
 mod asked;
 pub mod costs;
 pub mod directory;

@@ -1,0 +1,12 @@
+-- the answer is what the call tells
+use Prim.Native.Nat.{ℕ}
+use mathlib.Core.Path.{ap, ◌∙◌}
+use mathlib.Core.List.{List}
+use lib.ListN.{length}
+use Rattle.semantics.specs.Written.{written}
+use Rattle.pozhdaghi.proofs.filing.pozhdaghi_lookup.Goals as goal
+
+pub returns : goal.returns
+returns c =
+    let a = c.args in
+    c.write.ensures ∙ ap (λ (l : List ℕ). written (length a.answer.now) l) c.part_of.ensures

@@ -1,0 +1,15 @@
+-- each case by the equation of the value that was matched
+use Prim.Native.Nat.{ℕ}
+use mathlib.Core.List.{[], ◌∷◌}
+use mathlib.Core.Path.{sym, ap, ◌∙◌}
+use Rattle.semantics.specs.Told.{told_judgement}
+use Rattle.pozhdaghi.proofs.numbers.of_judgement.Goals as goal
+
+pub returns-in-Done : goal.returns-in-Done
+returns-in-Done c = c.pair.ensures ∙ ap (λ (k : ℕ). 0 ∷ k ∷ []) c.flag.ensures ∙ sym (ap told_judgement c.in-Done.is)
+
+pub returns-in-Image : goal.returns-in-Image
+returns-in-Image c = c.of_told.ensures ∙ c.image.ensures ∙ sym (ap told_judgement c.in-Image.is)
+
+pub returns-in-Refused : goal.returns-in-Refused
+returns-in-Refused c = c.of_told-in-Refused.ensures ∙ c.replay.ensures ∙ sym (ap told_judgement c.in-Refused.is)

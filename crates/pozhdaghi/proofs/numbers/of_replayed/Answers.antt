@@ -1,0 +1,13 @@
+-- each case by the equation of the value that was matched
+use mathlib.Core.Path.{sym, ap, ◌∙◌}
+use Rattle.semantics.specs.Told.{told_replayed}
+use Rattle.pozhdaghi.proofs.numbers.of_replayed.Goals as goal
+
+pub returns-in-Done : goal.returns-in-Done
+returns-in-Done c = c.bare.ensures ∙ sym (ap told_replayed c.in-Done.is)
+
+pub returns-in-Image : goal.returns-in-Image
+returns-in-Image c = c.of_told.ensures ∙ c.image.ensures ∙ sym (ap told_replayed c.in-Image.is)
+
+pub returns-in-Refused : goal.returns-in-Refused
+returns-in-Refused c = c.of_told-in-Refused.ensures ∙ c.replay.ensures ∙ sym (ap told_replayed c.in-Refused.is)

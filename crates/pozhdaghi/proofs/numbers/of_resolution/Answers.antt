@@ -1,0 +1,16 @@
+-- each case by the equation of the value that was matched
+use mathlib.Core.Path.{sym, ap, ◌∙◌}
+use Rattle.semantics.specs.Told.{told_resolution}
+use Rattle.pozhdaghi.proofs.numbers.of_resolution.Goals as goal
+
+pub returns-in-Done : goal.returns-in-Done
+returns-in-Done c = c.found.ensures ∙ sym (ap told_resolution c.in-Done.is)
+
+pub returns-in-Image : goal.returns-in-Image
+returns-in-Image c = c.of_told.ensures ∙ c.image.ensures ∙ sym (ap told_resolution c.in-Image.is)
+
+pub returns-in-Database : goal.returns-in-Database
+returns-in-Database c = c.of_told-in-Database.ensures ∙ c.database.ensures ∙ sym (ap told_resolution c.in-Database.is)
+
+pub returns-in-Refused : goal.returns-in-Refused
+returns-in-Refused c = c.of_told-in-Refused.ensures ∙ c.search.ensures ∙ sym (ap told_resolution c.in-Refused.is)

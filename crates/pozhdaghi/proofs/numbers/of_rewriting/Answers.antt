@@ -1,0 +1,16 @@
+-- each case by the equation of the value that was matched
+use mathlib.Core.Path.{sym, ap, ◌∙◌}
+use Rattle.semantics.specs.Told.{told_rewriting}
+use Rattle.pozhdaghi.proofs.numbers.of_rewriting.Goals as goal
+
+pub returns-in-Done : goal.returns-in-Done
+returns-in-Done c = c.pair.ensures ∙ sym (ap told_rewriting c.in-Done.is)
+
+pub returns-in-Image : goal.returns-in-Image
+returns-in-Image c = c.of_told.ensures ∙ c.image.ensures ∙ sym (ap told_rewriting c.in-Image.is)
+
+pub returns-in-WideSymbol : goal.returns-in-WideSymbol
+returns-in-WideSymbol c = c.of_told-in-WideSymbol.ensures ∙ c.wide_symbol.ensures ∙ sym (ap told_rewriting c.in-WideSymbol.is)
+
+pub returns-in-NoRoom : goal.returns-in-NoRoom
+returns-in-NoRoom c = c.of_told-in-NoRoom.ensures ∙ c.no_room.ensures ∙ sym (ap told_rewriting c.in-NoRoom.is)

@@ -1,0 +1,13 @@
+-- the answer is what the call tells
+use Prim.Native.Nat.{ℕ}
+use mathlib.Core.Path.{ap, ◌∙◌}
+use mathlib.Core.List.{List}
+use lib.ListN.{length}
+use Rattle.semantics.specs.Told.{told_edge_reading}
+use Rattle.semantics.specs.Written.{written}
+use Rattle.pozhdaghi.proofs.records.pozhdaghi_edge.Goals as goal
+
+pub returns : goal.returns
+returns c =
+    let a = c.args in
+    c.write.ensures ∙ ap (λ (l : List ℕ). written (length a.answer.now) l) (c.of_edge_reading.ensures ∙ ap told_edge_reading c.edge-read.ensures)

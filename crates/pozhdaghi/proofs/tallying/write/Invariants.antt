@@ -1,0 +1,10 @@
+-- `pozhdaghi::tallying::write`: the numbers before i are written, the others as they were.
+use Prim.Native.Nat.{◌≤◌}
+use mathlib.Core.Path.{◌≡◌}
+use mathlib.Core.List.{◌∷◌, ◌++◌}
+use lib.ListN.{length, take, drop}
+use Rattle.semantics.specs.Written.{written}
+use Rattle.pozhdaghi.proofs.tallying.write.Given as goal
+
+abbrev pub invariant-loop-i : goal.invariant-loop-i
+invariant-loop-i l = (l.i ≤ length l.initial.answer) × (l.i-end ≡ length l.initial.answer) × (length l.answer ≡ length l.initial.answer) × (l.answer ≡ take l.i (written (length l.initial.answer) (0 ∷ l.counts)) ++ drop l.i l.initial.answer)
