@@ -24,7 +24,7 @@ use Rattle.semantics.specs.declared.refusal.ImageRefusal.{ImageRefusal}
 use Rattle.semantics.specs.Image.{symbol_bytes}
 use Rattle.semantics.proofs.Theorems.Image.Laws.{image-accepted}
 use Rattle.semantics.specs.Acceptance.{accepts}
-use Rattle.semantics.specs.Acceptance.Laws.{few-files}
+use Rattle.semantics.proofs.Theorems.Acceptance.Laws.{few-files}
 use Rattle.semantics.specs.Demand.{file_owners, all_owners, NoAliases, Holds}
 use Rattle.semantics.specs.Database.{slots_in, known_owners}
 use Rattle.semantics.specs.Database.Checked.{Checked}

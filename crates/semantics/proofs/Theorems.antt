@@ -16,3 +16,6 @@ pub mod Reading
 pub mod Rewriting
 pub mod Demand
 pub mod Cases
+pub mod Limits
+pub mod PartialPaths
+pub mod Acceptance

@@ -8,7 +8,6 @@ use Rattle.semantics.specs.declared.graph.Edge.{Edge}
 use Rattle.semantics.specs.declared.graph.Edge.TheVariants as E
 use Rattle.semantics.specs.Lists.{and}
 use Rattle.semantics.specs.Graph.{Graph, View, view_of, traits, file_of, is_file, is_exported}
-pub mod Laws
 
 -- the test passes at each entry and its place, counted from i
 abbrev pub every_from {ℓ} : {A : Type ℓ} → (ℕ → A → Bool) → ℕ → List A → Bool

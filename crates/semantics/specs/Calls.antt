@@ -39,7 +39,6 @@ use Rattle.semantics.specs.Words.{zeros, whole_slots, area}
 use Rattle.semantics.specs.Database.{check_database, fresh_words, has_room, replace_words}
 pub mod Filing
 pub mod Whole
-pub mod Refused
 
 -- THE CHECK OF AN IMAGE
 unfoldable pub check_call : Answer ImageRefusal Graph → Checked

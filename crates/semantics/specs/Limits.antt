@@ -3,7 +3,6 @@
 use Rattle.std.specs.Prelude.{ℕ, suc, ◌+◌, ◌*◌, Bool, true, leb, ltb}
 use Rattle.semantics.specs.declared.search.Limit.{Limit}
 use Rattle.semantics.specs.declared.search.Limit.TheVariants.{Absent, AtMost}
-pub mod Laws
 
 -- a length is refused only above its limit
 abbrev pub within : ℕ → Limit → Bool

@@ -15,7 +15,6 @@ use Rattle.semantics.specs.Limits.{Bounds, within, nobody}
 use Rattle.semantics.specs.Answer.{Answer, refuse}
 use Rattle.semantics.specs.Graph.{file_id, Graph, View, view_of, file_of, is_file, lacks_file, is_start, is_endpoint}
 use Rattle.semantics.specs.Enumeration.{Try, go, tested, Setting, slots, unlimited, State, enumerate}
-pub mod Laws
 
 -- a partial path on the way: stacks are not examined
 pub record Route : Type 0 where

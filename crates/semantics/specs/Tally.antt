@@ -19,7 +19,6 @@ use Rattle.semantics.specs.Recorded.{edge_lists}
 use Rattle.semantics.specs.Direct.{direct}
 use Rattle.semantics.specs.Words.{zeros, whole_slots}
 pub mod Laws
-pub mod Refused
 
 -- no limit at all
 abbrev pub no_limits : SearchLimits

@@ -14,7 +14,7 @@ use Rattle.semantics.specs.declared.refusal.ImageRefusal.{ImageRefusal}
 use Rattle.semantics.specs.declared.answer.Resolution.{Resolution}
 use Rattle.semantics.specs.declared.answer.Resolution.TheVariants as Resolution
 use Rattle.semantics.specs.Limits.{base, max_expansions}
-use Rattle.semantics.specs.Limits.Laws.{within-zero}
+use Rattle.semantics.proofs.Theorems.Limits.Laws.{within-zero}
 use Rattle.semantics.specs.Answer.{Answer, ok, refuse}
 use Rattle.semantics.specs.Graph.{Graph, view_of}
 use Rattle.semantics.specs.Graph.Laws.{view_of-lawful}

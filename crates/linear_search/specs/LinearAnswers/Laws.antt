@@ -21,7 +21,7 @@ use Rattle.semantics.specs.declared.refusal.ImageRefusal.{ImageRefusal}
 use Rattle.semantics.specs.declared.answer.LinearResolution.{LinearResolution}
 use Rattle.semantics.specs.declared.answer.LinearResolution.TheVariants as LinearResolution
 use Rattle.semantics.specs.Limits.{Bounds, base, slot_length, steps_length, max_expansions}
-use Rattle.semantics.specs.Limits.Laws.{within-zero}
+use Rattle.semantics.proofs.Theorems.Limits.Laws.{within-zero}
 use Rattle.semantics.specs.Answer.{Answer, ok, refuse, wrap}
 use Rattle.semantics.specs.Answer.Laws.{and_then-ok, wrap-ok}
 use Rattle.semantics.specs.Graph.{node_id, Graph, View, view_of}

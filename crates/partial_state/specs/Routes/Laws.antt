@@ -16,7 +16,7 @@ use Rattle.semantics.specs.Graph.{node_id, View}
 use Rattle.semantics.specs.Words.{zeros, encode}
 use Rattle.semantics.specs.Words.Laws.{length-encode}
 use Rattle.semantics.specs.PartialPaths.{Route, owned_by, target_of, longer}
-use Rattle.semantics.specs.PartialPaths.Laws.{walk-snoc, walk-nil, walk-cons}
+use Rattle.semantics.proofs.Theorems.PartialPaths.Laws.{walk-snoc, walk-nil, walk-cons}
 use Rattle.semantics.specs.Demand.{Walk}
 use Rattle.words.specs.Slots.{padded}
 use Rattle.words.specs.Slots.Wider.{padded-is}

@@ -16,7 +16,7 @@ use Rattle.semantics.specs.Answer.{Answer, ok, refuse}
 use Rattle.semantics.specs.Answer.Laws.{ok-inj, and_then-ok}
 use Rattle.semantics.specs.Graph.{Graph, View, view_of, is_reference}
 use Rattle.semantics.specs.Acceptance.{accepts}
-use Rattle.semantics.specs.Acceptance.Laws.{jump-only, jump-there}
+use Rattle.semantics.proofs.Theorems.Acceptance.Laws.{jump-only, jump-there}
 use Rattle.semantics.specs.Hidden.{seen}
 use Rattle.semantics.proofs.Theorems.Hidden.Laws.{seen-accepted}
 use Rattle.semantics.specs.Image.{check_image}

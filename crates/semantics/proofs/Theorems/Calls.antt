@@ -4,3 +4,4 @@ pub mod Waiting
 pub mod Filing
 pub mod Whole
 pub mod Compacted
+pub mod Refused

@@ -2,7 +2,7 @@
 use mathlib.Core.Path.{ap, subst, ◌∙◌}
 use Prim.Native.Nat.{ℕ}
 use native.Mathlib.Omega.{arith}
-use Rattle.semantics.specs.Acceptance.Laws.{few-files}
+use Rattle.semantics.proofs.Theorems.Acceptance.Laws.{few-files}
 use Rattle.semantics.specs.Entries.{graph_in}
 use Rattle.semantics.specs.Image.{symbol_bytes}
 use Rattle.semantics.proofs.Theorems.Image.Laws as Image

@@ -26,7 +26,7 @@ use Rattle.semantics.specs.Answer.{Answer, ok, refuse, and_then, ok_if}
 use Rattle.semantics.specs.Graph.{Graph, view_of}
 use Rattle.semantics.specs.Enumeration.{State}
 use Rattle.semantics.specs.PartialPaths.{Route, Slot, file_partials, alias_routes}
-use Rattle.semantics.specs.PartialPaths.Laws.{same-holds}
+use Rattle.semantics.proofs.Theorems.PartialPaths.Laws.{same-holds}
 use Rattle.semantics.specs.Hidden.{sees, seen, seen_slots}
 use Rattle.semantics.proofs.Theorems.Hidden.Laws.{seen-live}
 use Rattle.semantics.specs.Stitching.{stitched}

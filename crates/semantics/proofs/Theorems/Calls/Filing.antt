@@ -21,7 +21,7 @@ use Rattle.semantics.specs.Answer.{Answer, ok, refuse}
 use Rattle.semantics.specs.Graph.{Graph, view_of}
 use Rattle.semantics.specs.Enumeration.{State}
 use Rattle.semantics.specs.PartialPaths.{Route, Slot, slot, file_partials, alias_routes, replaced}
-use Rattle.semantics.specs.PartialPaths.Laws.{file-partials, same_none}
+use Rattle.semantics.proofs.Theorems.PartialPaths.Laws.{file-partials, same_none}
 use Rattle.semantics.specs.Demand.{file_owners, all_owners, OwnersIn, NoAliases, Computed, of-file, of-aliases, Built, given, after, closed, Holds}
 use Rattle.semantics.proofs.Theorems.Demand.Aliases.{computed-sound}
 use Rattle.semantics.proofs.Theorems.Demand.Filled.{built-visible, built-visible-all, kept-aliases, built-holds, built-holds-all}

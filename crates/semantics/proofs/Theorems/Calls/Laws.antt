@@ -39,7 +39,7 @@ use Rattle.semantics.specs.Database.Laws.{checked}
 use Rattle.semantics.specs.Calls.{Request, Outcome, setting_of, search_outcome, direct_call, stitched_outcome, stitched_call}
 use Rattle.semantics.proofs.Theorems.Demand.Laws.{demand-slots}
 use Rattle.semantics.proofs.Theorems.Demand.Aliases.{suited-all, demand-slots-all}
-use Rattle.semantics.specs.Acceptance.Laws.{suited}
+use Rattle.semantics.proofs.Theorems.Acceptance.Laws.{suited}
 
 -- THE SLOTS HOLD THE RECORDED LISTS
 pub valid-fits : (bd : Bounds) (lim : Limit) (g : View) (r : ℕ) (l : List ℕ) → Valid bd lim g r l → Fits bd.edges l

@@ -31,13 +31,13 @@ use Rattle.semantics.specs.Recorded.{edge_lists, recorded}
 use Rattle.semantics.specs.Direct.{direct}
 use Rattle.semantics.proofs.Theorems.Direct.Laws.{direct-exact}
 use Rattle.semantics.specs.PartialPaths.{Route, Slot, belongs, is_fileless, owned_by, route_tries, route_at, starts_from, start_routes, partials, file_routes, alias_routes}
-use Rattle.semantics.specs.PartialPaths.Laws.{belongs-source, belongs-target, walk-nil, walk-cons, StartsAt, Found, partials-found, starts-are, file-found, file-unlimited}
+use Rattle.semantics.proofs.Theorems.PartialPaths.Laws.{belongs-source, belongs-target, walk-nil, walk-cons, StartsAt, Found, partials-found, starts-are, file-found, file-unlimited}
 use Rattle.semantics.specs.Stitching.{stitched}
 use Rattle.semantics.proofs.Theorems.Stitching.Laws.{AllOwned, stitched-exact}
 use Rattle.semantics.specs.Demand.{Agree, Valid, file_owners, all_owners, Walk, Partial, Computed, of-file, of-aliases, Owned, Suited, Holds, DemandAll}
 use Rattle.semantics.proofs.Theorems.Demand.Laws.{AllLive, valid-live, agreement}
 use Rattle.semantics.specs.Acceptance.{is_live, accepts}
-use Rattle.semantics.specs.Acceptance.Laws.{suited, few-files, fileless-first, edge-live}
+use Rattle.semantics.proofs.Theorems.Acceptance.Laws.{suited, few-files, fileless-first, edge-live}
 
 lacks-none : (o : Option ℕ) (f : ℕ) → lacks_file o ≡ true → o ≡ some f → ⊥
 unfolding lacks_file

@@ -14,7 +14,7 @@ use Rattle.semantics.specs.Limits.{Bounds, nobody}
 use Rattle.semantics.specs.Graph.{Graph, view_of}
 use Rattle.semantics.specs.Enumeration.{State}
 use Rattle.semantics.specs.PartialPaths.{Route, Slot, slot, clear, slot_of, replaced}
-use Rattle.semantics.specs.PartialPaths.Laws.{clear-from, clear-keeps, same_mem, same_back}
+use Rattle.semantics.proofs.Theorems.PartialPaths.Laws.{clear-from, clear-keeps, same_mem, same_back}
 use Rattle.semantics.specs.Demand.{file_owners, all_owners, Partial, Built, given, after, closed, NoAliases, Holds}
 use Rattle.semantics.proofs.Theorems.Demand.Aliases.{file-to-all, all-to-file, computed-known, computed-sound, computed-whole}
 use Rattle.semantics.specs.Acceptance.{accepts}

@@ -23,7 +23,7 @@ use Rattle.semantics.specs.Recorded.{edge_lists, recorded}
 use Rattle.semantics.specs.Direct.{direct}
 use Rattle.semantics.proofs.Theorems.Direct.Laws.{direct-exact}
 use Rattle.semantics.specs.PartialPaths.{Slot, belongs, is_of_file, is_fileless}
-use Rattle.semantics.specs.PartialPaths.Laws.{belongs-cases, belongs-source, belongs-target}
+use Rattle.semantics.proofs.Theorems.PartialPaths.Laws.{belongs-cases, belongs-source, belongs-target}
 use Rattle.semantics.specs.Stitching.{stitched}
 use Rattle.semantics.proofs.Theorems.Stitching.Laws.{AllOwned, stitched-exact}
 use Rattle.semantics.specs.Demand.{Agree, NoFileless, Valid, Owners, file_owners, Owned, Suited, Holds, Demand}

@@ -15,7 +15,7 @@ use Rattle.semantics.specs.declared.refusal.SearchRefusal.TheVariants as Search
 use Rattle.semantics.specs.Lists.{has, Distinct}
 use Rattle.semantics.specs.Lists.Laws.{distinct_snoc, distinct-split, map-mem, mem-map, length-snoc}
 use Rattle.semantics.specs.Limits.{Bounds, within}
-use Rattle.semantics.specs.Limits.Laws.{within-le, within-zero}
+use Rattle.semantics.proofs.Theorems.Limits.Laws.{within-le, within-zero}
 use Rattle.semantics.specs.Answer.{Answer, ok, refuse, wrap}
 use Rattle.semantics.specs.Answer.Laws.{ok-inj, and_then-ok, wrap-ok}
 use Rattle.semantics.specs.Graph.{View, Lawful}

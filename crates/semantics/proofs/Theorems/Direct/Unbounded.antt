@@ -14,7 +14,7 @@ use Rattle.semantics.specs.declared.refusal.SearchRefusal.TheVariants as Search
 use Rattle.semantics.specs.Lists.{has, Distinct}
 use Rattle.semantics.specs.Lists.Laws.{distinct-split, map-mem}
 use Rattle.semantics.specs.Limits.{Bounds, within}
-use Rattle.semantics.specs.Limits.Laws.{within-le}
+use Rattle.semantics.proofs.Theorems.Limits.Laws.{within-le}
 use Rattle.semantics.specs.Answer.{Answer, ok, and_then}
 use Rattle.semantics.specs.Answer.Laws.{ok-inj, and_then-ok}
 use Rattle.semantics.specs.Graph.{View, Lawful}

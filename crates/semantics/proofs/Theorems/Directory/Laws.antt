@@ -24,7 +24,7 @@ use Rattle.semantics.specs.Direct.{direct}
 use Rattle.semantics.specs.Isin.{is_isin}
 use Rattle.semantics.specs.Recorded.{returned}
 use Rattle.semantics.specs.Calls.{setting_of, search_outcome}
-use Rattle.semantics.specs.Calls.Refused.{Zeroed}
+use Rattle.semantics.proofs.Theorems.Calls.Refused.{Zeroed}
 use Rattle.semantics.specs.Directory.{key_at, isin_at, tranche_at, leg_at, reference_at, rises_at, ascends, is_directory, FlowKey, is_at, found_in, looked_up, with_end, definitions_of, FlowRequest, request_from, flow_outcome, resolved, if_found, if_directory, if_isin, flow_call}
 
 -- ---- AT MOST ONE ROW HAS A KEY

@@ -22,7 +22,7 @@ use Rattle.semantics.specs.declared.refusal.SearchRefusal.TheVariants as Search
 use Rattle.semantics.specs.Lists.{cons_if, pick, or, same}
 use Rattle.semantics.specs.Lists.Laws.{eqb-true, eqb_same, same-eq, cons_if-tail, cons_if-cases}
 use Rattle.semantics.specs.Limits.{Bounds, slot_words}
-use Rattle.semantics.specs.Limits.Laws.{within-zero}
+use Rattle.semantics.proofs.Theorems.Limits.Laws.{within-zero}
 use Rattle.semantics.specs.Answer.{Answer, ok, refuse, and_then}
 use Rattle.semantics.specs.Answer.Laws.{ok-inj, ok-refuse, and_then-ok}
 use Rattle.semantics.specs.Graph.{node_id, Graph, View, view_of, traits, is_reference, is_definition, is_exported, Ascending, Lawful}
@@ -42,7 +42,7 @@ use Rattle.semantics.specs.declared.answer.Finding.TheVariants as Finding
 use Rattle.semantics.specs.Told.{told_finding}
 use Rattle.semantics.specs.Words.{whole_slots, area}
 use Rattle.semantics.specs.Calls.{Outcome}
-use Rattle.semantics.specs.Calls.Refused.{Zeroed}
+use Rattle.semantics.proofs.Theorems.Calls.Refused.{Zeroed}
 use Rattle.semantics.specs.Finding.{Name, first_to, references_from, named, find_in, only_length, search_to, name_to, FindRequest, found_as, if_definition, unless_removed, find_call}
 
 -- ---- WHERE A COMPLETE PATH ENDS

@@ -13,7 +13,7 @@ use Rattle.semantics.specs.Lists.{and}
 use Rattle.semantics.specs.Lists.Laws.{and-true, or-true, eq→T}
 use Rattle.semantics.specs.Graph.{Graph, view_of, file_of}
 use Rattle.semantics.specs.Acceptance.{every_from, file_fits, place_fits, edge_fits, node_fits, count_fits, accepts}
-use Rattle.semantics.specs.Acceptance.Laws.{suited}
+use Rattle.semantics.proofs.Theorems.Acceptance.Laws.{suited}
 use Rattle.semantics.specs.declared.refusal.ImageRefusal.{ImageRefusal}
 use Rattle.semantics.specs.Answer.{Answer, ok, refuse}
 use Rattle.semantics.specs.Limits.{nobody}

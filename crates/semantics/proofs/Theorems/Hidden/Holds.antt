@@ -17,11 +17,11 @@ use Rattle.semantics.specs.Lists.Laws.{and-true, or-true, mem-map, map-mem}
 use Rattle.semantics.specs.Limits.{Bounds, nobody}
 use Rattle.semantics.specs.Graph.{node_id, Graph, View, view_of, file_of, lacks_file, is_start, is_endpoint}
 use Rattle.semantics.specs.PartialPaths.{Slot, dead, slot, Route, belongs, is_fileless, owned_by}
-use Rattle.semantics.specs.PartialPaths.Laws.{belongs-cases, belongs-source, belongs-target}
+use Rattle.semantics.proofs.Theorems.PartialPaths.Laws.{belongs-cases, belongs-source, belongs-target}
 use Rattle.semantics.specs.Demand.{Owners, file_owners, all_owners, Walk, stay, step, Partial, Holds}
 use Rattle.semantics.proofs.Theorems.Demand.Aliases.{not-file, not-nobody, owned-file}
 use Rattle.semantics.specs.Acceptance.{accepts}
-use Rattle.semantics.specs.Acceptance.Laws.{suited}
+use Rattle.semantics.proofs.Theorems.Acceptance.Laws.{suited}
 use Rattle.semantics.specs.Hidden.{sees_file, node_if, edge_if, seen_node, seen_edge, seen, sees_owner, slot_if, seen_slot, seen_slots}
 use Rattle.semantics.proofs.Theorems.Hidden.Laws.{seen-node, seen-edge, seen_test, seen-accepted}
 

@@ -24,13 +24,13 @@ use Rattle.semantics.specs.Path.{Stacks, Path, along, no_stacks, push_attached, 
 use Rattle.semantics.proofs.Theorems.Path.Laws.{append-ok, append_under-ok, append_under-is, begun, replay-ok, replay-of, complete-is, is-complete}
 use Rattle.semantics.proofs.Theorems.Path.Scopes.{Scoped, Exported, exporting, append-scoped, begun-scoped}
 use Rattle.semantics.specs.PartialPaths.{belongs, is_fileless}
-use Rattle.semantics.specs.PartialPaths.Laws.{belongs-cases, belongs-source, belongs-target}
+use Rattle.semantics.proofs.Theorems.PartialPaths.Laws.{belongs-cases, belongs-source, belongs-target}
 use Rattle.semantics.specs.Demand.{Valid, NoFileless, Demand}
 use Rattle.semantics.proofs.Theorems.Demand.Laws.{AllLive, valid-live}
 use Rattle.semantics.proofs.Theorems.Demand.Rules.{all_start}
 use Rattle.semantics.proofs.Theorems.Finding.Laws.{last_of, complete-ends}
 use Rattle.semantics.specs.Acceptance.{accepts}
-use Rattle.semantics.specs.Acceptance.Laws.{scope-exported}
+use Rattle.semantics.proofs.Theorems.Acceptance.Laws.{scope-exported}
 use Rattle.semantics.proofs.Theorems.Image.Laws.{image-accepted}
 use Rattle.semantics.specs.Calls.{Request}
 use Rattle.semantics.specs.Calls.Whole.{recorded_set, direct_recorded, stitched_recorded, Premises, AliasPremises}

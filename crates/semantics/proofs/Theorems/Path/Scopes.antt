@@ -19,7 +19,7 @@ use Rattle.semantics.specs.Answer.{Answer, ok, refuse, wrap}
 use Rattle.semantics.specs.Answer.Laws.{ok-inj, refuse-ok, refuse-inj, ok-refuse, and_then-ok, and_then-refuse, wrap-ok}
 use Rattle.semantics.specs.Graph.{node_id, Graph, View, view_of, traits, is_reference, is_exported}
 use Rattle.semantics.specs.Acceptance.{accepts}
-use Rattle.semantics.specs.Acceptance.Laws.{scope-exported}
+use Rattle.semantics.proofs.Theorems.Acceptance.Laws.{scope-exported}
 use Rattle.semantics.specs.Path.{Symbol, Stacks, no_stacks, Path, apply, from_reference, start_unless, start_reference, append, append_if, append_under, append_all, replay}
 use Rattle.semantics.proofs.Theorems.Path.Laws.{append-ok, append_under-ok, append_all-edges, append_all-bound, begun, replay-ok}
 use Rattle.semantics.proofs.Theorems.Path.Rules.{apply-applies, apply-fails, append-steps, append-stops}

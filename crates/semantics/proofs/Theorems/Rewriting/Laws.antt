@@ -32,7 +32,7 @@ use Rattle.semantics.specs.Enumeration.{State}
 use Rattle.semantics.specs.Hidden.{seen_image}
 use Rattle.semantics.specs.Calls.{Request, LinearRequest, FileRequest, check_call, replay_call, complete_call, shadows_call, direct_call, linear_call, stitched_call, fresh_call, replace_call, alias_call}
 use Rattle.semantics.specs.Finding.{FindRequest, find_call}
-use Rattle.semantics.specs.Calls.Refused.{IsRefused}
+use Rattle.semantics.proofs.Theorems.Calls.Refused.{IsRefused}
 use Rattle.semantics.specs.Rewriting.{Rewritten, refused_bytes, first_wide, written, written_unless, rewrite_call, rewrite_as, widen, narrow}
 
 -- ANSWERS THAT DIFFER

@@ -22,7 +22,7 @@ use Rattle.semantics.specs.declared.refusal.SearchRefusal.TheVariants as Search
 use Rattle.semantics.specs.Lists.{cons_if, shares, Distinct}
 use Rattle.semantics.specs.Lists.Laws.{T→eq, eqb-true, eqb_same, and-true, distinct-left, distinct-right, distinct-join, shares-none, cons_if-tail, cons_if-cases, length-snoc}
 use Rattle.semantics.specs.Limits.{Bounds, within}
-use Rattle.semantics.specs.Limits.Laws.{within-le, within-zero}
+use Rattle.semantics.proofs.Theorems.Limits.Laws.{within-le, within-zero}
 use Rattle.semantics.specs.Answer.{Answer, ok, refuse, and_then, wrap}
 use Rattle.semantics.specs.Answer.Laws.{ok-inj, and_then-ok, wrap-ok}
 use Rattle.semantics.specs.Graph.{node_id, View, file_of, is_reference, is_definition, is_start, is_endpoint}
@@ -34,7 +34,7 @@ use Rattle.semantics.specs.Enumeration.Laws.{Leads, here, on, enumerate-full, en
 use Rattle.semantics.specs.Recorded.{edge_lists, distinct, recorded}
 use Rattle.semantics.specs.Recorded.Laws.{Deduped, distinct-is, mem-lists}
 use Rattle.semantics.specs.PartialPaths.{Slot, dead, slot, only_live, SameLive}
-use Rattle.semantics.specs.PartialPaths.Laws.{walk-snoc, walk-cons}
+use Rattle.semantics.proofs.Theorems.PartialPaths.Laws.{walk-snoc, walk-cons}
 use Rattle.semantics.specs.Stitching.{ended, extended, joined, judge_slot, slot_tries, stitched}
 use Rattle.semantics.specs.Demand.{Owners, Owned, Suited, Once, Taken, Valid, Walk, stay, step, Partial, Holds}
 

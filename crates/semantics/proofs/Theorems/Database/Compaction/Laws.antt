@@ -18,7 +18,7 @@ use Rattle.semantics.specs.Lists.Laws.{and-true, eq→T, T→eq}
 use Rattle.semantics.specs.Limits.{Bounds, record_words}
 use Rattle.semantics.specs.Graph.{Graph}
 use Rattle.semantics.specs.PartialPaths.{Slot, dead, only_live, SameLive}
-use Rattle.semantics.specs.PartialPaths.Laws.{live-again}
+use Rattle.semantics.proofs.Theorems.PartialPaths.Laws.{live-again}
 use Rattle.semantics.specs.Words.{zeros, slots_of}
 use Rattle.semantics.specs.Words.Laws.{length-slots}
 use Rattle.semantics.specs.Database.{used_in, nodes_in, files_in, capacity, decode, records, slots_in, sound, every, well_formed, edges_part, record_place, lookup_part, words_of}

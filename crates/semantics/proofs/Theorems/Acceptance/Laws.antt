@@ -19,7 +19,7 @@ use Rattle.semantics.specs.Lists.{and}
 use Rattle.semantics.specs.Lists.Laws.{eq→T, eqb-true, eqb_same, and-true}
 use Rattle.semantics.specs.Graph.{Graph, View, view_of, traits, file_of, lacks_file, is_exported}
 use Rattle.semantics.specs.Graph.Laws.{fileless-shared}
-use Rattle.semantics.specs.PartialPaths.Laws.{belongs-cases, belongs-source}
+use Rattle.semantics.proofs.Theorems.PartialPaths.Laws.{belongs-cases, belongs-source}
 use Rattle.semantics.specs.Demand.{file_owners, Suited}
 use Rattle.semantics.specs.Acceptance.{every_from, is_live, file_fits, place_fits, exported_in, one_file, edge_fits, node_fits, count_fits, accepts}
 

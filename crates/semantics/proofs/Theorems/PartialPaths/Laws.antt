@@ -23,7 +23,7 @@ use Rattle.semantics.specs.declared.refusal.PartialPathRefusal.TheVariants.{Unkn
 use Rattle.semantics.specs.Lists.{has, or, and, select, Distinct}
 use Rattle.semantics.specs.Lists.Laws.{T→eq, eq→T, eqb-true, eqb_same, or-true, and-true, distinct_snoc, distinct-split, map-mem, mem-map, cons_if-tail, cons_if-cases, select_in, in-select, length-snoc}
 use Rattle.semantics.specs.Limits.{Bounds, within, nobody}
-use Rattle.semantics.specs.Limits.Laws.{within-le, within-zero}
+use Rattle.semantics.proofs.Theorems.Limits.Laws.{within-le, within-zero}
 use Rattle.semantics.specs.Answer.{ok}
 use Rattle.semantics.specs.Answer.Laws.{refuse-ok}
 use Rattle.semantics.specs.Graph.{node_id, file_id, Graph, View, view_of, file_of, is_file, is_start, is_endpoint, Lawful}
