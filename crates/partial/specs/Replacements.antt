@@ -8,13 +8,11 @@ use Rattle.semantics.specs.Limits.{base, nobody}
 use Rattle.semantics.specs.Answer.{Answer, ok}
 use Rattle.semantics.specs.Graph.{Graph, view_of}
 use Rattle.semantics.specs.Enumeration.{State}
-use Rattle.semantics.specs.declared.search.PartialPathStats.{PartialPathStats}
-use Rattle.semantics.specs.PartialPaths.{Route, owned_by, partials, file_partials, partial_stats}
+use Rattle.semantics.specs.PartialPaths.{Route, owned_by, partials, file_partials}
 use Rattle.semantics.specs.Database.{used_in, capacity, known_owners, check_database}
 use Rattle.semantics.specs.Calls.{Change, FileRequest, file_setting_of, computation_outcome, replacement_outcome, alias_outcome, replace_call, alias_call}
 use Rattle.semantics.specs.declared.answer.Replacement.{Replacement}
 use Rattle.storage.specs.Index.{Loaded, HoldsNodes, Sized}
-use Rattle.database.specs.Filing.{cleared, headed, used_up_to}
 use Rattle.partial_state.specs.declared.filing.Filing.{Filing}
 use Rattle.partial_state.specs.declared.extraction.Config.{Config}
 use Rattle.partial_state.specs.Filings.{Fits, filed_in}
@@ -46,36 +44,19 @@ pub record Computing (index : List ℕ) (nodes : ℕ) (f : Filing) (db : List �
 abbrev pub ComputedTo : List ℕ → ℕ → Filing → Config → List ℕ → List ℕ → Computed → List ℕ → Type 0
 ComputedTo index nodes f c ws db a db' = (g : Graph) → Loaded g index → nodes ≡ length g.nodes → Ends f db a db' (routes_of g (asked_by c ws f.file))
 
--- A REPLACEMENT, from its end: an owner's records are cleared, and the words in front stored, behind which n routes are filed
-abbrev pub settled : Sizes → ℕ → ℕ → ℕ → List ℕ → List ℕ
-settled n owner first found db = headed (first + found) n.nodes n.files (cleared base owner (used_up_to first db))
+-- what a computation finds that is not refused is filed
+abbrev pub FiledTo : List ℕ → ℕ → Filing → Config → List ℕ → List ℕ → List ℕ → Type 0
+FiledTo index nodes f c ws db db' = (g : Graph) → Loaded g index → nodes ≡ length g.nodes → (u : State Route) → routes_of g (asked_by c ws f.file) ≡ ok u → db' ≡ filed_in f u.kept db
 
--- the words in which a computation may file
-pub record FilingIn (index : List ℕ) (n : Sizes) (f : Filing) (db : List ℕ) : Type 0 where
+-- A REPLACEMENT, from its end: the paths were counted and have room
+pub record Storing (index : List ℕ) (n : Sizes) (f : Filing) (c : Config) (ws db : List ℕ) : Type 0 where
   pub sized : Sized index n.nodes n.files
-  pub long : 3 ≤ length db
-  pub used : used_in db ≤ capacity base db
+  pub found : State Route
+  pub is : routes_of sized.holds.graph (asked_by c ws f.file) ≡ ok found
   pub first : f.first ≡ used_in db
-  pub room : f.first + f.room ≡ capacity base db
-  pub named : f.file + 1 < 2 ^ 32
-
--- the computation has found these routes, and filed what can be taken back; `origin` is the database before it
-pub record Found (index : List ℕ) (n : Sizes) (f : Filing) (c : Config) (stats : PartialPathStats) (ws db : List ℕ) : Type 0 where
-  pub origin : List ℕ
-  pub given : FilingIn index n f origin
-  pub found : State Route
-  pub is : routes_of given.sized.holds.graph (asked_by c ws f.file) ≡ ok found
-  pub told : stats ≡ partial_stats found
-  pub count : stats.found ≡ length found.kept
-  pub filed : db ≡ filed_in f found.kept origin
-
--- and all that was filed is taken back
-pub record Unfiled (index : List ℕ) (n : Sizes) (f : Filing) (c : Config) (stats : PartialPathStats) (ws db : List ℕ) : Type 0 where
-  pub given : FilingIn index n f db
-  pub found : State Route
-  pub is : routes_of given.sized.holds.graph (asked_by c ws f.file) ≡ ok found
-  pub told : stats ≡ partial_stats found
-  pub count : stats.found ≡ length found.kept
+  pub room : f.room ≡ length found.kept
+  pub few : f.first + f.room < 2 ^ 32
+  pub fits : Fits f db
 
 -- an accepted graph has few files, so none of them has nobody's number
 pub record Few (index : List ℕ) (n : Sizes) : Type 0 where

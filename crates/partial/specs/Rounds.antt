@@ -1,8 +1,10 @@
 -- The rounds of a computation, in code against the enumeration.
 -- Document 01, "Partial paths": `StackPartialPathSet::compute`.
-use Rattle.std.specs.Prelude.{ℕ, ◌-◌, ◌*◌, ◌<◌, ◌≤◌, ◌≡◌, ◌⊎◌, List, ◌++◌, length, take, get_or}
+use Rattle.std.specs.Prelude.{ℕ, ◌-◌, ◌*◌, ◌<◌, ◌≤◌, ◌≡◌, ◌⊎◌, Bool, false, List, ◌++◌, leb, ltb, length, take, get_or}
 use Rattle.semantics.specs.Limits.{slot_length, max_expansions}
+use Rattle.semantics.specs.declared.search.PartialPathStats.{PartialPathStats}
 use Rattle.semantics.specs.declared.refusal.PartialPathRefusal.{PartialPathRefusal}
+use Rattle.semantics.specs.Lists.{and}
 use Rattle.semantics.specs.Answer.{Answer, ok, refuse}
 use Rattle.semantics.specs.Words.{zeros}
 use Rattle.semantics.specs.Graph.{Graph, view_of}
@@ -14,12 +16,13 @@ use Rattle.partial_state.specs.declared.filing.Filing.{Filing}
 use Rattle.partial_state.specs.declared.extraction.ExtractionFrame.{ExtractionFrame}
 use Rattle.partial_state.specs.Routes.{held, Waiting}
 use Rattle.partial_state.specs.Filings.{Fits, filed_in}
-use Rattle.partial_state.specs.Reps.{frame_of, setting_of, Rep, PartlyFiled, Tells}
+use Rattle.partial_state.specs.Reps.{frame_of, setting_of, Rep, Untouched, Tells}
 use Rattle.partial.specs.declared.compute.Computed.{Computed}
 use Rattle.partial.specs.declared.compute.Computed.TheVariants.{Done, Refused}
 use Rattle.partial_state.specs.Extractions.{Computation, Course, Grows}
 use Rattle.partial_trial.specs.Expansions.{Roomy, tries_of}
 pub mod Laws
+pub mod Kept
 
 -- ROOM FOR ONE MORE EDGE behind the route in the front of the item: the slots become longer, and the rest of the item zeros
 pub record Grown (x : Computation) (item ws : List ℕ) (y : Computation) (item' ws' : List ℕ) : Type 0 where
@@ -63,12 +66,20 @@ pub record Driving (index : List ℕ) (f : Filing) (item : List ℕ) (x : Comput
   pub looked : model.tally.looked ≤ 4096 * x.budget.expanded
   pub expanded : x.budget.expanded ≤ max_expansions
 
--- it has ended with this state, its counts are told and what can be taken back is filed; or it is refused alike
+-- as many are found as there is room for, and there is room for some
+abbrev pub is_filed : Filing → ℕ → Bool
+is_filed f found = and (ltb 0 f.room) (leb f.room found)
+
+abbrev pub nothing_counted : PartialPathStats
+nothing_counted = record { expanded = 0; found = 0; cycles = 0; length_limited = false; count_limited = false; waited = 0 }
+
+-- it has ended with this state, whose found routes are filed, or is refused alike. Without room for any, the counts are those of the state;
+-- with room it ends as soon as that is taken, whatever would come behind
 abbrev pub Ends : Filing → List ℕ → Computed → List ℕ → Answer PartialPathRefusal (State Route) → Type 0
-Ends f origin (Done stats) db (ok u) = (stats ≡ partial_stats u) × (stats.found ≡ length u.kept) × (db ≡ filed_in f u.kept origin)
-Ends f origin (Done stats) db (refuse y) = ⊥
+Ends f origin (Done stats) db (ok u) = (f.room ≡ 0 → (stats ≡ partial_stats u) × (stats.found ≡ length u.kept)) × (db ≡ filed_in f u.kept origin)
+Ends f origin (Done stats) db (refuse y) = 0 < f.room
 Ends f origin (Refused r) db (ok u) = ⊥
-Ends f origin (Refused r) db (refuse y) = (r ≡ y) × PartlyFiled f origin db
+Ends f origin (Refused r) db (refuse y) = (r ≡ y) × Untouched f origin db
 
 -- the enumeration's run with so many expansions left
 abbrev pub run_from : ExtractionFrame → Graph → ℕ → ℕ → State Route → Answer PartialPathRefusal (State Route)

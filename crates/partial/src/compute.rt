@@ -1,10 +1,10 @@
-// The partial paths of a file on a loaded graph: they are counted, and filed in the database as they are found, while that can be taken back.
+// The partial paths of a file on a loaded graph: they are counted, and filed in the database where a place is given for them.
 // Document 01, "Partial paths": `StackPartialPathSet::compute`.
 ghost use Rattle.std.specs.Prelude.{◌≡◌, ◌+◌, ◌≤◌, ◌<◌, ◌^◌, length, take, get_or};
 ghost use Rattle.semantics.specs.Limits.{slot_length, looked_before};
 ghost use Rattle.path_frontier.specs.Frontier.{Framed, Wider};
 ghost use Rattle.partial_state.specs.Extractions.{at, going_at, taken_at, Taking};
-ghost use Rattle.partial.specs.Rounds.{MadeRoom, Rounding, Rounded, Driving, DrivenTo};
+ghost use Rattle.partial.specs.Rounds.{nothing_counted, is_filed, MadeRoom, Rounding, Rounded, Driving, DrivenTo};
 ghost use Rattle.partial.specs.Replacements.{Computing, ComputedTo};
 
 use partial_state::extraction::{Config, Extracting, Extraction, ExtractionFrame, ExtractionTurn};
@@ -17,11 +17,36 @@ use semantics::refusal::PartialPathRefusal;
 use semantics::search::PartialPathStats;
 use words::slots;
 
-// The computation has ended with these counts, or it is refused.
+// The computation has ended, or it is refused. Without room for any path it ends when no route waits, and the counts are those of the whole. Where
+// there is room for some it ends with the last of them filed, and nothing is counted: the counts would have to be at hand in every round.
 #[derive(Clone, Copy)]
 pub enum Computed {
     Done(PartialPathStats),
     Refused(PartialPathRefusal),
+}
+
+fn uncounted() -> PartialPathStats
+    ensures { result ≡ nothing_counted }
+{
+    PartialPathStats {
+        expanded: 0,
+        found: 0,
+        cycles: 0,
+        length_limited: false,
+        count_limited: false,
+        waited: 0,
+    }
+}
+
+// Are as many paths found as there is room for? What is found behind them would only be counted.
+fn is_filed(filing: Filing, found: u64) -> bool
+    ensures { result ≡ is_filed filing found }
+{
+    let room = filing.room as u64;
+    if 0 < room {
+        return room <= found;
+    }
+    false
 }
 
 // The next route is copied into the front of the item, as many words as a slot has.
@@ -109,7 +134,7 @@ fn round_front(
     )
 }
 
-// Routes are taken and expanded until none waits, or the path count or a refusal ends the computation. Round the loop goes the length of a slot
+// Routes are taken and expanded until none waits, or all are filed, or the path count or a refusal ends the computation. Round the loop goes the length of a slot
 // and not the frame, whose copies the processor would wait for.
 fn drive(
     index: &[u32],
@@ -127,6 +152,9 @@ fn drive(
     let mut on = extraction;
     let mut slot = frame.slot;
     loop {
+        if is_filed(filing, on.found) {
+            return Computed::Done(uncounted());
+        }
         let within = frame.with_slot(slot);
         match take_front(on, work, item, within) {
             ExtractionTurn::Over(last) => return Computed::Done(last.stats(within)),

@@ -1,19 +1,16 @@
 // A file, or the alias set, replaced in the database. Document 01, "Partial paths": `replace_file`; 33 follows a finished computation. Document 02,
 // order 5: the alias set has an owner that is no file, so there is no 21.
-// A refused replacement alters no word, and the words behind the used slots may hold anything. So the paths are filed as they are found while the
-// records behind the used ones are zeros, and what is filed is taken back if the call is then refused. Where a record is not all zeros, the paths are
-// counted first; when all refusals are past, the records are made zeros and the computation takes the same course again.
-ghost use Rattle.std.specs.Prelude.{◌≡◌, ◌+◌, ◌≤◌, ◌<◌, ◌^◌, length};
-ghost use Rattle.semantics.specs.Answer.{ok};
-ghost use Rattle.semantics.specs.Graph.{Graph};
-ghost use Rattle.partial_trial.specs.Own.{Kept};
-ghost use Rattle.semantics.specs.Entries.{graph_in, check_of, replace_file, replace_aliases, Changes, Leaves};
+// A refused replacement alters no word, and the words behind the used slots may hold anything: so the paths are computed and counted
+// first, and computed again and filed when all refusals are past; the second computation ends with the last of them, and where none was
+// found there is none.
+ghost use Rattle.std.specs.Prelude.{◌≡◌, ◌+◌, ◌≤◌, ◌<◌, ◌^◌};
+ghost use Rattle.semantics.specs.Entries.{graph_in, replace_file, replace_aliases, Changes, Leaves};
 ghost use Rattle.semantics.specs.Limits.{base, nobody};
 ghost use Rattle.semantics.specs.Image.{nodes_of, edges_of};
 ghost use Rattle.semantics.specs.Told.{told_replacement};
-ghost use Rattle.semantics.specs.Database.{record_place};
+ghost use Rattle.semantics.specs.Database.{replace_words};
 ghost use Rattle.storage.specs.Index.{FEW, Takes};
-ghost use Rattle.partial.specs.Replacements.{asked_by, number_of, settled, Found, Unfiled, Few, Replacing, computed_on, replaced_on, inspected_on, call_for};
+ghost use Rattle.partial.specs.Replacements.{asked_by, number_of, Computing, FiledTo, Storing, Few, Replacing, computed_on, replaced_on, inspected_on, call_for};
 
 use crate::compute;
 use crate::compute::Computed;
@@ -21,12 +18,11 @@ use database::check::Inspected;
 use database::{layout, replace};
 use partial_state::extraction::Config;
 use partial_state::filing::Filing;
-use partial_trial::own;
 use semantics::answer::{Checked, Replacement};
 use semantics::bounds::NOBODY;
 use semantics::graph::FileId;
 use semantics::refusal::PartialPathRefusal;
-use semantics::search::{Limit, PartialPathStats, SearchOrder};
+use semantics::search::{Limit, SearchOrder};
 use storage::{blocks, check};
 use words::slots;
 
@@ -44,65 +40,40 @@ pub struct Sizes {
     pub nodes: u32,
 }
 
-// All found paths are filed: the owner's old ones become zeros, and the words in front are stored.
-fn settle(words: &mut [u32], sizes: Sizes, owner: u32, first: usize, found: usize)
-    requires { (record_place base first ≤ length words.old) × (first + found < 2 ^ 32) }
-    ensures { words.new ≡ settled sizes owner first found words.old }
-{
-    replace::count_used(words, first);
-    replace::clear_file(words, owner);
-    let used = first + found;
-    replace::store_header(words, used as u32, sizes.nodes, sizes.files);
-}
-
-// Not all could be filed at once: 33, or records that are not zeros. They become so here, where no refusal can follow any more.
-fn file_again(
-    index: &[u32],
-    sizes: Sizes,
-    filing: Filing,
-    config: Config,
-    stats: PartialPathStats,
-    work: &mut [u32],
-    words: &mut [u32],
-) -> Replacement
-    requires { Unfiled index.now sizes filing config stats work.old words.old }
-    ensures { (v : Unfiled index.now sizes filing config stats work.old words.old)
-        → Leaves (computed_on v.given.sized.holds.graph (asked_by config work.old filing.file) words.old) result words.new }
-{
-    if replace::has_room(words, stats.found) {
-        let first = filing.first;
-        let found = stats.found as usize;
-        replace::count_used(words, first + found);
-        replace::take_back(words, first);
-        compute::compute(index, sizes.nodes, filing, config, work, words);
-        settle(words, sizes, filing.file, first, found);
-        return Replacement::Done { stats };
-    }
-    Replacement::Full
-}
-
-// The counts are known. Are all found paths filed? Else what is filed is taken back.
+// The second computation takes the course of the first, up to the last path. It has nothing to file where the first found none.
 fn file_found(
     index: &[u32],
+    nodes: u32,
+    filing: Filing,
+    config: Config,
+    work: &mut [u32],
+    words: &mut [u32],
+)
+    requires { Computing index.now nodes filing words.old }
+    ensures { FiledTo index.now nodes filing config work.old words.old words.new }
+{
+    if 0 < filing.room {
+        compute::compute(index, nodes, filing, config, work, words);
+    }
+}
+
+// The found paths are filed in the place of the file's old ones.
+fn store(
+    index: &[u32],
     sizes: Sizes,
     filing: Filing,
     config: Config,
-    stats: PartialPathStats,
     work: &mut [u32],
     words: &mut [u32],
-) -> Replacement
-    requires { Found index.now sizes filing config stats work.old words.old }
-    ensures { (v : Found index.now sizes filing config stats work.old words.old)
-        → Leaves (computed_on v.given.sized.holds.graph (asked_by config work.old filing.file) v.origin) result words.new }
+)
+    requires { Storing index.now sizes filing config work.old words.old }
+    ensures { (v : Storing index.now sizes filing config work.old words.old) → words.new
+        ≡ replace_words base v.sized.holds.graph filing.file v.found words.old }
 {
-    let first = filing.first;
-    let filed = layout::number(words, layout::USED_AT) - first;
-    if filed as u64 == stats.found {
-        settle(words, sizes, filing.file, first, filed);
-        return Replacement::Done { stats };
-    }
-    replace::take_back(words, first);
-    file_again(index, sizes, filing, config, stats, work, words)
+    replace::clear_file(words, filing.file);
+    file_found(index, sizes.nodes, filing, config, work, words);
+    let used = filing.first + filing.room;
+    replace::store_header(words, used as u32, sizes.nodes, sizes.files);
 }
 
 // The computation, then 33.
@@ -119,17 +90,25 @@ fn replace_owner(
         → Leaves (computed_on v.sized.holds.graph (asked_by config work.old owner) words.old) result words.new }
 {
     let first = layout::number(words, layout::USED_AT);
-    let filing = Filing {
+    let counting = Filing {
         file: owner,
         first,
-        room: layout::capacity(words) - first,
+        room: 0,
     };
-    match compute::compute(index, sizes.nodes, filing, config, work, words) {
-        Computed::Refused(r) => {
-            replace::take_back(words, first);
-            Replacement::Refused(r)
+    match compute::compute(index, sizes.nodes, counting, config, work, words) {
+        Computed::Refused(r) => Replacement::Refused(r),
+        Computed::Done(stats) => {
+            if replace::has_room(words, stats.found) {
+                let filing = Filing {
+                    file: owner,
+                    first,
+                    room: stats.found as usize,
+                };
+                store(index, sizes, filing, config, work, words);
+                return Replacement::Done { stats };
+            }
+            Replacement::Full
         }
-        Computed::Done(stats) => file_found(index, sizes, filing, config, stats, work, words),
     }
 }
 
@@ -174,35 +153,6 @@ fn replace_loaded(
     }
 }
 
-// The number that the owner's slots have, less 1.
-fn number_of(owner: Owner) -> u32
-    ensures { result ≡ number_of owner }
-{
-    match owner {
-        Owner::File(file) => file.0,
-        Owner::Nobody => NOBODY,
-    }
-}
-
-// The image into the lent index, without the edges of root that are another owner's.
-fn load_own(image: &[u8], index: &mut [u32], owner: u32) -> Checked
-    requires { Takes image.now index.old }
-    ensures value { result ≡ check_of image.now }
-    ensures kept { (g : Graph) → graph_in image.now ≡ ok g → Kept owner g index.new }
-{
-    let checked = check::load_fresh(image, index);
-    let Checked::Accepted {
-        files,
-        nodes,
-        edges,
-    } = checked
-    else {
-        return checked;
-    };
-    own::keep_own(index, owner);
-    checked
-}
-
 // The image before that, into the lent index. The work area is zero after every call.
 fn replace_in(
     image: &[u8],
@@ -215,7 +165,7 @@ fn replace_in(
     requires { Takes image.now index.old }
     ensures { Changes (call_for owner (graph_in image.now) (asked_by config work.old (number_of owner)) words.old) result work.new words.new }
 {
-    let checked = load_own(image, index, number_of(owner));
+    let checked = check::load_fresh(image, index);
     match checked {
         Checked::Refused(r) => {
             slots::zero(work);

@@ -54,16 +54,16 @@ pub record Rep (g : View) (f : Filing) (origin : List ℕ) (x : Computation) (ws
   pub filed : db ≡ filed_in f m.kept origin
   pub traced : (r : Route) → Memᴰ r m.rest ⊎ Memᴰ r m.pending → Waiting g f.file x.frontier.length r
 
--- what a refused computation leaves: some of the routes that it found are filed
-abbrev pub PartlyFiled : Filing → List ℕ → List ℕ → Type 0
-PartlyFiled f origin db = (rs : List Route) × (db ≡ filed_in f rs origin)
+-- where nothing may be filed the database is as it was
+abbrev pub Untouched : Filing → List ℕ → List ℕ → Type 0
+Untouched f origin db = f.room ≡ 0 → db ≡ origin
 
 -- the computation that goes on stands for the state answered, or it is refused alike
 abbrev pub Tells : View → Filing → List ℕ → ExtractionFrame → Course → List ℕ → List ℕ → Answer PartialPathRefusal (State Route) → Type 0
 Tells g f origin fr (goes x) ws db (ok m) = (frame_of x ≡ fr) × Rep g f origin x ws db m
 Tells g f origin fr (goes x) ws db (refuse y) = ⊥
 Tells g f origin fr (stops r) ws db (ok m) = ⊥
-Tells g f origin fr (stops r) ws db (refuse y) = (r ≡ y) × PartlyFiled f origin db
+Tells g f origin fr (stops r) ws db (refuse y) = (r ≡ y) × Untouched f origin db
 
 -- the areas have their slots, and one more path can be counted and filed
 pub record Extendable (x : Computation) (f : Filing) (item ws db : List ℕ) : Type 0 where

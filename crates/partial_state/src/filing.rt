@@ -1,13 +1,11 @@
-// What is done with a found partial path: it is put into the database at once as the next record, while that can be taken back.
-// Document 01, "Partial paths": "appends the new ones in order found". A refused call alters no word, and the words behind the used slots may hold
-// anything: so a path is filed only where its record is all zeros, and behind one that is not no other is filed. The word that counts the used
-// slots tells how far this went.
+// What is done with a found partial path: it is put into the database as the next record while there is room for it, else only counted.
+// Document 01, "Partial paths": "appends the new ones in order found". Without room the same computation tells how many will be found.
 ghost use Rattle.std.specs.Prelude.{◌≡◌, ◌+◌, ◌≤◌, ◌<◌, ◌^◌, length};
 ghost use Rattle.semantics.specs.Limits.{base};
-ghost use Rattle.partial_state.specs.Filings.{Fits, is_next, filed_next};
+ghost use Rattle.partial_state.specs.Filings.{Fits, filed_next};
 
 use crate::route::Ends;
-use database::{layout, replace};
+use database::replace;
 
 // Records of the file, from record `first` on, at most `room` of them.
 #[derive(Clone, Copy)]
@@ -17,28 +15,19 @@ pub struct Filing {
     pub room: usize,
 }
 
-// Is the partial path that is found behind n others filed at once?
-fn is_next(words: &[u32], filing: Filing, n: u64) -> bool
-    requires { Fits filing words.now }
-    ensures { result ≡ is_next filing n words.now }
-{
-    if n < filing.room as u64 {
-        let i = filing.first + n as usize;
-        if layout::number(words, layout::USED_AT) == i {
-            return replace::is_free(words, i);
-        }
-    }
-    false
-}
-
 // The partial path that is found behind n others.
 pub(crate) fn file_route(words: &mut [u32], filing: Filing, n: u64, ends: Ends, edges: &[u32])
     requires { Fits filing words.old × (length edges.now ≤ base.edges) }
     ensures { words.new ≡ filed_next filing n ends edges.now words.old }
 {
-    if is_next(words, filing, n) {
-        let i = filing.first + n as usize;
-        replace::put_record(words, i, filing.file, ends.start, ends.end, edges);
-        replace::count_used(words, i + 1);
+    if n < filing.room as u64 {
+        replace::put_record(
+            words,
+            filing.first + n as usize,
+            filing.file,
+            ends.start,
+            ends.end,
+            edges,
+        );
     }
 }

@@ -1,3 +1,2 @@
 pub mod Expansions
 pub mod Seeds
-pub mod Own

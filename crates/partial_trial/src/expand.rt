@@ -25,7 +25,7 @@ pub struct Sought {
 }
 
 // A file has the edges with an end of its own, nobody those whose ends both lack a file.
-pub(crate) fn sought_from(index: &[u32], owner: u32, node: u32) -> Sought
+fn sought_from(index: &[u32], owner: u32, node: u32) -> Sought
     requires { Blocks index.now }
     ensures { result ≡ sought_from owner (node_row index.now node) }
 {
@@ -58,7 +58,7 @@ fn leads_to(index: &[u32], owner: u32, own: Sought, target: NodeId) -> bool
 }
 
 // Is this edge one of them? It is asked of every edge, what its source tells once for all.
-pub(crate) fn belongs(index: &[u32], owner: u32, own: Sought, edge: u32) -> bool
+fn belongs(index: &[u32], owner: u32, own: Sought, edge: u32) -> bool
     requires { Blocks index.now × (BLOCK * edge < length index.now) }
     ensures { result ≡ is_sought owner own (node_row index.now (target_row index.now edge)) }
 {

@@ -2,5 +2,4 @@
 #![tactic(auto)]
 
 pub mod expand;
-pub mod own;
 pub mod seed;

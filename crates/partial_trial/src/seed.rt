@@ -1,8 +1,8 @@
 // The starts of an owner's partial paths, pushed before the first expansion. Document 01, "Partial paths": "Starts: root, then the file's
 // references and exported scopes by number"; nobody's start at root alone (document 02, order 5).
 ghost use Rattle.std.specs.Prelude.{◌≡◌, length};
-ghost use Rattle.semantics.specs.Graph.{Graph, file_of, is_file};
-ghost use Rattle.storage.specs.Index.{Blocks, Loaded, HoldsNodes, node_row};
+ghost use Rattle.semantics.specs.Graph.{Graph};
+ghost use Rattle.storage.specs.Index.{Blocks, Loaded, HoldsNodes};
 ghost use Rattle.partial_state.specs.Extractions.{at, going_at};
 ghost use Rattle.partial_trial.specs.Seeds.{Seeding, Started, NodeSeeded, FileSeeded, Seeded};
 
@@ -10,7 +10,7 @@ use partial_state::extraction::{Extracting, Extraction, ExtractionFrame};
 use partial_state::route;
 use semantics::bounds::NOBODY;
 use semantics::graph::{NodeId, ROOT};
-use storage::{blocks, store};
+use storage::store;
 
 // The route without edges from a node waits.
 fn push_start(
@@ -28,17 +28,6 @@ fn push_start(
     extraction.push(work, item, frame)
 }
 
-// Is it a node of the file? Most are not, and one word tells that: all nodes are looked at.
-fn is_own(index: &[u32], n: u32, file: u32) -> bool
-    requires { Blocks index.now }
-    ensures { result ≡ is_file file (file_of (node_row index.now n)) }
-{
-    if blocks::word(index, blocks::FILE, n) == file {
-        return store::is_of_file(index, NodeId(n), file);
-    }
-    false
-}
-
 // Node n, where it is a start of the file.
 fn seed_node(
     index: &[u32],
@@ -53,7 +42,7 @@ fn seed_node(
     ensures { (g : Graph) → Loaded g index.now → (v : Seeding item.old (at frame extraction) work.old)
         → NodeSeeded item.old (at frame extraction) work.old v g file n (going_at frame result) work.new }
 {
-    if is_own(index, n, file) {
+    if store::is_of_file(index, NodeId(n), file) {
         if store::is_start(index, NodeId(n)) {
             return push_start(n, item, extraction, work, frame);
         }

@@ -1,16 +1,15 @@
 -- From the starts of a computation to its answer, and from that to the replaced owner.
 -- Serves document 01, "Partial paths"; 21, 33, 34 and 35 of "Turned back"; document 02, order 5.
 use Prim.Native.Nat.{ℕ, ◌+◌, ◌-◌, ◌/◌, ◌<◌, ◌≤◌, ◌^◌}
-use native.Mathlib.Omega.{arith}
-use Rattle.std.specs.Prelude.{◌≡◌, Bool, leb}
+use Rattle.std.proofs.Common.{arith, ◌∙◌, ⊎_elim}
+use Rattle.std.specs.Prelude.{◌≡◌, Bool, true, leb}
 use Rattle.std.proofs.Math.Path.{refl, sym, ap, subst}
-use Rattle.std.proofs.Common.{◌∙◌, ⊎_elim, length-set}
-use Rattle.std.proofs.Math.Bool.{true, false}
+use Rattle.std.proofs.Math.Bool.{false}
 use mathlib.Core.List.Memᴰ
 use mathlib.Core.List.{List, [], ◌∷◌, map, Memᴰ}
-use borrow.Author.Tests.{lt-ltb, ltb-true, le-ltb, le-leb, leb-true, ne_eqb}
-use Rattle.std.proofs.Math.Dec.{ltb, eqb}
-use Rattle.std.proofs.Math.ListN.{length}
+use borrow.Author.Tests.{lt-ltb, le-ltb, leb-true, ne_eqb}
+use Rattle.std.proofs.Math.Dec.{eqb}
+use Rattle.std.proofs.Math.ListN.{length, take}
 use Rattle.semantics.specs.Entries.{Changes, Leaves}
 use Rattle.semantics.specs.declared.graph.FileId.{FileId}
 use Rattle.semantics.specs.declared.search.Limit.{Limit}
@@ -34,27 +33,25 @@ use Rattle.semantics.specs.PartialPaths.{Route, Slot, route_at, starts_from, sta
 use Rattle.semantics.specs.Words.{zeros}
 use Rattle.semantics.specs.Words.Laws.{whole-fits}
 use Rattle.semantics.specs.Database.{used_in, capacity, record_place, known_owners, slots_in, well_formed, check_database, has_room, replace_words}
-use Rattle.semantics.specs.Calls.{Change, FileRequest, file_setting_of, filing_outcome, computation_outcome, replacement_outcome, alias_outcome, replace_call, alias_call}
+use Rattle.semantics.specs.Calls.{FileRequest, file_setting_of, filing_outcome, computation_outcome, replacement_outcome, alias_outcome, replace_call, alias_call}
 use Rattle.storage.specs.Index.{Loaded}
 use Rattle.path_frontier.specs.Frontier.Stands.{stands-blank}
 use Rattle.database.specs.declared.check.Inspected.{Inspected}
 use Rattle.database.specs.declared.check.Inspected.TheVariants as Inspected
 use Rattle.database.specs.Checks.{inspected}
 use Rattle.database.specs.Checks.Laws.{capacity-most, capacity-fits, formed-used, formed-whole, inspected-refused, inspected-sound}
-use Rattle.database.specs.Records.{Whole, record_at}
-use Rattle.database.specs.Filing.{cleared, put_routes, headed, is_clean, used_up_to, freed_from}
-use Rattle.database.specs.Filing.Free.{used-now, used-again, used-same, routes-used, cleared-routes, length-freed, freed-used, freed-clean, routes-freed}
+use Rattle.database.specs.Records.{Whole}
+use Rattle.database.specs.Filing.{cleared, put_routes, headed}
 use Rattle.database.specs.Filing.Laws.{room-is, replaced-in-steps}
 use Rattle.partial_state.specs.declared.filing.Filing.{Filing}
 use Rattle.partial_state.specs.declared.extraction.Config.{Config}
 use Rattle.partial_state.specs.declared.extraction.ExtractionFrame.{ExtractionFrame}
 use Rattle.partial_state.specs.Routes.{held}
 use Rattle.partial_state.specs.Filings.{Fits, filed_in}
-use Rattle.partial_state.specs.Filings.Laws.{filed-none}
-use Rattle.partial_state.specs.Filings.Back.{FiledSoFar, course, all-filed}
+use Rattle.partial_state.specs.Filings.Laws.{take_all, filed-none, filed-nowhere}
 use Rattle.path_frontier.specs.Frontier.{short_slot}
 use Rattle.partial_state.specs.Extractions.{Computation, Course, goes, stops, new_computation}
-use Rattle.partial_state.specs.Reps.{frame_of, setting_of, Rep, PartlyFiled, Tells}
+use Rattle.partial_state.specs.Reps.{frame_of, setting_of, Rep, Untouched, Tells}
 use Rattle.partial_state.specs.Reps.Laws.{tells-on, tells-refused}
 use Rattle.partial.specs.declared.compute.Computed.{Computed}
 use Rattle.partial.specs.declared.compute.Computed.TheVariants.{Done, Refused}
@@ -63,8 +60,7 @@ use Rattle.partial.specs.declared.replace.Owner.TheVariants.{File, Nobody}
 use Rattle.partial.specs.declared.replace.Sizes.{Sizes}
 use Rattle.partial.specs.Rounds.{Driving, Ends, run_from, DrivenTo}
 use Rattle.partial_trial.specs.Seeds.{starts_of, Seeding, Seeded}
-use Rattle.partial_trial.specs.Own.{Alike, Kept}
-use Rattle.partial.specs.Replacements.{asked_by, number_of, routes_of, Computing, ComputedTo, settled, FilingIn, Found, Unfiled, Few, Replacing, computed_on, replaced_on, inspected_on, call_for}
+use Rattle.partial.specs.Replacements.{asked_by, number_of, routes_of, Computing, ComputedTo, FiledTo, Storing, Few, Replacing, computed_on, replaced_on, inspected_on, call_for}
 
 -- ---- seeding counts nothing
 
@@ -144,7 +140,7 @@ module _ {index : List ℕ} {g : Graph} (loaded : Loaded g index) (f : Filing) (
     pub compute-refused : (y : PartialPathRefusal) → a ≡ stops y → Ends f db (Refused y) db (routes_of g asks)
     compute-refused y e =
         let u = tells-refused (view_of g) f db (frame_of fresh) a ws' db seeds y told e in
-        subst (λ (t : Answer PartialPathRefusal (State Route)). Ends f db (Refused y) db t) (sym (routes-refused base c.length (file_setting_of base asks) g f.file y u.0)) (refl, ([], sym (filed-none f db)))
+        subst (λ (t : Answer PartialPathRefusal (State Route)). Ends f db (Refused y) db t) (sym (routes-refused base c.length (file_setting_of base asks) g f.file y u.0)) (refl, λ q. refl)
 
     module _ (on : Computation) (e : a ≡ goes on) where
       begun : (m : State Route) × (seeds ≡ ok m) × (frame_of on ≡ frame_of fresh) × Rep (view_of g) f db on ws' db m
@@ -179,262 +175,132 @@ done_refused : (s : PartialPathStats) (r : PartialPathRefusal) → Done s ≡ Re
 done_refused s r e = let z : ◌≡◌ {A = ℕ} 0 1 = cc in omega arith
 
 module _ (f : Filing) (db db' : List ℕ) where
-  ends-refused : (a : Computed) (t : Answer PartialPathRefusal (State Route)) (r : PartialPathRefusal) → Ends f db a db' t → a ≡ Refused r → (t ≡ refuse r) × PartlyFiled f db db'
+  -- a computation that is not refused files what it found
+  ends-filed : (a : Computed) (t : Answer PartialPathRefusal (State Route)) (u : State Route) → Ends f db a db' t → t ≡ ok u → db' ≡ filed_in f u.kept db
+  ends-filed (Done s) (ok m) u h e = let z = ok-inj m u e in h.1 ∙ ap (λ (y : State Route). filed_in f y.kept db) z
+  ends-filed (Done s) (refuse r) u h e = absurd (refuse-ok r u e)
+  ends-filed (Refused r) (ok m) u h e = absurd h
+  ends-filed (Refused r) (refuse y) u h e = absurd (refuse-ok y u e)
+
+  ends-refused : (a : Computed) (t : Answer PartialPathRefusal (State Route)) (r : PartialPathRefusal) → Ends f db a db' t → a ≡ Refused r → (t ≡ refuse r) × Untouched f db db'
   ends-refused (Done s) t r h e = absurd (done_refused s r e)
   ends-refused (Refused y) (ok m) r h e = absurd h
   ends-refused (Refused y) (refuse z) r h e = let w : y ≡ r = cc in (ap (λ (k : PartialPathRefusal). refuse k) (sym h.0 ∙ w), h.1)
 
-  ends-done : (a : Computed) (t : Answer PartialPathRefusal (State Route)) (s : PartialPathStats) → Ends f db a db' t → a ≡ Done s → (u : State Route) × (t ≡ ok u) × (s ≡ partial_stats u) × (s.found ≡ length u.kept) × (db' ≡ filed_in f u.kept db)
-  ends-done (Done y) (ok m) s h e = let z : y ≡ s = cc in (m, refl, sym z ∙ h.0, ap (λ (x : PartialPathStats). x.found) (sym z) ∙ h.1, h.2)
-  ends-done (Done y) (refuse r) s h e = absurd h
-  ends-done (Refused r) t s h e = absurd (done_refused s r (sym e))
+  -- without room the counts are those of the whole
+  ends-done : f.room ≡ 0 → (a : Computed) (t : Answer PartialPathRefusal (State Route)) (s : PartialPathStats) → Ends f db a db' t → a ≡ Done s → (u : State Route) × (t ≡ ok u) × (s ≡ partial_stats u) × (s.found ≡ length u.kept) × (db' ≡ filed_in f u.kept db)
+  ends-done none (Done y) (ok m) s h e = let z : y ≡ s = cc in let k = h.0 none in (m, refl, sym z ∙ k.0, ap (λ (x : PartialPathStats). x.found) (sym z) ∙ k.1, h.1)
+  ends-done none (Done y) (refuse r) s h e = absurd (omega (arith, h, none))
+  ends-done none (Refused r) t s h e = absurd (done_refused s r (sym e))
 
-  -- a computation that is not refused files what it found
-  ends-filed : (a : Computed) (t : Answer PartialPathRefusal (State Route)) (u : State Route) → Ends f db a db' t → t ≡ ok u → db' ≡ filed_in f u.kept db
-  ends-filed (Done s) (ok m) u h e = let z = ok-inj m u e in h.2 ∙ ap (λ (y : State Route). filed_in f y.kept db) z
-  ends-filed (Done s) (refuse r) u h e = absurd h
-  ends-filed (Refused r) (ok m) u h e = absurd h
-  ends-filed (Refused r) (refuse y) u h e = absurd (refuse-ok y u e)
+-- ---- the found paths filed
 
--- ---- the words in which is filed
+module _ (index : List ℕ) (nodes : ℕ) (f : Filing) (c : Config) (ws db : List ℕ) where
+  pub filed-by : (a : Computed) (db' : List ℕ) → ComputedTo index nodes f c ws db a db' → FiledTo index nodes f c ws db db'
+  filed-by a db' h g loaded counted u e = ends-filed f db db' a (routes_of g (asked_by c ws f.file)) u (h g loaded counted) e
 
-module _ {index : List ℕ} {n : Sizes} {f : Filing} {db : List ℕ} (v : FilingIn index n f db) where
-  abbrev held-graph : Graph
-  held-graph = v.sized.holds.graph
+  -- without room no computation is needed
+  pub filed-without : f.room ≡ 0 → FiledTo index nodes f c ws db db
+  filed-without z g loaded counted u e = sym (filed-nowhere f u.kept db z)
 
-  pub fits_in : Fits f db
-  fits_in = record {
-    inside = let h = capacity-fits base db (f.first + f.room) v.long (omega (arith, v.room)) in h;
-    named = v.named;
-    few = let m = (capacity-most base db).0 in omega (arith, v.room, m);
-  }
+module _ {index : List ℕ} {n : Sizes} {f : Filing} {c : Config} {ws db : List ℕ} (v : Storing index n f c ws db) where
+  pub store-clears : Whole base db
+  store-clears = omega (arith, v.first, v.fits.inside)
 
-  pub computes-in : Computing index n.nodes f db
-  computes-in = record { holds = record { holds = v.sized.holds; node-count = v.sized.node-count }; fits = fits_in }
+  pub store-computes : (db' : List ℕ) → length db' ≡ length db → Computing index n.nodes f db'
+  store-computes db' l = record { holds = record { holds = v.sized.holds; node-count = v.sized.node-count }; fits = record { inside = omega (arith, l, v.fits.inside); named = v.fits.named } }
 
-  pub first-inside : record_place base f.first ≤ length db
-  first-inside = let h = fits_in.inside in omega (arith, h)
+  pub store-heads : (db' : List ℕ) → length db' ≡ length db → 3 ≤ length db'
+  store-heads db' l = omega (arith, l, v.fits.inside)
 
-  pub first-few : f.first < 2 ^ 32
-  first-few = let h = fits_in.few in omega (arith, h)
+  pub stored_is : {db₁ : List ℕ} → db₁ ≡ cleared base f.file db → (db₂ : List ℕ) → FiledTo index n.nodes f c ws db₁ db₂ → {db₃ : List ℕ} → db₃ ≡ headed (f.first + f.room) n.nodes n.files db₂
+      → db₃ ≡ replace_words base v.sized.holds.graph f.file v.found db
+  unfolding filed_in
+  stored_is {db₁} p db₂ h q =
+      let k = v.found.kept in
+      let w : db₂ ≡ put_routes base f.file f.first (take f.room k) db₁ = h v.sized.holds.graph v.sized.holds.loaded v.sized.node-count v.found v.is in
+      let t : take f.room k ≡ k = take_all f.room k (omega (arith, v.room)) in
+      let y : db₂ ≡ put_routes base f.file (used_in db) k (cleared base f.file db) =
+      w ∙ ap (λ (l : List Route). put_routes base f.file f.first l db₁) t ∙ ap (λ (i : ℕ). put_routes base f.file i k db₁) v.first ∙ ap (put_routes base f.file (used_in db) k) p in
+      let u : f.first + f.room ≡ used_in db + length k = omega (arith, v.first, v.room) in
+      q
+      ∙ ap (λ (i : ℕ). headed i n.nodes n.files db₂) u
+      ∙ ap (λ (i : ℕ). headed (used_in db + length k) i n.files db₂) v.sized.node-count
+      ∙ ap (λ (i : ℕ). headed (used_in db + length k) (length v.sized.holds.graph.nodes) i db₂) v.sized.file-count
+      ∙ ap (headed (used_in db + length k) (length v.sized.holds.graph.nodes) v.sized.holds.graph.files) y
+      ∙ replaced-in-steps base f.file db v.sized.holds.graph v.found (subst (λ (i : ℕ). record_place base i ≤ length db) u v.fits.inside)
 
-  -- how far any routes are filed
-  pub so_far : (rs : List Route) → FiledSoFar f 0 rs db (filed_in f rs db)
-  so_far rs = course f 0 rs db (omega arith) (omega (arith, v.first)) (let h = first-inside in omega (arith, h)) fits_in
-
-  module _ {db' : List ℕ} (p : PartlyFiled f db db') where
-    partly-so : FiledSoFar f 0 p.0 db db'
-    partly-so = subst (FiledSoFar f 0 p.0 db) (sym p.1) (so_far p.0)
-
-    pub back_inside : Whole base db' × (f.first < 2 ^ 32)
-    back_inside = (partly-so.inside, first-few)
-
-    pub least : f.first ≤ used_in db'
-    least = let h = partly-so.from in omega (arith, h)
-
-    pub same-long : length db' ≡ length db
-    same-long = partly-so.same_length
-
-    -- what was filed is taken back
-    pub back_is : {x : List ℕ} → x ≡ used_up_to f.first (freed_from base f.first (used_in db' - f.first) db') → x ≡ db
-    back_is e = e ∙ subst (λ (k : ℕ). used_up_to k (freed_from base k (used_in db' - k) db') ≡ db) (let z : f.first + 0 ≡ f.first = omega arith in z) partly-so.back
-
-  -- words that hold these routes behind the used records, settled
-  module _ (u : State Route) (inside : record_place base (f.first + length u.kept) ≤ length db) where
-    abbrev written : List ℕ
-    written = put_routes base f.file f.first u.kept db
-
-    unmarked : used_up_to f.first written ≡ written
-    unmarked = sym (routes-used base f.file f.first f.first u.kept db v.long inside) ∙ ap (put_routes base f.file f.first u.kept) (used-same f.first db (sym v.first))
-
-    pub settled_is : (found : ℕ) → found ≡ length u.kept → {x db' : List ℕ} (k : ℕ) → x ≡ used_up_to k written → db' ≡ settled n f.file f.first found x → db' ≡ replace_words base held-graph f.file u db
-    settled_is found e {x} k p q =
-        let w : used_up_to f.first x ≡ written = ap (used_up_to f.first) p ∙ used-again k f.first written ∙ unmarked in
-        let h : f.first + found ≡ used_in db + length u.kept = omega (arith, v.first, e) in
-        q
-        ∙ ap (λ (l : List ℕ). headed (f.first + found) n.nodes n.files (cleared base f.file l)) w
-        ∙ ap (headed (f.first + found) n.nodes n.files) (cleared-routes base f.file f.first u.kept db (omega (arith, v.first)) inside)
-        ∙ ap (λ (i : ℕ). headed i n.nodes n.files (put_routes base f.file f.first u.kept (cleared base f.file db))) h
-        ∙ ap (λ (i : ℕ). headed (used_in db + length u.kept) i n.files (put_routes base f.file f.first u.kept (cleared base f.file db))) v.sized.node-count
-        ∙ ap (λ (i : ℕ). headed (used_in db + length u.kept) (length held-graph.nodes) i (put_routes base f.file f.first u.kept (cleared base f.file db))) v.sized.file-count
-        ∙ ap (λ (i : ℕ). headed (used_in db + length u.kept) (length held-graph.nodes) held-graph.files (put_routes base f.file i u.kept (cleared base f.file db))) v.first
-        ∙ replaced-in-steps base f.file db held-graph u (subst (λ (i : ℕ). record_place base i ≤ length db) (let z : f.first + length u.kept ≡ used_in db + length u.kept = omega (arith, v.first) in z) inside)
-
--- ---- the counts are known
-
-module _ {index : List ℕ} {n : Sizes} {f : Filing} {c : Config} {stats : PartialPathStats} {ws db : List ℕ} (v : Found index n f c stats ws db) where
-  abbrev asked : FileRequest
-  asked = asked_by c ws f.file
-
-  pub found-partly : PartlyFiled f v.origin db
-  found-partly = (v.found.kept, v.filed)
-
-  at-origin : Unfiled index n f c stats ws v.origin
-  at-origin = record { given = v.given; found = v.found; is = v.is; told = v.told; count = v.count }
-
-  -- all that was filed is taken back, and the rest is done as if it had not been filed
-  pub found-unfiled : {x : List ℕ} → x ≡ v.origin → Unfiled index n f c stats ws x
-  found-unfiled e = subst (Unfiled index n f c stats ws) (sym e) at-origin
-
-  pub found-again : {x : List ℕ} → x ≡ v.origin → (r : Replacement) (db' : List ℕ) → ((w : Unfiled index n f c stats ws x) → Leaves (computed_on w.given.sized.holds.graph asked x) r db')
-      → Leaves (computed_on v.given.sized.holds.graph asked v.origin) r db'
-  unfolding at-origin
-  found-again e r db' h = subst (λ (y : List ℕ). (w : Unfiled index n f c stats ws y) → Leaves (computed_on w.given.sized.holds.graph asked y) r db') e h at-origin
-
-  -- all are filed
-  pub found-done : used_in db - f.first ≡ stats.found → {db' : List ℕ} → db' ≡ settled n f.file f.first (used_in db - f.first) db → Leaves (computed_on v.given.sized.holds.graph asked v.origin) (Replacement.Done stats) db'
-  unfolding computation_outcome filing_outcome has_room found-partly
-  found-done e q =
-      let o = partly-so v.given found-partly in
-      let l = least v.given found-partly in
-      let k : used_in db ≡ f.first + 0 + length v.found.kept = omega (arith, e, l, v.count) in
-      let z : f.first + 0 ≡ f.first = omega arith in
-      let w : db ≡ used_up_to (f.first + length v.found.kept) (put_routes base f.file f.first v.found.kept v.origin) = subst (λ (i : ℕ). db ≡ used_up_to (i + length v.found.kept) (put_routes base f.file i v.found.kept v.origin)) z (o.whole k) in
-      let m : used_in v.origin + length v.found.kept ≤ capacity base v.origin = omega (arith, k, o.within, v.given.room, v.given.first) in
-      let h : record_place base (f.first + length v.found.kept) ≤ length v.origin = omega (arith, k, o.inside, o.same_length) in
-      rw (v.is, le-leb (used_in v.origin + length v.found.kept) (capacity base v.origin) m)
-      (ap (λ (t : PartialPathStats). Replacement.Done t) v.told, settled_is v.given v.found h (used_in db - f.first) (e ∙ v.count) (f.first + length v.found.kept) w q)
-
--- ---- what is filed is taken back
-
-module _ {index : List ℕ} {n : Sizes} {f : Filing} {c : Config} {stats : PartialPathStats} {ws db : List ℕ} (v : Unfiled index n f c stats ws db) where
-  abbrev owned : FileRequest
-  owned = asked_by c ws f.file
-
-  abbrev kept : List Route
-  kept = v.found.kept
-
-  pub again-asks : (3 ≤ length db) × (used_in db ≤ capacity base db)
-  again-asks = (v.given.long, v.given.used)
-
-  module _ {b : Bool} (is : b ≡ leb (used_in db + stats.found) (capacity base db)) where
-    room-told : b ≡ has_room base v.found db
-    room-told = is ∙ room-is base f.file db stats.found v.found v.count
-
-    pub again-full : b ≡ false → Leaves (computed_on v.given.sized.holds.graph owned db) Replacement.Full db
-    unfolding computation_outcome filing_outcome
-    again-full z = rw (v.is, sym room-told ∙ z) (refl, refl)
-
-    module _ (z : b ≡ true) where
-      fitting : used_in db + stats.found ≤ capacity base db
-      fitting = leb-true (used_in db + stats.found) (capacity base db) (sym is ∙ z)
-
-      inside : record_place base (f.first + length kept) ≤ length db
-      inside = let k = fitting in capacity-fits base db (f.first + length kept) v.given.long (omega (arith, k, v.given.first, v.count))
-
-      -- so many slots are used, as a word
-      pub again-few : f.first + stats.found < 2 ^ 32
-      again-few = let k = fitting in let m = (capacity-most base db).0 in omega (arith, k, m, v.given.first)
-
-      module _ {db₁ : List ℕ} (marked : db₁ ≡ used_up_to (f.first + stats.found) db) where
-        long₁ : length db₁ ≡ length db
-        long₁ = ap length marked ∙ length-set db 0 (f.first + stats.found)
-
-        used₁ : used_in db₁ ≡ f.first + stats.found
-        used₁ = ap used_in marked ∙ used-now (f.first + stats.found) db (let l = v.given.long in omega (arith, l))
-
-        pub again-back : Whole base db₁ × (f.first < 2 ^ 32)
-        again-back = let u = used₁ in let l = long₁ in let i = inside in let w = again-few in (omega (arith, u, l, i, v.count), omega (arith, w))
-
-        module _ {db₂ : List ℕ} (freed : db₂ ≡ used_up_to f.first (freed_from base f.first (used_in db₁ - f.first) db₁)) where
-          -- the records behind the used ones are zeros, and nothing else is altered
-          cleaned : db₂ ≡ freed_from base f.first (length kept) db
-          cleaned =
-              let u = used₁ in
-              let k : used_in db₁ - f.first ≡ length kept = omega (arith, u, v.count) in
-              let a : f.first + stats.found ≡ f.first + length kept = omega (arith, v.count) in
-              freed
-              ∙ ap (λ (i : ℕ). used_up_to f.first (freed_from base f.first i db₁)) k
-              ∙ ap (λ (l : List ℕ). used_up_to f.first (freed_from base f.first (length kept) l)) marked
-              ∙ ap (used_up_to f.first) (freed-used base f.first (length kept) (f.first + stats.found) db v.given.long inside)
-              ∙ used-again (f.first + stats.found) f.first (freed_from base f.first (length kept) db)
-              ∙ sym (freed-used base f.first (length kept) f.first db v.given.long inside)
-              ∙ ap (freed_from base f.first (length kept)) (used-same f.first db (sym v.given.first))
-
-          long₂ : length db₂ ≡ length db
-          long₂ = ap length cleaned ∙ length-freed base f.first (length kept) db inside
-
-          used₂ : used_in db₂ ≡ f.first
-          used₂ = ap used_in freed ∙ used-now f.first (freed_from base f.first (used_in db₁ - f.first) db₁) (let l = long₂ in let k = ap length freed ∙ length-set (freed_from base f.first (used_in db₁ - f.first) db₁) 0 f.first in omega (arith, l, k, v.given.long))
-
-          fits₂ : Fits f db₂
-          fits₂ = let h = fits_in v.given in let l = long₂ in record { inside = omega (arith, h.inside, l); named = h.named; few = h.few }
-
-          pub again-computes : Computing index n.nodes f db₂
-          again-computes = record { holds = record { holds = v.given.sized.holds; node-count = v.given.sized.node-count }; fits = fits₂ }
-
-          module _ (a : Computed) (db₃ : List ℕ) (h : ComputedTo index n.nodes f c ws db₂ a db₃) where
-            filed₃ : db₃ ≡ filed_in f kept db₂
-            filed₃ = ends-filed f db₂ db₃ a (routes_of v.given.sized.holds.graph owned) v.found (h v.given.sized.holds.graph v.given.sized.holds.loaded v.given.sized.node-count) v.is
-
-            most : length kept ≤ f.room
-            most = let k = fitting in omega (arith, k, v.given.first, v.given.room, v.count)
-
-            clean₂ : (j : ℕ) → 0 ≤ j → j < 0 + length kept → is_clean (record_at base (f.first + j) db₂) ≡ true
-            clean₂ j x y = ap (λ (l : List ℕ). is_clean (record_at base (f.first + j) l)) cleaned ∙ freed-clean base f.first (length kept) (f.first + j) db inside (omega arith) (omega (arith, y))
-
-            so₃ : FiledSoFar f 0 kept db₂ (filed_in f kept db₂)
-            so₃ = let u = used₂ in let l = long₂ in let i = first-inside v.given in course f 0 kept db₂ (omega arith) (omega (arith, u)) (omega (arith, l, i)) fits₂
-
-            pub again-settles : (record_place base f.first ≤ length db₃) × (f.first + stats.found < 2 ^ 32)
-            again-settles = let l = ap length filed₃ ∙ so₃.same_length ∙ long₂ in let i = first-inside v.given in (omega (arith, l, i), again-few)
-
-            pub again-done : {db₄ : List ℕ} → db₄ ≡ settled n f.file f.first stats.found db₃ → Leaves (computed_on v.given.sized.holds.graph owned db) (Replacement.Done stats) db₄
-            unfolding computation_outcome filing_outcome
-            again-done q =
-                let u = used₂ in
-                let e : f.first + 0 ≡ f.first = omega arith in
-                let all : used_in (filed_in f kept db₂) ≡ f.first + 0 + length kept = all-filed f 0 kept db₂ (omega (arith, u)) fits₂ (let m = most in omega (arith, m)) clean₂ in
-                let w : db₃ ≡ used_up_to (f.first + length kept) (put_routes base f.file f.first kept db₂) = filed₃ ∙ subst (λ (i : ℕ). filed_in f kept db₂ ≡ used_up_to (i + length kept) (put_routes base f.file i kept db₂)) e (so₃.whole all) in
-                let y : put_routes base f.file f.first kept db₂ ≡ put_routes base f.file f.first kept db = ap (put_routes base f.file f.first kept) cleaned ∙ routes-freed base f.file f.first kept db inside in
-                rw (v.is, sym room-told ∙ z)
-                (ap (λ (t : PartialPathStats). Replacement.Done t) v.told, settled_is v.given v.found inside stats.found v.count (f.first + length kept) (w ∙ ap (used_up_to (f.first + length kept)) y) q)
-
--- ---- the computation
+-- ---- the computation, 33
 
 abbrev pub filing_of : ℕ → ℕ → ℕ → Filing
 filing_of file first room = record { file = file; first = first; room = room }
 
-module _ {index : List ℕ} {n : Sizes} (owner : ℕ) (c : Config) (ws : List ℕ) {db : List ℕ} (v : Replacing index n db) (named : owner + 1 < 2 ^ 32) {first room : ℕ} (used : first ≡ used_in db) (left : room ≡ capacity base db - first) where
-  abbrev filing : Filing
-  filing = filing_of owner first room
+module _ {index : List ℕ} {n : Sizes} (owner : ℕ) (c : Config) (ws : List ℕ) {db : List ℕ} (v : Replacing index n db) (named : owner + 1 < 2 ^ 32) {first : ℕ} (used : first ≡ used_in db) where
+  abbrev q : FileRequest
+  q = asked_by c ws owner
 
-  pub owner-files : FilingIn index n filing db
-  owner-files = record { sized = v.sized; long = v.long; used = v.used; first = used; room = omega (arith, left, used, v.used); named = named }
+  pub counting-computes : Computing index n.nodes (filing_of owner first 0) db
+  counting-computes = record {
+    holds = record { holds = v.sized.holds; node-count = v.sized.node-count };
+    fits = record { inside = let h = capacity-fits base db (used_in db) v.long v.used in omega (arith, h, used); named = named };
+  }
 
-  module _ (a : Computed) (db₁ : List ℕ) (h : ComputedTo index n.nodes filing c ws db a db₁) where
-    ends : Ends filing db a db₁ (routes_of v.sized.holds.graph (asked_by c ws owner))
+  module _ (a : Computed) (db₁ : List ℕ) (h : ComputedTo index n.nodes (filing_of owner first 0) c ws db a db₁) where
+    ends : Ends (filing_of owner first 0) db a db₁ (routes_of v.sized.holds.graph q)
     ends = h v.sized.holds.graph v.sized.holds.loaded v.sized.node-count
 
-    module _ (r : PartialPathRefusal) (e : a ≡ Refused r) where
-      told-refused : (routes_of v.sized.holds.graph (asked_by c ws owner) ≡ refuse r) × PartlyFiled filing db db₁
-      told-refused = ends-refused filing db db₁ a (routes_of v.sized.holds.graph (asked_by c ws owner)) r ends e
+    pub replaced-refused : (r : PartialPathRefusal) → a ≡ Refused r → Leaves (computed_on v.sized.holds.graph q db) (Replacement.Refused r) db₁
+    unfolding computation_outcome
+    replaced-refused r e = let u = ends-refused (filing_of owner first 0) db db₁ a (routes_of v.sized.holds.graph q) r ends e in rw u.0 (refl, u.1 refl)
 
-      pub owner-back : Whole base db₁ × (first < 2 ^ 32)
-      owner-back = back_inside owner-files told-refused.1
+    module _ (s : PartialPathStats) (e : a ≡ Done s) where
+      counted : (u : State Route) × (routes_of v.sized.holds.graph q ≡ ok u) × (s ≡ partial_stats u) × (s.found ≡ length u.kept) × (db₁ ≡ filed_in (filing_of owner first 0) u.kept db)
+      counted = ends-done (filing_of owner first 0) db db₁ refl a (routes_of v.sized.holds.graph q) s ends e
 
-      pub owner-refused : {db₂ : List ℕ} → db₂ ≡ used_up_to first (freed_from base first (used_in db₁ - first) db₁) → Leaves (computed_on v.sized.holds.graph (asked_by c ws owner) db) (Replacement.Refused r) db₂
-      unfolding computation_outcome
-      owner-refused q = rw told-refused.0 (refl, back_is owner-files told-refused.1 q)
+      -- counting alters no word
+      pub counted_same : db₁ ≡ db
+      counted_same = let u = counted in u.4 ∙ filed-nowhere (filing_of owner first 0) u.0.kept db refl
 
-    module _ (s : PartialPathStats) (e : a ≡ Done s) (ws₁ : List ℕ) (same : length ws₁ ≡ length ws) where
-      pub owner-found : Found index n filing c s ws₁ db₁
-      unfolding owner-files
-      owner-found =
-          let u = ends-done filing db db₁ a (routes_of v.sized.holds.graph (asked_by c ws owner)) s ends e in
-          record {
-            origin = db;
-            given = owner-files;
-            found = u.0;
-            is = ap (λ (l : ℕ). routes_of v.sized.holds.graph (record { order = c.order; length = c.length; expansions = c.expansions; work = l; file = owner })) same ∙ u.1;
-            told = u.2;
-            count = u.3;
-            filed = u.4;
-          }
+      pub counted-asks : (3 ≤ length db₁) × (used_in db₁ ≤ capacity base db₁)
+      counted-asks = subst (λ (l : List ℕ). (3 ≤ length l) × (used_in l ≤ capacity base l)) (sym counted_same) (v.long, v.used)
 
-      pub owner-done : (r : Replacement) (db₂ : List ℕ) → Leaves (computed_on owner-found.given.sized.holds.graph (asked_by c ws₁ owner) owner-found.origin) r db₂ → Leaves (computed_on v.sized.holds.graph (asked_by c ws owner) db) r db₂
-      unfolding owner-found owner-files
-      owner-done r db₂ k = subst (λ (l : ℕ). Leaves (computed_on v.sized.holds.graph (record { order = c.order; length = c.length; expansions = c.expansions; work = l; file = owner }) db) r db₂) same k
+      module _ {b : Bool} (is : b ≡ leb (used_in db₁ + s.found) (capacity base db₁)) where
+        room-told : b ≡ has_room base counted.0 db
+        room-told = is ∙ ap (λ (l : List ℕ). leb (used_in l + s.found) (capacity base l)) counted_same ∙ room-is base f₀.file db s.found counted.0 counted.3
+          where
+            f₀ : Filing
+            f₀ = filing_of owner first 0
+
+        pub replaced-full : b ≡ false → Leaves (computed_on v.sized.holds.graph q db) Replacement.Full db₁
+        unfolding computation_outcome filing_outcome
+        replaced-full z = let u = counted in rw (u.1, sym room-told ∙ z) (refl, counted_same)
+
+        module _ (z : b ≡ true) (ws₁ : List ℕ) (same : length ws₁ ≡ length ws) where
+          fitting : used_in db₁ + s.found ≤ capacity base db₁
+          fitting = leb-true (used_in db₁ + s.found) (capacity base db₁) (sym is ∙ z)
+
+          pub storing : Storing index n (filing_of owner first s.found) c ws₁ db₁
+          storing =
+              let u = counted in
+              let k = fitting in
+              let m = (capacity-most base db₁).0 in
+              let i : first ≡ used_in db₁ = used ∙ ap used_in (sym counted_same) in
+              let t = capacity-fits base db₁ (used_in db₁ + s.found) counted-asks.0 k in
+              record {
+                sized = v.sized;
+                found = u.0;
+                is = ap (λ (l : ℕ). routes_of v.sized.holds.graph (record { order = c.order; length = c.length; expansions = c.expansions; work = l; file = owner })) same ∙ u.1;
+                first = i;
+                room = u.3;
+                few = omega (arith, k, m, i);
+                fits = record { inside = omega (arith, t, i); named = named };
+              }
+
+          pub replaced-done : {db₂ : List ℕ} → db₂ ≡ replace_words base storing.sized.holds.graph owner storing.found db₁ → Leaves (computed_on v.sized.holds.graph q db) (Replacement.Done s) db₂
+          unfolding computation_outcome filing_outcome storing
+          replaced-done y =
+              let u = counted in
+              rw (u.1, sym room-told ∙ z) (ap (λ (t : PartialPathStats). Replacement.Done t) u.2, y ∙ ap (replace_words base v.sized.holds.graph owner u.0) counted_same)
 
 -- ---- 21 before it
 
@@ -492,77 +358,6 @@ module _ {index : List ℕ} (n : Sizes) (o : Owner) (c : Config) (ws db : List �
         let k = routes-alias base c.length (file_setting_of base (asked_by c ws nobody)) graph nobody refl in
         subst (λ (x : Owner). Leaves (inspected_on x graph (asked_by c ws (number_of x)) db) r db') (sym is)
         (rw formed.1 (subst (λ (t : Answer PartialPathRefusal (State Route)). Leaves (computation_outcome base graph (asked_by c ws nobody) db t) r db') (sym k) h))
-
--- ---- on a graph in which the owner has the same routes
-
-unfoldable pub kept-few : {owner nodes files : ℕ} {index : List ℕ} (g : Graph) → g.files ≤ 256 → nodes ≡ length g.nodes → files ≡ g.files → Kept owner g index → Few index (record { files = files; nodes = nodes })
-kept-few g few n f k = record {
-  sized = record { holds = record { graph = k.graph; loaded = k.loaded }; node-count = n ∙ sym (ap length k.alike.nodes); file-count = f ∙ sym k.alike.files };
-  few = omega (arith, few, f);
-}
-
-module _ (o : Owner) (g g' : Graph) (alike : Alike (number_of o) g g') (few : g.files < nobody) (c : Config) (ws db : List ℕ) where
-  -- the graph with the edges of the other
-  abbrev between : Graph
-  between = record { files = g.files; nodes = g.nodes; edges = g'.edges }
-
-  same_graph : g' ≡ between
-  same_graph = λ j. record { files = alike.files j; nodes = alike.nodes j; edges = g'.edges }
-
-  abbrev wants : FileRequest
-  wants = asked_by c ws (number_of o)
-
-  outcome-same : (t : Answer PartialPathRefusal (State Route)) → computation_outcome base between wants db t ≡ computation_outcome base g wants db t
-  unfolding computation_outcome filing_outcome replace_words
-  outcome-same (ok s) = on (has_room base s db)
-    where
-      on : (b : Bool) → filing_outcome base b between wants db s ≡ filing_outcome base b g wants db s
-      on true = refl
-      on false = refl
-  outcome-same (refuse r) = refl
-
-  routes-same : routes_of between wants ≡ routes_of g wants
-  routes-same = subst (λ (y : Graph). routes_of y wants ≡ routes_of g wants) same_graph (alike.routes c.length (file_setting_of base wants))
-
-  known_same : file_partials base c.length (file_setting_of base wants) between (number_of o) ≡ file_partials base c.length (file_setting_of base wants) g (number_of o)
-  unfolding file_partials
-  known_same = on (ltb (number_of o) g.files) refl
-    where
-      on : (b : Bool) → ltb (number_of o) g.files ≡ b → if_known b base c.length (file_setting_of base wants) between (number_of o) ≡ if_known b base c.length (file_setting_of base wants) g (number_of o)
-      on false e = unfold if_known in refl
-      on true e =
-          let h : number_of o < g.files = ltb-true (number_of o) g.files e in
-          let k : (y : Graph) → number_of o < y.files → y.files < nobody → if_known true base c.length (file_setting_of base wants) y (number_of o) ≡ routes_of y wants =
-          λ y a b.
-          ap (λ (x : Bool). if_known x base c.length (file_setting_of base wants) y (number_of o)) (sym (lt-ltb (number_of o) y.files a)) ∙ routes-known base c.length (file_setting_of base wants) y (number_of o) a b in
-          k between h few ∙ routes-same ∙ sym (k g h few)
-
-  file-same : (t : Answer DatabaseRefusal (List Slot)) → replacement_outcome base between wants db t ≡ replacement_outcome base g wants db t
-  unfolding replacement_outcome
-  file-same (ok slots) = ap (computation_outcome base between wants db) known_same ∙ outcome-same (file_partials base c.length (file_setting_of base wants) g (number_of o))
-  file-same (refuse r) = refl
-
-  alias-same : number_of o ≡ nobody → (t : Answer DatabaseRefusal (List Slot)) → alias_outcome base between wants db t ≡ alias_outcome base g wants db t
-  unfolding alias_outcome
-  alias-same n (ok slots) =
-      let k : alias_routes base c.length (file_setting_of base wants) between ≡ alias_routes base c.length (file_setting_of base wants) g =
-      routes-alias base c.length (file_setting_of base wants) between (number_of o) n ∙ routes-same ∙ sym (routes-alias base c.length (file_setting_of base wants) g (number_of o) n) in
-      ap (computation_outcome base between wants db) k ∙ outcome-same (alias_routes base c.length (file_setting_of base wants) g)
-  alias-same n (refuse r) = refl
-
-  check-same : check_database base known_owners between db ≡ check_database base known_owners g db
-  unfolding check_database
-  check-same = refl
-
-  inspected-same : inspected_on o between wants db ≡ inspected_on o g wants db
-  inspected-same = on o refl
-    where
-      on : (x : Owner) → o ≡ x → inspected_on x between wants db ≡ inspected_on x g wants db
-      on (File f) is = ap (replacement_outcome base between wants db) check-same ∙ file-same (check_database base known_owners g db)
-      on Nobody is = ap (alias_outcome base between wants db) check-same ∙ alias-same (ap number_of is) (check_database base known_owners g db)
-
-  pub own_same : (a : Replacement) (db' : List ℕ) → Leaves (inspected_on o g' wants db) a db' → Leaves (inspected_on o g wants db) a db'
-  own_same a db' h = subst (λ (y : Change Replacement). Leaves y a db') (ap (λ (y : Graph). inspected_on o y wants db) same_graph ∙ inspected-same) h
 
 -- ---- the image before that
 

@@ -1,16 +1,18 @@
 -- The rounds of a computation: a route is popped and expanded; the run from here is the run from the start.
 -- Serves document 01, "Partial paths" and "Budget and frontier"; 36 of "Turned back".
 use Prim.Native.Nat.{ℕ, zero, suc, ◌+◌, ◌-◌, ◌*◌, ◌<◌, ◌≤◌}
-use Rattle.std.proofs.Common.{arith, sym, ap₂, subst, ◌∙◌, inl, ⊎_elim, take_at}
-use Rattle.std.specs.Prelude.{◌≡◌, refl, Bool, true, false, List, [], ◌∷◌, ◌++◌, take, drop, get_or}
+use Rattle.std.proofs.Common.{arith, sym, ap₂, subst, ◌∙◌, inl, ⊎_elim, length-append, take_at, ltb-true, leb-true}
+use Rattle.std.specs.Prelude.{◌≡◌, refl, Bool, true, false, List, [], ◌∷◌, ◌++◌, leb, ltb, take, drop, get_or}
 use Rattle.std.proofs.Math.Path.{ap}
 use Rattle.std.proofs.Math.ListN.{length, length-map}
+use Rattle.std.proofs.lemmas.List.{take-append-le}
 use Rattle.semantics.specs.declared.graph.Edge.{Edge}
 use Rattle.semantics.specs.declared.search.SearchStats.{SearchStats}
 use Rattle.semantics.specs.declared.search.PartialPathStats.{PartialPathStats}
 use Rattle.semantics.specs.declared.refusal.PartialPathRefusal.{PartialPathRefusal}
 use Rattle.semantics.specs.declared.refusal.PartialPathRefusal.TheVariants.{TooManyExpansions}
 use Rattle.semantics.specs.Lists.{cons_if, select}
+use Rattle.semantics.specs.Lists.Laws.{and-true}
 use Rattle.semantics.specs.Limits.{base, max_edges, slot_length, max_expansions, looked_before}
 use Rattle.semantics.specs.Words.{zeros}
 use Rattle.words.specs.Slots.Wider.{padded-is}
@@ -30,14 +32,16 @@ use Rattle.partial_state.specs.declared.filing.Filing.{Filing}
 use Rattle.partial_state.specs.declared.extraction.ExtractionFrame.{ExtractionFrame}
 use Rattle.partial_state.specs.Routes.{held, ends_in, ends_of, Waiting}
 use Rattle.partial_state.specs.Routes.Laws.{held-long, held-count, held-carries, held-padded, held-ends}
+use Rattle.database.specs.Filing.{put_routes}
 use Rattle.partial_state.specs.Filings.{filed_in}
 use Rattle.partial_state.specs.Extractions.{Computation, Course, goes, stops, Opening, closing, opening, exceeding, partial_of, with_frontier, slotted_by, Taking}
 use Rattle.partial_state.specs.Reps.{Counts, frame_of, setting_of, Rep, Tells}
-use Rattle.partial_state.specs.Reps.Laws.{partly, tells-on, tells-refused, rep-wider, rep-grows}
+use Rattle.partial_state.specs.Reps.Laws.{untouched, tells-on, tells-refused, rep-wider, rep-grows}
 use Rattle.partial_state.specs.Reps.Rounds.{Opened, round-over, round-expand, round-many}
 use Rattle.partial.specs.declared.compute.Computed.TheVariants.{Done, Refused}
 use Rattle.partial_trial.specs.Expansions.{Roomy, Expanding, tries_of, Expanded}
-use Rattle.partial.specs.Rounds.{Grown, MadeRoom, Rounding, Rounded, Driving, Ends, run_from, DrivenTo}
+use Rattle.partial.specs.Rounds.Kept.{merged-kept}
+use Rattle.partial.specs.Rounds.{is_filed, Grown, MadeRoom, Rounding, Rounded, Driving, Ends, run_from, DrivenTo}
 use Rattle.partial_trial.specs.Expansions.Edges.{fits-same}
 
 -- ---- one round
@@ -205,7 +209,16 @@ select-fewer b (x ∷ l) = on (b x) (select-fewer b l)
     on true h = omega (arith, h)
     on false h = omega (arith, h)
 
+-- what is filed is what there is room for
+filed-first : (f : Filing) (ls ks : List Route) (ws : List ℕ) → take f.room ls ≡ take f.room ks → filed_in f ls ws ≡ filed_in f ks ws
+unfolding filed_in
+filed-first f ls ks ws e = ap (λ (l : List Route). put_routes base f.file f.first l ws) e
+
 -- ---- the loop
+
+-- what a test of `is_filed` that succeeded says
+pub filed-tests : (f : Filing) (found : ℕ) → is_filed f found ≡ true → (0 < f.room) × (f.room ≤ found)
+filed-tests f found e = let h = and-true (ltb 0 f.room) (leb f.room found) e in (ltb-true 0 f.room h.0, leb-true f.room found h.1)
 
 module _ {index : List ℕ} {f : Filing} {item₀ : List ℕ} {x : Computation} {ws₀ db₀ : List ℕ} (v : Driving index f item₀ x ws₀ db₀) where
   abbrev g : View
@@ -225,6 +238,20 @@ module _ {index : List ℕ} {f : Filing} {item₀ : List ℕ} {x : Computation} 
     pub expanded : on.budget.expanded ≤ max_expansions
     pub same : run_from (frame_of on) v.graph f.file (max_expansions - on.budget.expanded) state ≡ whole
 
+  -- as many are found as there is room for: no other is filed behind them
+  pub turn-filed : {on : Computation} {ws db : List ℕ} → Turning on ws db → 0 < f.room → f.room ≤ on.found → (s : PartialPathStats) → DrivenTo index f item₀ x ws₀ db₀ v (Done s) db
+  turn-filed {on} {db} t h k s = told whole t.same
+    where
+      more : (l : List Route) (r : Route) → (f.room ≤ length l) × (take f.room l ≡ take f.room t.state.kept) → (f.room ≤ length (l ++ (r ∷ []))) × (take f.room (l ++ (r ∷ [])) ≡ take f.room t.state.kept)
+      more l r p = (omega (arith, p.0, length-append l (r ∷ [])), take-append-le f.room l (r ∷ []) p.0 ∙ p.1)
+
+      told : (y : Answer PartialPathRefusal (State Route)) → run_from (frame_of on) v.graph f.file (max_expansions - on.budget.expanded) t.state ≡ y → Ends f v.origin (Done s) db y
+      told (refuse r) e = h
+      told (ok u) e =
+          let c : f.room ≤ length t.state.kept = omega (arith, k, t.stood.counts.found) in
+          let w = merged-kept (setting_of (frame_of on)) (λ l. (f.room ≤ length l) × (take f.room l ≡ take f.room t.state.kept)) more (trying (frame_of on)) u (max_expansions - on.budget.expanded) t.state (c, refl) e in
+          (λ z. absurd (omega (arith, h, z)), t.stood.filed ∙ sym (filed-first f u.kept t.state.kept v.origin w.1))
+
   pub turn-start : Turning x ws₀ db₀
   turn-start = record { state = v.model; stood = v.rep; looked = v.looked; expanded = v.expanded; same = refl }
 
@@ -234,13 +261,13 @@ module _ {index : List ℕ} {f : Filing} {item₀ : List ℕ} {x : Computation} 
         let d = round-over g f v.origin on ws db t.state t.stood a item' ws' n k e in
         let w = run-over (setting_of (frame_of on)) (trying (frame_of on)) (max_expansions - on.budget.expanded) (merge on.frontier.order t.state) d.model d.round in
         subst (λ (y : Answer PartialPathRefusal (State Route)). Ends f v.origin (Done s) db y) (sym (sym t.same ∙ w))
-        (q ∙ finished d.counts d.waited, ap (λ (y : PartialPathStats). y.found) q ∙ d.counts.found, t.stood.filed ∙ ap (λ (l : List Route). filed_in f l v.origin) (sym d.kept))
+        (λ z. (q ∙ finished d.counts d.waited, ap (λ (y : PartialPathStats). y.found) q ∙ d.counts.found), t.stood.filed ∙ ap (λ (l : List Route). filed_in f l v.origin) (sym d.kept))
 
     pub turn_many : a ≡ exceeding → DrivenTo index f item₀ x ws₀ db₀ v (Refused TooManyExpansions) db
     turn_many e =
         let d = round-many g f v.origin on ws db t.state t.stood a item' ws' k e in
         let w = run-many (setting_of (frame_of on)) (trying (frame_of on)) (max_expansions - on.budget.expanded) (merge on.frontier.order t.state) d.route d.model d.round (omega (arith, d.before)) in
-        subst (λ (y : Answer PartialPathRefusal (State Route)). Ends f v.origin (Refused TooManyExpansions) db y) (sym (sym t.same ∙ w)) (refl, partly t.stood)
+        subst (λ (y : Answer PartialPathRefusal (State Route)). Ends f v.origin (Refused TooManyExpansions) db y) (sym (sym t.same ∙ w)) (refl, untouched t.stood)
 
     module _ (next : Computation) (e : a ≡ opening next) (long : length db ≡ length db₀) where
       opened : Opened g f v.origin on ws db t.state t.stood item' ws' next

@@ -27,13 +27,13 @@ use Rattle.partial_state.specs.declared.extraction.ExtractionFrame.{ExtractionFr
 use Rattle.partial_state.specs.Routes.{held, ends_of, Waiting}
 use Rattle.partial_state.specs.Routes.Laws.{held-count, held-carries, held-padded}
 use Rattle.partial_state.specs.Filings.{filed_next}
-use Rattle.partial_state.specs.Filings.Laws.{filed-next}
+use Rattle.partial_state.specs.Filings.Laws.{filed-next, filed-nowhere}
 use Rattle.partial_state.specs.Extractions.{Computation, Course, goes, stops, with_budget, with_frontier, cut_one, found_one, counting, course_of, Extends, Grows}
-use Rattle.partial_state.specs.Reps.{Few, frame_of, setting_of, Rep, PartlyFiled, Tells, Extendable, ExtendsTo}
+use Rattle.partial_state.specs.Reps.{Few, frame_of, setting_of, Rep, Untouched, Tells, Extendable, ExtendsTo}
 
 module _ {g : View} {f : Filing} {origin : List ℕ} {x : Computation} {ws db : List ℕ} {m : State Route} (rep : Rep g f origin x ws db m) where
-  pub partly : PartlyFiled f origin db
-  partly = (m.kept, rep.filed)
+  pub untouched : Untouched f origin db
+  untouched e = rep.filed ∙ filed-nowhere f m.kept origin e
 
   -- ---- an edge is looked at
   abbrev pub looked_at : State Route
@@ -115,7 +115,7 @@ module _ {g : View} {f : Filing} {origin : List ℕ} {x : Computation} {ws db : 
               },
             ))
         on Pushed.Full e =
-            subst (λ (y : Answer PartialPathRefusal (State Route)). Tells g f origin (frame_of x) (stops NoWaitingSlot) ws' db y) (sym (stands-full (held x.frontier.length) (setting_of (frame_of x)) NoWaitingSlot x.frontier refl ws m q h.pushed ws' h.pushes rep.stands e)) (refl, partly)
+            subst (λ (y : Answer PartialPathRefusal (State Route)). Tells g f origin (frame_of x) (stops NoWaitingSlot) ws' db y) (sym (stands-full (held x.frontier.length) (setting_of (frame_of x)) NoWaitingSlot x.frontier refl ws m q h.pushed ws' h.pushes rep.stands e)) (refl, untouched)
 
 -- ---- the waiting slots get more words
 
@@ -186,7 +186,7 @@ module _ (g : View) (f : Filing) (origin : List ℕ) (fr : ExtractionFrame) wher
   tells-on (goes y) ws db (refuse r) x h e = absurd h
   tells-on (stops r) ws db t x h e = absurd (going-refused x r (sym e))
 
-  pub tells-refused : (a : Course) (ws db : List ℕ) (t : Answer PartialPathRefusal (State Route)) (r : PartialPathRefusal) → Tells g f origin fr a ws db t → a ≡ stops r → (t ≡ refuse r) × PartlyFiled f origin db
+  pub tells-refused : (a : Course) (ws db : List ℕ) (t : Answer PartialPathRefusal (State Route)) (r : PartialPathRefusal) → Tells g f origin fr a ws db t → a ≡ stops r → (t ≡ refuse r) × Untouched f origin db
   tells-refused (goes x) ws db t r h e = absurd (going-refused x r e)
   tells-refused (stops y) ws db (ok m) r h e = absurd h
   tells-refused (stops y) ws db (refuse z) r h e = let w : y ≡ r = cc in (ap (λ (v : PartialPathRefusal). refuse v) (sym h.0 ∙ w), h.1)

@@ -56,7 +56,7 @@ module _ {R W : Type 0} (c : Setting R) (mine : ℕ → Bool) (judge : ℕ → T
       on false h = let m : s.tally.looked ≡ u.tally.looked = ap (λ (x : State W). x.tally.looked) (ok-inj s u h) in omega (arith, m)
 
 pub fits-same : {f : Filing} {db : List ℕ} (db' : List ℕ) → length db' ≡ length db → Fits f db → Fits f db'
-fits-same db' e h = record { inside = omega (arith, e, h.inside); named = h.named; few = h.few }
+fits-same db' e h = record { inside = omega (arith, e, h.inside); named = h.named }
 
 module _ {most : ℕ} {index : List ℕ} {f : Filing} {ends : Ends} {k : ℕ} {item₀ : List ℕ} {x : Computation} {ws₀ db₀ : List ℕ} (w : Expanding most index f ends k item₀ x ws₀ db₀) where
   abbrev v : Given most index f ends.start k item₀ x ws₀ db₀

@@ -35,7 +35,7 @@ use Rattle.partial_state.specs.Routes.{held, ends_of, Waiting}
 use Rattle.partial_state.specs.Routes.Laws.{held-count, held-snoc, traced-snoc}
 use Rattle.partial_state.specs.Extractions.{Computation, Course, goes, stops, with_budget, cut_one}
 use Rattle.partial_state.specs.Reps.{frame_of, setting_of, Tells, Extendable, ExtendsTo}
-use Rattle.partial_state.specs.Reps.Laws.{partly, looked_at, rep-looked, rep-cut, rep-overlong}
+use Rattle.partial_state.specs.Reps.Laws.{untouched, looked_at, rep-looked, rep-cut, rep-overlong}
 use Rattle.partial_trial.specs.declared.expand.Sought.{Sought}
 use Rattle.partial_trial.specs.Expansions.{sought_from, leads_to, is_sought, Given, Looking, Owning, Trying, judge_of, Lengthened, Tried, Looked}
 
@@ -121,7 +121,7 @@ module _ {most : ℕ} {index : List ℕ} {f : Filing} {start k e : ℕ} {item : 
     pub tried-bound : a.allowed ≡ true → max_edges ≤ k → Tried most index f start k e item x ws db t (stops TooLong) item ws db
     unfolding one judged
     tried-bound n m = record {
-      tells = rw (judge-bound x.budget.max_length g v.route e (has-is h ∙ y) (within-is (asked-within (k + 1) x.budget is n)) (omega (arith, m, v.count))) (refl, partly v.rep);
+      tells = rw (judge-bound x.budget.max_length g v.route e (has-is h ∙ y) (within-is (asked-within (k + 1) x.budget is n)) (omega (arith, m, v.count))) (refl, untouched v.rep);
       carries = v.carries;
     }
 
@@ -219,7 +219,7 @@ module _ (f : ℕ) (own : Sought) (t : Node) where
   to_none h k = rw (h, k)
 
 -- what its two ends tell is whose it is
-pub sought-owned : (g : View) (f e : ℕ) (s t : NodeId) (p : ℤ) → g.edge e ≡ E.Live s t p → is_sought f (sought_from f (g.node s.0)) (g.node t.0) ≡ owned_by g f e
+sought-owned : (g : View) (f e : ℕ) (s t : NodeId) (p : ℤ) → g.edge e ≡ E.Live s t p → is_sought f (sought_from f (g.node s.0)) (g.node t.0) ≡ owned_by g f e
 unfolding owned_by is_fileless belongs is_of_file sought_from leads_to
 sought-owned g f e s t p live = on (eqb f nobody) ∙ sym (ap (λ (x : Edge). pick (eqb f nobody) (is_fileless g x) (is_of_file g f x)) live)
   where

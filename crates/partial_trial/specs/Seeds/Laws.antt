@@ -1,7 +1,7 @@
 -- The starts: each push is the enumeration's, and the seeding from here is the seeding from the start.
 -- Serves document 01, "Partial paths"; 31 of "Turned back".
-use Rattle.std.specs.Prelude.{ℕ, suc, ◌+◌, ◌<◌, ◌≤◌, ◌≡◌, Bool, eqb, ltb, length, drop}
-use Rattle.std.proofs.Common.{arith, add-one, ◌∙◌, ne_eqb, drop_of_length-le}
+use Rattle.std.specs.Prelude.{ℕ, suc, ◌+◌, ◌<◌, ◌≤◌, ◌≡◌, Bool, eqb, length, drop}
+use Rattle.std.proofs.Common.{arith, add-one, ◌∙◌, drop_of_length-le}
 use Rattle.std.proofs.Math.Path.{refl, sym, ap, subst}
 use Rattle.std.proofs.Math.Bool.{true, false}
 use mathlib.Core.List.{List, ◌∷◌, map}
@@ -18,8 +18,7 @@ use Rattle.semantics.specs.Enumeration.{State, Setting, push_item}
 use Rattle.semantics.specs.Enumeration as Enumeration
 use Rattle.semantics.specs.PartialPaths.{Route, route_at, starts_from}
 use Rattle.semantics.specs.Demand.{stay}
-use Rattle.storage.specs.Index.{KIND, FILE, cell, node_row, Loaded}
-use Rattle.storage.specs.Index.Laws.{file-row}
+use Rattle.storage.specs.Index.{node_row, Loaded}
 use Rattle.words.specs.Slots.{IsSlot}
 use Rattle.path_frontier.specs.Frontier.{Framed}
 use Rattle.partial_state.specs.Routes.{held, Traced}
@@ -173,13 +172,3 @@ module _ {item : List ℕ} {x : Computation} {ws : List ℕ} (v : Seeding item x
   root-on g file q next e item' l b ws'' h =
       let u = rooted next e in
       rw (u.1, q) (subst (λ (y : ExtractionFrame). Tells v.view v.filing v.origin y b ws'' v.database (Enumeration.seed (setting_of y) u.0 (map route_at (starts_from file 0 g.nodes)))) u.2 h)
-
--- ---- a node with another word of the file
-
-pub other-file : (l : List ℕ) (n f : ℕ) → (cell l FILE n ≡ f → ⊥) → false ≡ is_file f (file_of (node_row l n))
-other-file l n f d = sym (file-row l n f ∙ on (ltb (cell l KIND n) 3) (ltb 8 (cell l KIND n)))
-  where
-    on : (a b : Bool) → pick a false (pick b false (eqb (cell l FILE n) f)) ≡ false
-    on true b = refl
-    on false true = refl
-    on false false = ne_eqb (cell l FILE n) f d

@@ -5,17 +5,24 @@ use lib.ListN.{length}
 use Rattle.semantics.specs.Limits.{slot_length}
 use Rattle.partial_state.specs.declared.extraction.ExtractionFrame.{ExtractionFrame}
 use Rattle.partial_state.specs.Extractions.{at, slotted_by, going_at, taken_at}
-use Rattle.partial.specs.Rounds.Laws.{room-frame, Turning, turn-start, turn-over, turn_many, turn-framed, turn-short, turn-given, turn-refused, turn-counts, turn-again}
+use Rattle.partial.specs.Rounds.Laws.{room-frame, Turning, filed-tests, turn-filed, turn-start, turn-over, turn_many, turn-framed, turn-short, turn-given, turn-refused, turn-counts, turn-again}
 use Rattle.partial.proofs.compute.drive.Goals as goal
 
-pub loop-last-init : goal.loop-last-init
-loop-last-init c =
+pub loop-filing-init : goal.loop-filing-init
+loop-filing-init c =
     (refl, refl, refl, λ v. turn-start v)
+
+pub returns-then-is_filed : goal.returns-then-is_filed
+returns-then-is_filed c =
+    let a = c.args in
+    let l = c.loop-filing in
+    let h = filed-tests a.filing l.on.found (sym c.is_filed.ensures ∙ c.if-is_filed.true) in
+    λ v. turn-filed v (l.invariant.3 v) h.0 h.1 c.uncounted.result
 
 pub take_front-requires : goal.take_front-requires
 take_front-requires c =
     let p = c.requires in
-    let l = c.loop-last in
+    let l = c.loop-filing in
     let t = (subst (λ (f : ExtractionFrame). Turning p (at f l.on) l.work l.words) (sym c.with_slot-within.ensures) (l.invariant.3 p)) in
     (t.stood.stands.0.framed, omega (arith, t.stood.sized.most, l.invariant.0, p.slot), omega (arith, t.expanded))
 
@@ -23,7 +30,7 @@ pub returns-in-Over : goal.returns-in-Over
 returns-in-Over c =
     let take-front = c.take_front in
     let with-slot = c.with_slot-within in
-    let l = c.loop-last in
+    let l = c.loop-filing in
     λ v.
     turn-over v (subst (λ (f : ExtractionFrame). Turning v (at f l.on) l.work l.words) (sym with-slot.ensures) (l.invariant.3 v))
     take-front.ensures (at with-slot.result c.in-Over.last)
@@ -33,7 +40,7 @@ pub returns-in-TooMany : goal.returns-in-TooMany
 returns-in-TooMany c =
     let take-front = c.take_front in
     let with-slot = c.with_slot-within in
-    let l = c.loop-last in
+    let l = c.loop-filing in
     λ v.
     turn_many v (subst (λ (f : ExtractionFrame). Turning v (at f l.on) l.work l.words) (sym with-slot.ensures) (l.invariant.3 v))
     take-front.ensures (ap (taken_at with-slot.result) c.in-TooMany.is)
@@ -43,7 +50,7 @@ make_room-ready-requires c =
     let take-front = c.take_front in
     let with-slot = c.with_slot-within in
     let taken_at-is = ap (taken_at with-slot.result) c.in-Expand.is in
-    let l = c.loop-last in
+    let l = c.loop-filing in
     let p = c.requires in
     let turning = subst (λ (f : ExtractionFrame). Turning p (at f l.on) l.work l.words) (sym with-slot.ensures) (l.invariant.3 p) in
     let u = turn-framed p turning take-front.ensures (at with-slot.result c.in-Expand.next) taken_at-is l.invariant.2 in (
@@ -58,7 +65,7 @@ round_front-requires c =
     let make-room = c.make_room-ready in
     let take-front = c.take_front in
     let with-slot = c.with_slot-within in
-    let l = c.loop-last in
+    let l = c.loop-filing in
     let p = c.requires in
     let v = turn-given p (subst (λ (f : ExtractionFrame). Turning p (at f l.on) l.work l.words) (sym with-slot.ensures) (l.invariant.3 p))
     take-front.ensures (at with-slot.result c.in-Expand.next) (ap (taken_at with-slot.result) c.in-Expand.is) l.invariant.2
@@ -67,14 +74,14 @@ round_front-requires c =
     let n : length make-room.new.item ≡ slot_length = make-room.auto.item ∙ take-front.auto.item ∙ l.invariant.0 ∙ p.slot in
     (v, omega (arith, v.rep.sized.most, n))
 
-pub loop-last-smaller : goal.loop-last-smaller
-loop-last-smaller c =
+pub loop-filing-smaller : goal.loop-filing-smaller
+loop-filing-smaller c =
     let round-front = c.round_front in
     let make-room = c.make_room-ready in
     let take-front = c.take_front in
     let with-slot = c.with_slot-within in
     let taken_at-is = ap (taken_at with-slot.result) c.in-Expand.is in
-    let l = c.loop-last in
+    let l = c.loop-filing in
     let p = c.requires in
     let turning = subst (λ (f : ExtractionFrame). Turning p (at f l.on) l.work l.words) (sym with-slot.ensures) (l.invariant.3 p) in
     let h = turn-counts p turning take-front.ensures (at with-slot.result c.in-Expand.next) taken_at-is l.invariant.2
@@ -85,14 +92,14 @@ loop-last-smaller c =
     make-room.ensures)) (at make-room.result c.in-On.s) (ap (going_at make-room.result) c.in-On.is) in
     omega (arith, h.0, h.1)
 
-pub loop-last-preserved : goal.loop-last-preserved
-loop-last-preserved c =
+pub loop-filing-preserved : goal.loop-filing-preserved
+loop-filing-preserved c =
     let round-front = c.round_front in
     let make-room = c.make_room-ready in
     let take-front = c.take_front in
     let with-slot = c.with_slot-within in
     let taken_at-is = ap (taken_at with-slot.result) c.in-Expand.is in
-    let l = c.loop-last in (
+    let l = c.loop-filing in (
       round-front.auto.item ∙ make-room.auto.item ∙ take-front.auto.item ∙ l.invariant.0,
       round-front.auto.work ∙ make-room.auto.work ∙ take-front.auto.work ∙ l.invariant.1,
       round-front.auto.words ∙ l.invariant.2,
@@ -118,7 +125,7 @@ returns-in-Refused c =
     let take-front = c.take_front in
     let with-slot = c.with_slot-within in
     let taken_at-is = ap (taken_at with-slot.result) c.in-Expand.is in
-    let l = c.loop-last in
+    let l = c.loop-filing in
     λ v.
     let turning = subst (λ (f : ExtractionFrame). Turning v (at f l.on) l.work l.words) (sym with-slot.ensures) (l.invariant.3 v) in
     turn-refused v turning take-front.ensures (at with-slot.result c.in-Expand.next) taken_at-is l.invariant.2 take-front.new.item refl

@@ -1,50 +1,63 @@
--- `replace::replace_owner`: the computation files what it finds; what a refused one filed is taken back.
-use native.Mathlib.Omega.{arith}
-use mathlib.Core.Path.{ap}
-use Prim.Native.Nat.{ℕ, ◌-◌}
-use Rattle.semantics.specs.Database.{capacity}
-use Rattle.partial.specs.Replacements.Laws.{computes-in, owner-files, owner-back, owner-refused, owner-found, owner-done}
+use Rattle.partial.specs.Replacements.Laws.{counting-computes, replaced-refused, counted-asks, replaced-full, storing, replaced-done}
 use Rattle.partial.proofs.replace.replace_owner.Goals as goal
-
-pub overflow_sub-filing : goal.overflow_sub-filing
-overflow_sub-filing c = omega (arith, c.requires.0.used, c.number-first.ensures.0, c.capacity.ensures)
 
 pub compute-requires : goal.compute-requires
 compute-requires c =
     let a = c.args in
     let p = c.requires in
-    computes-in (owner-files a.owner a.config a.work.now p.0 p.1 c.number-first.ensures.0 (ap (λ (k : ℕ). k - c.number-first.result) c.capacity.ensures))
+    counting-computes a.owner a.config a.work.now p.0 p.1 c.number-first.ensures.0
 
-pub take_back-requires : goal.take_back-requires
-take_back-requires c =
+pub has_room-requires : goal.has_room-requires
+has_room-requires c =
+    let compute = c.compute in
+    let number = c.number-first in
     let a = c.args in
     let p = c.requires in
-    owner-back a.owner a.config a.work.now p.0 p.1 c.number-first.ensures.0 (ap (λ (k : ℕ). k - c.number-first.result) c.capacity.ensures)
-    c.compute.result c.compute.new.words c.compute.ensures c.in-Refused.r c.in-Refused.is
+    counted-asks a.owner a.config a.work.now p.0 p.1 number.ensures.0 compute.result
+    compute.new.words compute.ensures c.in-Done.stats c.in-Done.is
 
-pub file_found-requires : goal.file_found-requires
-file_found-requires c =
+pub store-requires : goal.store-requires
+store-requires c =
+    let compute = c.compute in
+    let number = c.number-first in
     let a = c.args in
     let p = c.requires in
-    owner-found a.owner a.config a.work.now p.0 p.1 c.number-first.ensures.0 (ap (λ (k : ℕ). k - c.number-first.result) c.capacity.ensures)
-    c.compute.result c.compute.new.words c.compute.ensures c.in-Done.stats c.in-Done.is c.compute.new.work c.compute.auto.work
+    storing a.owner a.config a.work.now p.0 p.1 number.ensures.0 compute.result compute.new.words
+    compute.ensures c.in-Done.stats c.in-Done.is c.has_room.ensures c.if-has_room.true
+    compute.new.work compute.auto.work
+
+pub returns-then-has_room : goal.returns-then-has_room
+returns-then-has_room c =
+    let if1 = c.if-has_room in
+    let has_room = c.has_room in
+    let compute = c.compute in
+    let number = c.number-first in
+    let a = c.args in
+    let p = c.requires in
+    λ v.
+    replaced-done a.owner a.config a.work.now v p.1 number.ensures.0 compute.result
+    compute.new.words compute.ensures c.in-Done.stats c.in-Done.is has_room.ensures if1.true
+    compute.new.work compute.auto.work
+    (c.store.ensures (storing a.owner a.config a.work.now v p.1 number.ensures.0 compute.result
+    compute.new.words compute.ensures c.in-Done.stats c.in-Done.is has_room.ensures if1.true
+    compute.new.work compute.auto.work))
 
 pub returns-in-Refused : goal.returns-in-Refused
 returns-in-Refused c =
+    let compute = c.compute in
+    let number = c.number-first in
     let a = c.args in
     let p = c.requires in
     λ v.
-    owner-refused a.owner a.config a.work.now v p.1 c.number-first.ensures.0 (ap (λ (k : ℕ). k - c.number-first.result) c.capacity.ensures)
-    c.compute.result c.compute.new.words c.compute.ensures c.in-Refused.r c.in-Refused.is c.take_back.ensures
+    replaced-refused a.owner a.config a.work.now v p.1 number.ensures.0 compute.result
+    compute.new.words compute.ensures c.in-Refused.r c.in-Refused.is
 
-pub returns-in-Done : goal.returns-in-Done
-returns-in-Done c =
+pub returns-else-has_room : goal.returns-else-has_room
+returns-else-has_room c =
+    let compute = c.compute in
+    let number = c.number-first in
     let a = c.args in
     let p = c.requires in
-    let left = ap (λ (k : ℕ). k - c.number-first.result) c.capacity.ensures in
     λ v.
-    owner-done a.owner a.config a.work.now v p.1 c.number-first.ensures.0 left
-    c.compute.result c.compute.new.words c.compute.ensures c.in-Done.stats c.in-Done.is c.compute.new.work c.compute.auto.work
-    c.file_found.result c.file_found.new.words
-    (c.file_found.ensures (owner-found a.owner a.config a.work.now v p.1 c.number-first.ensures.0 left
-    c.compute.result c.compute.new.words c.compute.ensures c.in-Done.stats c.in-Done.is c.compute.new.work c.compute.auto.work))
+    replaced-full a.owner a.config a.work.now v p.1 number.ensures.0 compute.result
+    compute.new.words compute.ensures c.in-Done.stats c.in-Done.is c.has_room.ensures c.if-has_room.false
