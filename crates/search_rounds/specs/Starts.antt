@@ -79,12 +79,28 @@ pub record Begins (g : Graph) (o : SearchOrder) (l : SearchLimits) (ws rs : List
 abbrev pub StartedBy : Tries → List ℕ → Graph → SearchOrder → SearchLimits → List ℕ → List ℕ → ℕ → List ℕ → Going → List ℕ → List ℕ → List ℕ → Type 0
 StartedBy tries index g o l ws rs n item (Going.On t) steps ws' rs' =
     (v : Driving index steps item t ws' rs') × ((r : SearchEnd) (rs'' : List ℕ) → DrivenTo tries index steps item t ws' rs' v r rs'' → Ends r rs'' (answer_to tries g o l ws rs n))
-    × Begins g o l ws rs n index steps item t ws' rs' v
 StartedBy tries index g o l ws rs n item (Going.Refused z) steps ws' rs' = (rs'' : List ℕ) → Ends (SearchEnd.Refused z) rs'' (answer_to tries g o l ws rs n)
 
 -- for every choice of what is tried
 abbrev pub Started : List ℕ → SearchOrder → SearchLimits → List ℕ → List ℕ → ℕ → List ℕ → Going → List ℕ → List ℕ → List ℕ → Type 0
 Started index o l ws rs n item a steps ws' rs' = (tries : Tries) (g : Graph) → Loaded g index → StartedBy tries index g o l ws rs n item a steps ws' rs'
+
+-- the same, and that state is the first one: the path of the reference was pushed, and nothing else was done
+abbrev pub FirstStartedBy : Tries → List ℕ → Graph → SearchOrder → SearchLimits → List ℕ → List ℕ → ℕ → List ℕ → Going → List ℕ → List ℕ → List ℕ → Type 0
+FirstStartedBy tries index g o l ws rs n item (Going.On t) steps ws' rs' =
+    (v : Driving index steps item t ws' rs') × ((r : SearchEnd) (rs'' : List ℕ) → DrivenTo tries index steps item t ws' rs' v r rs'' → Ends r rs'' (answer_to tries g o l ws rs n))
+    × Begins g o l ws rs n index steps item t ws' rs' v
+FirstStartedBy tries index g o l ws rs n item (Going.Refused z) steps ws' rs' = (rs'' : List ℕ) → Ends (SearchEnd.Refused z) rs'' (answer_to tries g o l ws rs n)
+
+-- for every choice of what is tried
+abbrev pub FirstStarted : List ℕ → SearchOrder → SearchLimits → List ℕ → List ℕ → ℕ → List ℕ → Going → List ℕ → List ℕ → List ℕ → Type 0
+FirstStarted index o l ws rs n item a steps ws' rs' = (tries : Tries) (g : Graph) → Loaded g index → FirstStartedBy tries index g o l ws rs n item a steps ws' rs'
+
+-- what goes on from the first state goes on from a state
+pub begun-started : (tries : Tries) (index : List ℕ) (g : Graph) (o : SearchOrder) (l : SearchLimits) (ws rs : List ℕ) (n : ℕ) (item : List ℕ) (a : Going) (steps ws' rs' : List ℕ)
+    → FirstStartedBy tries index g o l ws rs n item a steps ws' rs' → StartedBy tries index g o l ws rs n item a steps ws' rs'
+begun-started tries index g o l ws rs n item (Going.On t) steps ws' rs' h = (h.0, h.1)
+begun-started tries index g o l ws rs n item (Going.Refused z) steps ws' rs' h = h
 
 -- the first push, for any bound on the expansions
 module _ (c : Setting SearchRefusal) (f : Path → List (Try SearchRefusal Path)) (n : ℕ) (p : Path) where
@@ -236,15 +252,18 @@ module _ (tries : Tries) {index : List ℕ} {g : Graph} (loaded : Loaded g index
             unfolding begin-driving pushed
             begin-begins = record { graph = refl; starts = start.started; frame = going.2; pushed = going.1; unexpanded = unexpanded }
 
-            on-started : StartedBy tries index g o l ws rs n item a steps ws' rs₀
-            on-started = subst (λ (b : Going). StartedBy tries index g o l ws rs n item b steps ws' rs₀) (sym d) (begin-driving, begin-driven, begin-begins)
+            on-begun : FirstStartedBy tries index g o l ws rs n item a steps ws' rs₀
+            on-begun = subst (λ (b : Going). FirstStartedBy tries index g o l ws rs n item b steps ws' rs₀) (sym d) (begin-driving, begin-driven, begin-begins)
+
+        pub begin-begun : {steps : List ℕ} → steps ≡ with_step (zeros steps_length) 0 s → FirstStartedBy tries index g o l ws rs n item a steps ws' rs₀
+        begin-begun {steps} laid = by a refl
+          where
+            by : (b : Going) → a ≡ b → FirstStartedBy tries index g o l ws rs n item a steps ws' rs₀
+            by (Going.On t) d = on-begun t d laid
+            by (Going.Refused z) d = subst (λ (b : Going). FirstStartedBy tries index g o l ws rs n item b steps ws' rs₀) (sym d) (begin-full z d)
 
         pub begin-started : {steps : List ℕ} → steps ≡ with_step (zeros steps_length) 0 s → StartedBy tries index g o l ws rs n item a steps ws' rs₀
-        begin-started {steps} laid = by a refl
-          where
-            by : (b : Going) → a ≡ b → StartedBy tries index g o l ws rs n item a steps ws' rs₀
-            by (Going.On t) d = on-started t d laid
-            by (Going.Refused z) d = subst (λ (b : Going). StartedBy tries index g o l ws rs n item b steps ws' rs₀) (sym d) (begin-full z d)
+        begin-started {steps} laid = begun-started tries index g o l ws rs n item a steps ws' rs₀ (begin-begun laid)
 
 -- ---- what a caller draws from the answer
 
@@ -260,9 +279,26 @@ module _ (tries : Tries) (index : List ℕ) (g : Graph) (o : SearchOrder) (l : S
     unfolding started-driving
     started-driven r rs'' k = onward.1 r rs'' k
 
-    pub started-begins : Begins g o l ws rs n index steps item t ws' rs' started-driving
-    unfolding started-driving
-    started-begins = onward.2
-
   pub started-refused : (z : SearchRefusal) → a ≡ Going.Refused z → (rs'' : List ℕ) → Ends (SearchEnd.Refused z) rs'' (answer_to tries g o l ws rs n)
   started-refused z d rs'' = subst (λ (b : Going). StartedBy tries index g o l ws rs n item b steps ws' rs') d h rs''
+
+-- ---- and from that it begins
+
+module _ (tries : Tries) (index : List ℕ) (g : Graph) (o : SearchOrder) (l : SearchLimits) (ws rs : List ℕ) (n : ℕ) (item : List ℕ) {a : Going} (steps ws' rs' : List ℕ) (h : FirstStartedBy tries index g o l ws rs n item a steps ws' rs') where
+  module _ (t : S.Search) (d : a ≡ Going.On t) where
+    onward_first : FirstStartedBy tries index g o l ws rs n item (Going.On t) steps ws' rs'
+    onward_first = subst (λ (b : Going). FirstStartedBy tries index g o l ws rs n item b steps ws' rs') d h
+
+    pub first-driving : Driving index steps item t ws' rs'
+    first-driving = onward_first.0
+
+    pub first-driven : (r : SearchEnd) (rs'' : List ℕ) → DrivenTo tries index steps item t ws' rs' first-driving r rs'' → Ends r rs'' (answer_to tries g o l ws rs n)
+    unfolding first-driving
+    first-driven r rs'' k = onward_first.1 r rs'' k
+
+    pub first-begins : Begins g o l ws rs n index steps item t ws' rs' first-driving
+    unfolding first-driving
+    first-begins = onward_first.2
+
+  pub first-refused : (z : SearchRefusal) → a ≡ Going.Refused z → (rs'' : List ℕ) → Ends (SearchEnd.Refused z) rs'' (answer_to tries g o l ws rs n)
+  first-refused z d rs'' = subst (λ (b : Going). FirstStartedBy tries index g o l ws rs n item b steps ws' rs') d h rs''

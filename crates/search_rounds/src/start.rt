@@ -3,7 +3,7 @@ ghost use Rattle.std.specs.Prelude.{◌≡◌, length};
 ghost use Rattle.storage.specs.Index.{HoldsGraph};
 ghost use Rattle.semantics.specs.Limits.{slot_length, steps_length};
 ghost use Rattle.semantics.specs.Words.{zeros};
-ghost use Rattle.search_rounds.specs.Starts.{Started};
+ghost use Rattle.search_rounds.specs.Starts.{Started, FirstStarted};
 
 use path_frontier::frontier::{Frontier, SHORT_SLOT};
 use search_state::search::{Going, Search};
@@ -26,7 +26,9 @@ pub fn start(
     res: &[u32],
 ) -> Going
     requires { HoldsGraph index.now × (steps.old ≡ zeros steps_length) × (item.now ≡ zeros slot_length) × (res.now ≡ zeros (length res.now)) }
-    ensures { Started index.now order limits work.old res.now reference item.now result steps.new
+    ensures started { Started index.now order limits work.old res.now reference item.now result steps.new
+        work.new res.now }
+    ensures begun { FirstStarted index.now order limits work.old res.now reference item.now result steps.new
         work.new res.now }
 {
     let begun = step::begin(index, reference);

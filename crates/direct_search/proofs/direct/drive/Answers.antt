@@ -99,8 +99,11 @@ loop-finished-preserved c =
 
 pub returns-in-Refused : goal.returns-in-Refused
 returns-in-Refused c =
-    let f = c.args.frame in record { driven_to = (λ v.
+    let f = c.args.frame in record {
+      driven_to = (λ v.
           let given = turn-given edge_tries v (tries-few v.loaded) c.loop-finished.invariant.0 (c.loop-finished.invariant.5 v) c.take.ensures (at f c.in-Expand.next) (ap (next_at f) c.in-Expand.is) in
-          turn-refused edge_tries v (tries-few v.loaded) c.loop-finished.invariant.0 (c.loop-finished.invariant.5 v) c.take.ensures (at f c.in-Expand.next) (ap (next_at f) c.in-Expand.is) (c.round.ensures.rounded given) c.in-Refused.r (ap (course_at f) c.in-Refused.is)); tallies = (λ x.
+          turn-refused edge_tries v (tries-few v.loaded) c.loop-finished.invariant.0 (c.loop-finished.invariant.5 v) c.take.ensures (at f c.in-Expand.next) (ap (next_at f) c.in-Expand.is) (c.round.ensures.rounded given) c.in-Refused.r (ap (course_at f) c.in-Refused.is));
+      tallies = (λ x.
           let given = turn-given edge_tries x.driving (tries-few x.driving.loaded) c.loop-finished.invariant.0 (c.loop-finished.invariant.7 x).turning c.take.ensures (at f c.in-Expand.next) (ap (next_at f) c.in-Expand.is) in
-          stand-refused x c.loop-finished.invariant.0 (c.loop-finished.invariant.7 x) c.take.ensures (at f c.in-Expand.next) (ap (next_at f) c.in-Expand.is) (c.round.ensures.rounded given) c.in-Refused.r (ap (course_at f) c.in-Refused.is)) }
+          stand-refused x c.loop-finished.invariant.0 (c.loop-finished.invariant.7 x) c.take.ensures (at f c.in-Expand.next) (ap (next_at f) c.in-Expand.is) (c.round.ensures.rounded given) c.in-Refused.r (ap (course_at f) c.in-Refused.is));
+    }

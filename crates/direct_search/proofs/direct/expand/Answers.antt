@@ -78,7 +78,8 @@ returns-in_default c =
     let budget = c.budget-budget in
     let a = c.args in
     let frame_is = ap (course_at a.frame) c.in_default.is in
-    let course_at-is = sym frame_is in record { expanded = λ v.
+    let course_at-is = sym frame_is in record {
+      expanded = λ v.
           let turning-of' = turning-of (omega arith) (l.invariant.4 v) l.invariant.3
           (pass-over.ensures (passing-of (omega arith) (l.invariant.4 v) budget.result l.invariant.3)) in
           subst (λ (g : Going).
@@ -86,7 +87,9 @@ returns-in_default c =
           onward.new.work onward.new.res) course_at-is
           (subst (λ (g : Going).
           Turned pass-over.result l.item a.k (at a.frame l.on) l.work l.res turning-of' g onward.new.item
-          onward.new.work onward.new.res) frame_is (onward.ensures turning-of')); clears = λ v. subst (λ (g : Going). Clears g onward.new.item) course_at-is tt }
+          onward.new.work onward.new.res) frame_is (onward.ensures turning-of'));
+      clears = λ v. subst (λ (g : Going). Clears g onward.new.item) course_at-is tt;
+    }
 
 pub beyond-link-requires : goal.beyond-link-requires
 beyond-link-requires c = c.requires.loaded.long
@@ -129,6 +132,9 @@ loop-link-preserved c =
 pub returns : goal.returns
 returns c =
     let l = c.loop-link in
-    let a = c.args in record { expanded = λ v.
+    let a = c.args in record {
+      expanded = λ v.
           mid-end looked_before a.index.now a.steps.now a.item.now a.k (at a.frame a.progress) a.work.now a.res.now v
-          (l.invariant.4 v) (omega (arith, c.loop-link-test.false)); clears = λ v. (l.invariant.4 v).clear }
+          (l.invariant.4 v) (omega (arith, c.loop-link-test.false));
+      clears = λ v. (l.invariant.4 v).clear;
+    }

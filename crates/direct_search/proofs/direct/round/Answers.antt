@@ -29,7 +29,10 @@ pub returns : goal.returns
 returns c =
     let expand = c.expand in
     let retrace = c.retrace in
-    let a = c.args in record { rounded = λ v.
+    let a = c.args in record {
+      rounded = λ v.
           rounded v {k = get_or a.item.now 0 0} refl retrace.new.steps retrace.auto.steps retrace.ensures
           (course_at a.frame expand.result) expand.new.work expand.new.res
-          (expand.ensures.expanded (round-given v {k = get_or a.item.now 0 0} refl retrace.new.steps retrace.auto.steps retrace.ensures)); clears = λ v. expand.ensures.clears (round-given v {k = get_or a.item.now 0 0} refl retrace.new.steps retrace.auto.steps retrace.ensures) }
+          (expand.ensures.expanded (round-given v {k = get_or a.item.now 0 0} refl retrace.new.steps retrace.auto.steps retrace.ensures));
+      clears = λ v. expand.ensures.clears (round-given v {k = get_or a.item.now 0 0} refl retrace.new.steps retrace.auto.steps retrace.ensures);
+    }

@@ -13,7 +13,7 @@ use Rattle.search_state.specs.declared.search.Search as S
 use Rattle.search_state.specs.Progresses.{at}
 use Rattle.search_state.specs.Progresses.Laws.{at-is}
 use Rattle.search_rounds.specs.Drives.{Driving, Ends, DrivenTo}
-use Rattle.search_rounds.specs.Starts.{answer_to, Begins, started-driving, started-driven, started-begins, started-refused}
+use Rattle.search_rounds.specs.Starts.{answer_to, Begins, first-driving, first-driven, first-begins, first-refused}
 use Rattle.direct_search.specs.DirectAnswers.{edge_tries}
 use Rattle.direct_search.specs.DirectAnswers.Laws.{direct-ends}
 use Rattle.direct_search.specs.Counting.{Counting, run_on, Tallies, none_kept}
@@ -32,7 +32,7 @@ drive-requires c =
     let w = c.start.new.work in
     let g = p.0.graph in (
       subst (λ (z : S.Search). Driving a.index.now s (replicate slot_length 0) z w a.res.now) (sym (at-is c.in-On.on c.frame.ensures c.progress.ensures))
-          (started-driving edge_tries a.index.now g a.order a.limits a.work.now a.res.now a.reference (replicate slot_length 0) s w a.res.now (c.start.ensures edge_tries g p.0.loaded) c.in-On.on c.in-On.is),
+          (first-driving edge_tries a.index.now g a.order a.limits a.work.now a.res.now a.reference (replicate slot_length 0) s w a.res.now (c.start.ensures.begun edge_tries g p.0.loaded) c.in-On.on c.in-On.is),
       low_zeros a.numbers.now (at c.frame.result c.progress.result) p.2,
     )
 
@@ -42,29 +42,35 @@ returns-in-On c =
     let p = c.requires in
     let s = c.start.new.steps in
     let w = c.start.new.work in
-    let d = c.drive.ensures in record { ends = (λ g l.
+    let d = c.drive.ensures in record {
+      ends = (λ g l.
           direct-ends g (request_of a.order a.limits a.work.now a.res.now a.reference) c.drive.result c.drive.new.res
-          (started-driven edge_tries a.index.now g a.order a.limits a.work.now a.res.now a.reference (replicate slot_length 0) s w a.res.now (c.start.ensures edge_tries g l) c.in-On.on c.in-On.is c.drive.result c.drive.new.res
+          (first-driven edge_tries a.index.now g a.order a.limits a.work.now a.res.now a.reference (replicate slot_length 0) s w a.res.now (c.start.ensures.begun edge_tries g l) c.in-On.on c.in-On.is c.drive.result c.drive.new.res
           (subst (λ (z : S.Search). (v : Driving a.index.now s (replicate slot_length 0) z w a.res.now) → DrivenTo edge_tries a.index.now s (replicate slot_length 0) z w a.res.now v c.drive.result c.drive.new.res) (at-is c.in-On.on c.frame.ensures c.progress.ensures) d.driven_to
-          (started-driving edge_tries a.index.now g a.order a.limits a.work.now a.res.now a.reference (replicate slot_length 0) s w a.res.now (c.start.ensures edge_tries g l) c.in-On.on c.in-On.is)))); tallies = (λ o m n g l.
-          let h = c.start.ensures edge_tries g l in
-          let v = started-driving edge_tries a.index.now g a.order a.limits a.work.now a.res.now a.reference (replicate slot_length 0) s w a.res.now h c.in-On.on c.in-On.is in
+          (first-driving edge_tries a.index.now g a.order a.limits a.work.now a.res.now a.reference (replicate slot_length 0) s w a.res.now (c.start.ensures.begun edge_tries g l) c.in-On.on c.in-On.is))));
+      tallies = (λ o m n g l.
+          let h = c.start.ensures.begun edge_tries g l in
+          let v = first-driving edge_tries a.index.now g a.order a.limits a.work.now a.res.now a.reference (replicate slot_length 0) s w a.res.now h c.in-On.on c.in-On.is in
           let b = subst (λ (y : SearchOrder). Begins g y none_kept a.work.now a.res.now a.reference a.index.now s (replicate slot_length 0) c.in-On.on w a.res.now v) o
           (subst (λ (y : SearchLimits). Begins g a.order y a.work.now a.res.now a.reference a.index.now s (replicate slot_length 0) c.in-On.on w a.res.now v) m
-          (started-begins edge_tries a.index.now g a.order a.limits a.work.now a.res.now a.reference (replicate slot_length 0) s w a.res.now h c.in-On.on c.in-On.is)) in
+          (first-begins edge_tries a.index.now g a.order a.limits a.work.now a.res.now a.reference (replicate slot_length 0) s w a.res.now h c.in-On.on c.in-On.is)) in
           start-tallied v b c.drive.result c.drive.new.numbers
           (subst (λ (ns : List ℕ). (x : Counting a.index.now s (replicate slot_length 0) c.in-On.on w a.res.now ns) → Tallies c.drive.result c.drive.new.numbers (run_on x)) (p.2 ∙ ap zeros n)
           (subst (λ (z : S.Search). (x : Counting a.index.now s (replicate slot_length 0) z w a.res.now a.numbers.now) → Tallies c.drive.result c.drive.new.numbers (run_on x)) (at-is c.in-On.on c.frame.ensures c.progress.ensures) d.tallies)
-          (start-counting v b))) }
+          (start-counting v b)));
+    }
 
 pub returns-in-Refused : goal.returns-in-Refused
 returns-in-Refused c =
     let a = c.args in
     let s = c.start.new.steps in
-    let w = c.start.new.work in record { ends = (λ g l.
+    let w = c.start.new.work in record {
+      ends = (λ g l.
           direct-ends g (request_of a.order a.limits a.work.now a.res.now a.reference) (SearchEnd.Refused c.in-Refused.r) a.res.now
-          (started-refused edge_tries a.index.now g a.order a.limits a.work.now a.res.now a.reference (replicate slot_length 0) s w a.res.now (c.start.ensures edge_tries g l) c.in-Refused.r c.in-Refused.is a.res.now)); tallies = (λ o m n g l.
+          (first-refused edge_tries a.index.now g a.order a.limits a.work.now a.res.now a.reference (replicate slot_length 0) s w a.res.now (c.start.ensures.begun edge_tries g l) c.in-Refused.r c.in-Refused.is a.res.now));
+      tallies = (λ o m n g l.
           start-refused g a.work.now a.res.now a.reference c.in-Refused.r a.res.now a.numbers.now
           (subst (λ (y : SearchOrder). Ends (SearchEnd.Refused c.in-Refused.r) a.res.now (answer_to edge_tries g y none_kept a.work.now a.res.now a.reference)) o
           (subst (λ (y : SearchLimits). Ends (SearchEnd.Refused c.in-Refused.r) a.res.now (answer_to edge_tries g a.order y a.work.now a.res.now a.reference)) m
-          (started-refused edge_tries a.index.now g a.order a.limits a.work.now a.res.now a.reference (replicate slot_length 0) s w a.res.now (c.start.ensures edge_tries g l) c.in-Refused.r c.in-Refused.is a.res.now)))) }
+          (first-refused edge_tries a.index.now g a.order a.limits a.work.now a.res.now a.reference (replicate slot_length 0) s w a.res.now (c.start.ensures.begun edge_tries g l) c.in-Refused.r c.in-Refused.is a.res.now))));
+    }

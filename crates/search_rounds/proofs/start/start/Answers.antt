@@ -6,7 +6,7 @@ use mathlib.Core.List.{List}
 use lib.ListN.{length, length-replicate}
 use Rattle.semantics.specs.Limits.{steps_length}
 use Rattle.stepping.specs.StepWords.{with_step}
-use Rattle.search_rounds.specs.Starts.{made-extends, made-pushable, begin-refused, begin-started}
+use Rattle.search_rounds.specs.Starts.{made-extends, made-pushable, begin-refused, begin-begun, begin-started}
 use Rattle.search_rounds.proofs.start.start.Goals as goal
 
 pub begin-begun-requires : goal.begin-begun-requires
@@ -28,9 +28,12 @@ push-requires c =
 pub returns-in-Refused : goal.returns-in-Refused
 returns-in-Refused c =
     let a = c.args in
-    λ tries g l rs.
-    begin-refused tries l a.order a.limits a.work.now a.res.now a.reference c.begin-begun.ensures rs
-    c.in-Refused.r c.in-Refused.is
+    record {
+      started = λ tries g l rs.
+          begin-refused tries l a.order a.limits a.work.now a.res.now a.reference c.begin-begun.ensures rs c.in-Refused.r c.in-Refused.is;
+      begun = λ tries g l rs.
+          begin-refused tries l a.order a.limits a.work.now a.res.now a.reference c.begin-begun.ensures rs c.in-Refused.r c.in-Refused.is;
+    }
 
 pub returns-in-Done : goal.returns-in-Done
 returns-in-Done c =
@@ -38,8 +41,15 @@ returns-in-Done c =
     let begin = c.begin-begun in
     let a = c.args in
     let p = c.requires in
-    λ tries g l.
-    begin-started tries l a.order a.limits a.work.now a.res.now a.reference begin.ensures c.in-Done.first
-    c.in-Done.is p.3 p.2 (made-extends a.order a.limits a.work.now a.res.now
-    c.new.ensures c.new-in-Done.ensures c.push.ensures)
-    (put_step.ensures ∙ ap (λ (z : List ℕ). with_step z 0 c.in-Done.first) p.1)
+    record {
+      started = λ tries g l.
+          begin-started tries l a.order a.limits a.work.now a.res.now a.reference begin.ensures c.in-Done.first
+          c.in-Done.is p.3 p.2 (made-extends a.order a.limits a.work.now a.res.now
+          c.new.ensures c.new-in-Done.ensures c.push.ensures)
+          (put_step.ensures ∙ ap (λ (z : List ℕ). with_step z 0 c.in-Done.first) p.1);
+      begun = λ tries g l.
+          begin-begun tries l a.order a.limits a.work.now a.res.now a.reference begin.ensures c.in-Done.first
+          c.in-Done.is p.3 p.2 (made-extends a.order a.limits a.work.now a.res.now
+          c.new.ensures c.new-in-Done.ensures c.push.ensures)
+          (put_step.ensures ∙ ap (λ (z : List ℕ). with_step z 0 c.in-Done.first) p.1);
+    }

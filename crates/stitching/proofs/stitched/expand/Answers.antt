@@ -58,11 +58,14 @@ returns-in_default c =
     let loop-test = c.loop-link-test in
     let l = c.loop-link in
     let a = c.args in
-    record { by_index = λ see d v.
+    record {
+      by_index = λ see d v.
           mid-refused d looked_before a.index.now a.steps.now a.item.now a.k a.search a.work.now a.res.now v l.invariant.0
           l.invariant.1 (l.invariant.4 see d v) (omega (arith, loop-test.true)) (omega arith)
           (try-partial.ensures (mid-given d looked_before a.index.now a.steps.now a.item.now a.k a.search a.work.now
-          a.res.now v l.invariant.0 l.invariant.1 (l.invariant.4 see d v) looked_ever (omega arith))) c.in_default.field-0 c.in_default.is; clears = λ v. subst (λ (g : Going). Clears g try-partial.new.item) (sym c.in_default.is) tt }
+          a.res.now v l.invariant.0 l.invariant.1 (l.invariant.4 see d v) looked_ever (omega arith))) c.in_default.field-0 c.in_default.is;
+      clears = λ v. subst (λ (g : Going). Clears g try-partial.new.item) (sym c.in_default.is) tt;
+    }
 
 pub next-link-requires : goal.next-link-requires
 next-link-requires c =
@@ -90,8 +93,7 @@ loop-link-preserved c =
     let try-partial = c.try_partial-going in
     let loop-test = c.loop-link-test in
     let l = c.loop-link in
-    let a = c.args in
-    (
+    let a = c.args in (
       try-partial.auto.steps ∙ l.invariant.0,
       try-partial.auto.item ∙ l.invariant.1,
       try-partial.auto.work ∙ l.invariant.2,
@@ -108,6 +110,9 @@ pub returns : goal.returns
 returns c =
     let l = c.loop-link in
     let a = c.args in
-    let p = c.requires in record { by_index = λ see d v.
+    let p = c.requires in record {
+      by_index = λ see d v.
           mid-end d looked_before a.index.now a.steps.now a.item.now a.k a.search a.work.now a.res.now v l.invariant.0
-          l.invariant.1 (l.invariant.4 see d v) (omega (arith, c.loop-link-test.false)); clears = λ v. (l.invariant.4 p.0.see p.0.linked v).clear }
+          l.invariant.1 (l.invariant.4 see d v) (omega (arith, c.loop-link-test.false));
+      clears = λ v. (l.invariant.4 p.0.see p.0.linked v).clear;
+    }

@@ -33,9 +33,12 @@ pub returns : goal.returns
 returns c =
     let expand = c.expand in
     let retrace = c.retrace in
-    let a = c.args in record { by_index = λ see d v.
+    let a = c.args in record {
+      by_index = λ see d v.
           rounded a.words.now v refl retrace.new.steps retrace.auto.steps retrace.ensures
           (expand.ensures.by_index see d
-          (round-given a.words.now v {k = get_or a.item.now 0 0} refl retrace.new.steps retrace.auto.steps retrace.ensures)); clears = λ v.
+          (round-given a.words.now v {k = get_or a.item.now 0 0} refl retrace.new.steps retrace.auto.steps retrace.ensures));
+      clears = λ v.
           expand.ensures.clears
-          (round-given a.words.now v {k = get_or a.item.now 0 0} refl retrace.new.steps retrace.auto.steps retrace.ensures) }
+          (round-given a.words.now v {k = get_or a.item.now 0 0} refl retrace.new.steps retrace.auto.steps retrace.ensures);
+    }

@@ -24,7 +24,7 @@ drive-requires c =
       record { see = sees a.visible.now; linked = c.link.ensures },
       started-driving (tries_in (sees a.visible.now) a.words.now) a.index.now p.0.graph a.order a.limits a.work.now a.res.now a.reference
           (replicate slot_length 0) start.new.steps start.new.work a.res.now
-          (start.ensures (tries_in (sees a.visible.now) a.words.now) p.0.graph p.0.loaded) c.in-On.on c.in-On.is,
+          (start.ensures.started (tries_in (sees a.visible.now) a.words.now) p.0.graph p.0.loaded) c.in-On.on c.in-On.is,
     )
 
 pub returns-in-On : goal.returns-in-On
@@ -33,7 +33,7 @@ returns-in-On c =
     let start = c.start in
     let a = c.args in
     λ g l.
-    let words = start.ensures (tries_in (sees a.visible.now) a.words.now) g l in
+    let words = start.ensures.started (tries_in (sees a.visible.now) a.words.now) g l in
     stitched-ends (sees a.visible.now) g a.words.now (request_of a.order a.limits a.work.now a.res.now a.reference) drive.result
     drive.new.res (started-driven (tries_in (sees a.visible.now) a.words.now) a.index.now g a.order a.limits a.work.now
     a.res.now a.reference (replicate slot_length 0) start.new.steps start.new.work a.res.now words
@@ -51,4 +51,4 @@ returns-in-Refused c =
     (SearchEnd.Refused c.in-Refused.r) a.res.now
     (started-refused (tries_in (sees a.visible.now) a.words.now) a.index.now g a.order a.limits a.work.now a.res.now a.reference
     (replicate slot_length 0) start.new.steps start.new.work a.res.now
-    (start.ensures (tries_in (sees a.visible.now) a.words.now) g l) c.in-Refused.r c.in-Refused.is a.res.now)
+    (start.ensures.started (tries_in (sees a.visible.now) a.words.now) g l) c.in-Refused.r c.in-Refused.is a.res.now)
