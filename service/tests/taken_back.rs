@@ -1,6 +1,5 @@
-//! Replacement files paths as they are found while the records behind the used slots
-//! are zeros. Whatever stands there, the answer and the words are those of document 01:
-//! a refused call alters no word, a replacement only its slots.
+//! Whatever stands in the records behind the used slots, the answer and the words are
+//! those of document 01: a refused call alters no word, a replacement only its slots.
 
 mod common;
 

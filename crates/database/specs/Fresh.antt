@@ -5,7 +5,6 @@ use Rattle.std.proofs.Common.{arith, ◌∙◌, ap, le-leb}
 use Rattle.std.proofs.lemmas.Bool.{lt-leb}
 use Rattle.semantics.specs.declared.refusal.ImageRefusal.{ImageRefusal}
 use Rattle.semantics.specs.declared.answer.Creation.{Creation}
-use Rattle.semantics.specs.declared.answer.Creation.TheVariants as Creation
 use Rattle.semantics.specs.Answer.{Answer, ok, refuse}
 use Rattle.semantics.specs.Graph.{Graph}
 use Rattle.semantics.specs.Told.{told_creation}

@@ -12,9 +12,7 @@ use Rattle.semantics.specs.Entries.{graph_in, fresh_database}
 use Rattle.semantics.specs.declared.search.SearchOrder.{SearchOrder}
 use Rattle.semantics.specs.declared.search.PartialPathStats.{PartialPathStats}
 use Rattle.semantics.specs.declared.answer.Creation.{Creation}
-use Rattle.semantics.specs.declared.answer.Creation.TheVariants as Creation
 use Rattle.semantics.specs.declared.answer.Replacement.{Replacement}
-use Rattle.semantics.specs.declared.answer.Replacement.TheVariants as Replacement
 use Rattle.semantics.specs.declared.search.Limit.TheVariants.{Absent}
 use Rattle.semantics.specs.Lists.{pick}
 use Rattle.semantics.specs.Limits.{base, nobody}

@@ -1,6 +1,6 @@
 -- The parts of a record, written one behind the other, are the record.
 -- Serves document 01, "Graph image": a count byte, the kind, the fields.
-use Rattle.std.specs.Prelude.{ℕ, ◌+◌, ◌≤◌, ◌<◌, ◌%◌, ◌≡◌, ◌⊎◌, Bool, true, false, List, [], ◌∷◌, ◌++◌, length}
+use Rattle.std.specs.Prelude.{ℕ, ◌+◌, ◌≤◌, ◌<◌, ◌%◌, ◌≡◌, Bool, true, false, List, [], ◌∷◌, ◌++◌, length}
 use Rattle.std.proofs.Common.{arith, sym, ap, ap₂, ◌∙◌, ⊎_elim, append_assoc}
 use Rattle.std.proofs.Math.Path.{refl}
 use Rattle.semantics.specs.declared.graph.Node.{Node}

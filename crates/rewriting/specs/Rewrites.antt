@@ -7,9 +7,7 @@ use Rattle.std.proofs.Math.Option.{Option, some}
 use Rattle.semantics.specs.declared.graph.Node.{Node}
 use Rattle.semantics.specs.declared.graph.Node.TheVariants as N
 use Rattle.semantics.specs.declared.answer.Checked.{Checked}
-use Rattle.semantics.specs.declared.answer.Checked.TheVariants as Checked
 use Rattle.semantics.specs.declared.answer.Rewriting.{Rewriting}
-use Rattle.semantics.specs.declared.answer.Rewriting.TheVariants as Rewriting
 use Rattle.semantics.specs.declared.refusal.ImageRefusal.{ImageRefusal}
 use Rattle.semantics.specs.declared.refusal.ImageRefusal.TheVariants as Image
 use Rattle.semantics.specs.Lists.{pick, and}
@@ -30,7 +28,7 @@ use Rattle.semantics.proofs.Theorems.Rewriting.Laws.{rewrite-does, rewrite-long,
 use Rattle.semantics.specs.Words.{zeros}
 use Rattle.image.specs.Reached.{is_sized}
 use Rattle.storage.specs.Index.{node_row, Loaded}
-use Rattle.storage.specs.Index.Use.{Accepted, answer-accepted}
+use Rattle.storage.specs.Index.Use.{answer-accepted}
 use Rattle.storage.specs.References.{First}
 use Rattle.rewriting.specs.Held.{nodes_in, graph_held, loaded-nodes, held}
 

@@ -27,7 +27,6 @@ use Rattle.reply.specs.Ends.Laws.{stand-lists}
 use Rattle.reply.specs.ResultSlots.{Lists}
 use Rattle.reply.specs.Replies.{reply_of, Replied}
 use Rattle.search_rounds.specs.declared.conclusion.SearchEnd.{SearchEnd}
-use Rattle.search_rounds.specs.declared.conclusion.SearchEnd.TheVariants as SearchEnd
 use Rattle.search_rounds.specs.Drives.{Ends}
 
 over-refused : (f : Finished) (x : SearchRefusal) → SearchEnd.Over f ≡ SearchEnd.Refused x → ⊥

@@ -27,7 +27,6 @@ use Rattle.semantics.specs.Calls.{setting_of}
 use Rattle.storage.specs.Index.{node_row, Loaded}
 use Rattle.semantics.specs.declared.replayed.Step.{Step}
 use Rattle.stepping.specs.declared.step.Effect.{Effect}
-use Rattle.stepping.specs.declared.step.Effect.TheVariants as Effect
 use Rattle.stepping.specs.StepWords.{with_step}
 use Rattle.stepping.specs.Judged.{Stepped, begun_of}
 use Rattle.stepping.specs.Judged.Laws.{Begun, begun-done, begun-refused}
@@ -41,7 +40,6 @@ use Rattle.path_frontier.specs.Frontier.Stands.{stands-blank}
 use Rattle.search_state.specs.declared.state.SearchState.{SearchState}
 use Rattle.search_state.specs.declared.search.Search as S
 use Rattle.search_state.specs.declared.search.Going.{Going}
-use Rattle.search_state.specs.declared.search.Going.TheVariants as Going
 use Rattle.search_state.specs.States.{new_state}
 use Rattle.search_state.specs.Searches.{Pushable, Extends}
 use Rattle.search_state.specs.Reps as R
@@ -50,7 +48,6 @@ use Rattle.search_state.specs.Progresses.{frame_of}
 use Rattle.search_state.specs.Reps.{slot_in, slot_of, Rep, Tells}
 use Rattle.search_state.specs.Reps.Laws.{push-tells, tells-on, tells-refused}
 use Rattle.search_rounds.specs.declared.conclusion.SearchEnd.{SearchEnd}
-use Rattle.search_rounds.specs.declared.conclusion.SearchEnd.TheVariants as SearchEnd
 use Rattle.search_rounds.specs.Drives.{Tries, Driving, Ends, run_from, DrivenTo}
 
 -- ---- the definition, from the first push on

@@ -2,7 +2,6 @@
 -- expansions. Numbers that are missing at the end count as 0. A linear search reads no order, a replacement no limit on complete expansions.
 use Rattle.std.specs.Prelude.{ℕ, Bool, true, false, List, ltb, get_or}
 use Rattle.semantics.specs.declared.search.Limit.{Limit}
-use Rattle.semantics.specs.declared.search.Limit.TheVariants as Limit
 use Rattle.semantics.specs.declared.search.SearchOrder.{SearchOrder}
 use Rattle.semantics.specs.declared.search.SearchOrder.TheVariants as Order
 use Rattle.semantics.specs.declared.search.SearchLimits.{SearchLimits}

@@ -8,9 +8,7 @@ use Rattle.semantics.specs.declared.search.SearchLimits.{SearchLimits}
 use Rattle.semantics.specs.declared.refusal.ImageRefusal.{ImageRefusal}
 use Rattle.semantics.specs.declared.refusal.SearchRefusal.{SearchRefusal}
 use Rattle.semantics.specs.declared.answer.Definitions.{Definitions}
-use Rattle.semantics.specs.declared.answer.Definitions.TheVariants as Definitions
 use Rattle.semantics.specs.declared.answer.Flow.{Flow}
-use Rattle.semantics.specs.declared.answer.Flow.TheVariants as Flow
 use Rattle.semantics.specs.Lists.{and, pick}
 use Rattle.semantics.specs.Limits.{Bounds, slot_words, isin_bytes, key_bytes, row_bytes}
 use Rattle.semantics.specs.Answer.{Answer, ok, refuse}

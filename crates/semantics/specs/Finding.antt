@@ -23,7 +23,6 @@ use Rattle.semantics.specs.Direct.{direct, search_setting}
 use Rattle.semantics.specs.Words.{zeros, whole_slots, area}
 use Rattle.semantics.specs.Calls.{Outcome}
 use Rattle.semantics.specs.declared.answer.Finding.{Finding}
-use Rattle.semantics.specs.declared.answer.Finding.TheVariants as Finding
 
 -- a name that was found: the reference, and the edges of its path
 pub record Name : Type 0 where

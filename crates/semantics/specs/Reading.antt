@@ -6,11 +6,8 @@ use Rattle.semantics.specs.declared.graph.Edge.{Edge}
 use Rattle.semantics.specs.declared.graph.Edge.TheVariants as E
 use Rattle.semantics.specs.declared.refusal.ImageRefusal.{ImageRefusal}
 use Rattle.semantics.specs.declared.answer.NodeReading.{NodeReading}
-use Rattle.semantics.specs.declared.answer.NodeReading.TheVariants as NodeReading
 use Rattle.semantics.specs.declared.answer.EdgeReading.{EdgeReading}
-use Rattle.semantics.specs.declared.answer.EdgeReading.TheVariants as EdgeReading
 use Rattle.semantics.specs.declared.answer.Listing.{Listing}
-use Rattle.semantics.specs.declared.answer.Listing.TheVariants as Listing
 use Rattle.semantics.specs.Answer.{Answer, ok, refuse}
 use Rattle.semantics.specs.Graph.{node_id, edge_id, Graph, view_of, traits}
 use Rattle.semantics.specs.Finding.{references_from}

@@ -3,7 +3,6 @@
 -- Document 02, order 10.
 use Rattle.std.specs.Prelude.{ℕ, suc, ◌+◌, ◌-◌, List, [], ◌∷◌, ◌++◌, leb, ltb, length, get_or, take, drop, set}
 use Rattle.semantics.specs.declared.answer.Entered.{Entered}
-use Rattle.semantics.specs.declared.answer.Entered.TheVariants as Entered
 use Rattle.semantics.specs.declared.answer.Trend.{Trend}
 use Rattle.semantics.specs.Lists.{pick, select, total}
 use Rattle.semantics.specs.Limits.{Bounds}

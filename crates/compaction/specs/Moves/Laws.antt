@@ -11,7 +11,6 @@ use borrow.Author.Tests.{lt-ltb, le-ltb}
 use Rattle.std.proofs.Math.ListN.{set, drop}
 use Rattle.std.proofs.Math.Seq.{drop-length, append_snoc, set-append_seam}
 use Rattle.semantics.specs.declared.answer.Compaction.{Compaction}
-use Rattle.semantics.specs.declared.answer.Compaction.TheVariants as Compaction
 use Rattle.semantics.specs.Limits.{Bounds, record_words}
 use Rattle.semantics.specs.Lists.{pick, cons_if}
 use Rattle.semantics.specs.Words.{zeros, slots_of}

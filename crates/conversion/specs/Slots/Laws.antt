@@ -10,7 +10,6 @@ use Rattle.std.proofs.Math.Dec.{leb}
 use Rattle.std.proofs.lemmas.List.{length-replicate, length-map}
 use Rattle.std.proofs.Math.Seq.{drop-cons}
 use Rattle.semantics.specs.declared.answer.Conversion.{Conversion}
-use Rattle.semantics.specs.declared.answer.Conversion.TheVariants as Conversion
 use Rattle.semantics.specs.Limits.{Bounds, record_words}
 use Rattle.semantics.specs.Lists.{and, pick}
 use Rattle.semantics.specs.Lists.Laws.{and-true}

@@ -23,7 +23,6 @@ use Rattle.semantics.specs.Words.{whole_slots}
 use Rattle.semantics.specs.Words.Laws.{length-slots, whole-fits}
 use Rattle.semantics.specs.Database.{used_in, nodes_in, files_in, capacity, records, slots_in, sound, every, well_formed, check_database, record_place}
 use Rattle.database.specs.declared.check.Inspected.{Inspected}
-use Rattle.database.specs.declared.check.Inspected.TheVariants as Inspected
 use Rattle.database.specs.Records.{Whole, record_at, owner_word, start_word, end_word, count_word, edge_words}
 use Rattle.database.specs.Records.Laws.{record-owner, record-start, record-count, record_is, slot-live}
 use Rattle.database.specs.Checks.{Live, inspected}

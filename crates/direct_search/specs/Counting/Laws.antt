@@ -32,10 +32,8 @@ use Rattle.semantics.specs.Tally.Laws.{lengths-more}
 use Rattle.semantics.specs.Entries.{request_of}
 use Rattle.search_state.specs.declared.search.Search as S
 use Rattle.search_state.specs.declared.search.Going.{Going}
-use Rattle.search_state.specs.declared.search.Going.TheVariants as Going
 use Rattle.search_state.specs.declared.search.Finished.{Finished}
 use Rattle.search_state.specs.declared.search.Taken.{Taken}
-use Rattle.search_state.specs.declared.search.Taken.TheVariants as Taken
 use Rattle.search_state.specs.declared.progress.Frame.{Frame}
 use Rattle.search_state.specs.Searches.{Clears, Taking}
 use Rattle.search_state.specs.Progresses.{frame_of}

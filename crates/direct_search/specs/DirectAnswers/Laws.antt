@@ -12,7 +12,6 @@ use Rattle.semantics.specs.declared.refusal.SearchRefusal.{SearchRefusal}
 use Rattle.semantics.specs.declared.refusal.SearchRefusal.TheVariants as Search
 use Rattle.semantics.specs.declared.refusal.ImageRefusal.{ImageRefusal}
 use Rattle.semantics.specs.declared.answer.Resolution.{Resolution}
-use Rattle.semantics.specs.declared.answer.Resolution.TheVariants as Resolution
 use Rattle.semantics.specs.Limits.{base, max_expansions}
 use Rattle.semantics.proofs.Theorems.Limits.Laws.{within-zero}
 use Rattle.semantics.specs.Answer.{Answer, ok, refuse}

@@ -15,7 +15,6 @@ use Rattle.stepping.specs.Judged.{Ready, judged_of}
 use Rattle.path_budget.specs.declared.budget.Budget.{Budget}
 use Rattle.search_state.specs.declared.search.Search as S
 use Rattle.search_state.specs.declared.search.Going.{Going}
-use Rattle.search_state.specs.declared.search.Going.TheVariants as Going
 use Rattle.search_state.specs.declared.dead_ends.DeadEnds.{DeadEnds}
 use Rattle.search_state.specs.Items.{with_edge}
 use Rattle.search_state.specs.declared.progress.Frame.{Frame}
@@ -23,14 +22,11 @@ use Rattle.search_state.specs.Extensions.{Extendable, ExtendsTo}
 use Rattle.search_state.specs.Passes.{nothing_passed, passed_cut, passed_rejection, passed_length, passed_by}
 use Rattle.search_state.specs.Passes.Laws.{nothing-passed, one-cut, one-rejection, one-length}
 use Rattle.edge_trial.specs.declared.trial.EdgeTrial.{EdgeTrial}
-use Rattle.edge_trial.specs.declared.trial.EdgeTrial.TheVariants as EdgeTrial
 use Rattle.edge_trial.specs.Trials.{trial_by}
 use Rattle.edge_trial.specs.Trials.Laws.{Judged}
 use Rattle.direct_search.specs.declared.direct.Pass.{Pass}
 use Rattle.direct_search.specs.declared.direct.Led.{Led}
-use Rattle.direct_search.specs.declared.direct.Led.TheVariants as Led
 use Rattle.direct_search.specs.declared.direct.Counted.{Counted}
-use Rattle.direct_search.specs.declared.direct.Counted.TheVariants as Counted
 use Rattle.direct_search.specs.Expansions.{Given, Tried, Expanded}
 use Rattle.direct_search.specs.Expansions.Laws.{given-cycles, given-rejected, given-short, given-edges, given-ready, given-trial, tried-cut, tried-rejected, tried-overlong, tried-bound, extended-short, tried-extended, extended-given}
 use Rattle.direct_search.specs.Expansions.Edges.{Mid, mid-given, mid-less, mid-again, mid-refused}

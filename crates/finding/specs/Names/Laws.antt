@@ -16,7 +16,6 @@ use Rattle.semantics.specs.declared.search.SearchOrder.TheVariants.{BreadthFirst
 use Rattle.semantics.specs.declared.refusal.ImageRefusal.{ImageRefusal}
 use Rattle.semantics.specs.declared.refusal.SearchRefusal.{SearchRefusal}
 use Rattle.semantics.specs.declared.answer.Finding.{Finding}
-use Rattle.semantics.specs.declared.answer.Finding.TheVariants as Finding
 use Rattle.semantics.specs.Lists.{cons_if}
 use Rattle.semantics.specs.Limits.{base, max_edges, slot_length}
 use Rattle.semantics.specs.Answer.{Answer, ok, refuse}
@@ -42,12 +41,10 @@ use Rattle.search_state.specs.declared.search.Finished.{Finished}
 use Rattle.search_state.specs.declared.state.SearchState.{SearchState}
 use Rattle.search_state.specs.Reps.{Counts}
 use Rattle.search_rounds.specs.declared.conclusion.SearchEnd.{SearchEnd}
-use Rattle.search_rounds.specs.declared.conclusion.SearchEnd.TheVariants as SearchEnd
 use Rattle.search_rounds.specs.Drives.{Ends}
 use Rattle.search_rounds.specs.Finishes.{ends-over, ends-refused}
 use Rattle.semantics.specs.Entries.{Does}
 use Rattle.finding.specs.declared.name.Tried.{Tried}
-use Rattle.finding.specs.declared.name.Tried.TheVariants as Tried
 use Rattle.finding.specs.Names.{leads_to, slot_to, FirstIn, only_slot, Tells, search_of, tried_of, walked_of, answer_of, left_of, turned_back, loaded_of}
 
 -- ---- the paths of a list by number

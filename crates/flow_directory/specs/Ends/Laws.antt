@@ -7,7 +7,6 @@ use Rattle.std.proofs.Math.ListN.{length}
 use Rattle.semantics.specs.declared.graph.Edge.TheVariants as E
 use Rattle.semantics.specs.declared.search.Limit.{Limit}
 use Rattle.semantics.specs.declared.answer.Definitions.{Definitions}
-use Rattle.semantics.specs.declared.answer.Definitions.TheVariants as Definitions
 use Rattle.semantics.specs.Limits.{base, max_edges, slot_length}
 use Rattle.semantics.specs.Graph.{Graph, view_of}
 use Rattle.semantics.specs.Path.{Path, is_complete}

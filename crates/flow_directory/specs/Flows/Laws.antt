@@ -12,7 +12,6 @@ use Rattle.semantics.specs.declared.refusal.ImageRefusal.{ImageRefusal}
 use Rattle.semantics.specs.declared.refusal.SearchRefusal.{SearchRefusal}
 use Rattle.semantics.specs.declared.answer.Definitions.{Definitions}
 use Rattle.semantics.specs.declared.answer.Flow.{Flow}
-use Rattle.semantics.specs.declared.answer.Flow.TheVariants as Flow
 use Rattle.semantics.specs.Lists.{and}
 use Rattle.semantics.specs.Lists.Laws.{and-true}
 use Rattle.semantics.specs.Limits.{base, slot_length, isin_bytes}
@@ -40,12 +39,10 @@ use Rattle.reply.specs.Replies.{Replied}
 use Rattle.reply.specs.ResultSlots.{AllFitting, Lists}
 use Rattle.reply.specs.Ends.Laws.{stand-lists}
 use Rattle.search_rounds.specs.declared.conclusion.SearchEnd.{SearchEnd}
-use Rattle.search_rounds.specs.declared.conclusion.SearchEnd.TheVariants as SearchEnd
 use Rattle.search_rounds.specs.Finishes.{ends-over, ends-refused}
 use Rattle.direct_search.specs.DirectAnswers.{direct_of}
 use Rattle.direct_search.specs.DirectAnswers.Laws.{kept-replays}
 use Rattle.flow_directory.specs.declared.rows.Looked.{Looked}
-use Rattle.flow_directory.specs.declared.rows.Looked.TheVariants as Looked
 use Rattle.flow_directory.specs.Keys.{looked_of}
 use Rattle.flow_directory.specs.Ends.{slot_end, Ending}
 use Rattle.flow_directory.specs.Ends.Laws.{stand-fits, stand-definitions}

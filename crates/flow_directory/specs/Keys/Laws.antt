@@ -15,7 +15,6 @@ use Rattle.semantics.specs.Bytes.Laws.{room, wide-add, wide-long, wide-double}
 use Rattle.semantics.specs.Entries.{key_of}
 use Rattle.semantics.specs.Directory.{FlowKey, key_at, isin_at, tranche_at, leg_at, reference_at, rises_at, ascends, is_directory, is_at, found_in, looked_up}
 use Rattle.flow_directory.specs.declared.rows.Looked.{Looked}
-use Rattle.flow_directory.specs.declared.rows.Looked.TheVariants as Looked
 use Rattle.flow_directory.specs.Keys.{mark, looked_of}
 
 -- ---- two halves

@@ -19,7 +19,6 @@ use Rattle.semantics.specs.declared.refusal.LinearRefusal.{LinearRefusal}
 use Rattle.semantics.specs.declared.refusal.LinearRefusal.TheVariants as Linear
 use Rattle.semantics.specs.declared.refusal.ImageRefusal.{ImageRefusal}
 use Rattle.semantics.specs.declared.answer.LinearResolution.{LinearResolution}
-use Rattle.semantics.specs.declared.answer.LinearResolution.TheVariants as LinearResolution
 use Rattle.semantics.specs.Limits.{Bounds, base, slot_length, steps_length, max_expansions}
 use Rattle.semantics.proofs.Theorems.Limits.Laws.{within-zero}
 use Rattle.semantics.specs.Answer.{Answer, ok, refuse, wrap}
@@ -58,7 +57,6 @@ use Rattle.reply.specs.Ends.Laws.{stand-lists}
 use Rattle.reply.specs.ResultSlots.{Lists}
 use Rattle.reply.specs.Replies.{reply_of, Replied}
 use Rattle.linear_search.specs.declared.linear.Walked.{Walked}
-use Rattle.linear_search.specs.declared.linear.Walked.TheVariants as Walked
 use Rattle.linear_search.specs.Walks.{frame_of, setting_of, Walking, Ends, WalkedTo}
 use Rattle.linear_search.specs.LinearAnswers.{linear_of, walked_of}
 

@@ -24,7 +24,6 @@ use Rattle.search_state.specs.Items.{Carries}
 use Rattle.search_state.specs.Reps.{Counts, Few}
 use Rattle.linear_search.specs.declared.linear.Expansion.{Expansion}
 use Rattle.linear_search.specs.declared.linear.Pace.{Pace}
-use Rattle.linear_search.specs.declared.linear.Pace.TheVariants as Pace
 use Rattle.linear_search.specs.Walks.{Frame, frame_of, setting_of, rest_tries, Track, Standing, Walk, judge_of, Paced}
 
 -- an expansion that begins

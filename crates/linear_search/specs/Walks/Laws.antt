@@ -35,7 +35,6 @@ use Rattle.edge_trial.specs.declared.trial.EdgeTrial.{EdgeTrial}
 use Rattle.edge_trial.specs.declared.trial.EdgeTrial.TheVariants.{Cut, Overlong, Rejected, TooLong, Extended}
 use Rattle.linear_search.specs.declared.linear.Expansion.{Expansion}
 use Rattle.linear_search.specs.declared.linear.Pace.{Pace}
-use Rattle.linear_search.specs.declared.linear.Pace.TheVariants as Pace
 use Rattle.edge_trial.specs.Trials.{trial_by}
 use Rattle.edge_trial.specs.Trials.Laws.{Judged, trial-tells}
 use Rattle.search_state.specs.Runs.{each-one}

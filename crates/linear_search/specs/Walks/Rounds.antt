@@ -38,7 +38,6 @@ use Rattle.search_state.specs.States.{with_budget}
 use Rattle.search_state.specs.Reps.{slot_of, Counts, Few, Replayed}
 use Rattle.linear_search.specs.declared.linear.Expansion.{Expansion}
 use Rattle.linear_search.specs.declared.linear.Walked.{Walked}
-use Rattle.linear_search.specs.declared.linear.Walked.TheVariants as Walked
 use Rattle.search_state.specs.Runs.{run-over, run-round, run-refused}
 use Rattle.linear_search.specs.Walks.{Frame, frame_of, setting_of, Standing, Walking, Ends, run_of, WalkedTo}
 use Rattle.linear_search.specs.Walks.Edges.{Opening, expansion_of, Mid, mid-end}

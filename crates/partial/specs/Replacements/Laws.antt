@@ -20,7 +20,6 @@ use Rattle.semantics.specs.declared.refusal.DatabaseRefusal.{DatabaseRefusal}
 use Rattle.semantics.specs.declared.refusal.PartialPathRefusal.{PartialPathRefusal}
 use Rattle.semantics.specs.declared.refusal.PartialPathRefusal.TheVariants.{UnknownFile}
 use Rattle.semantics.specs.declared.answer.Replacement.{Replacement}
-use Rattle.semantics.specs.declared.answer.Replacement.TheVariants as Replacement
 use Rattle.semantics.specs.Lists.{pick}
 use Rattle.semantics.specs.Limits.{Bounds, base, slot_length, max_expansions, nobody}
 use Rattle.semantics.specs.Answer.{Answer, ok, refuse}
@@ -37,7 +36,6 @@ use Rattle.semantics.specs.Calls.{FileRequest, file_setting_of, filing_outcome, 
 use Rattle.storage.specs.Index.{Loaded}
 use Rattle.path_frontier.specs.Frontier.Stands.{stands-blank}
 use Rattle.database.specs.declared.check.Inspected.{Inspected}
-use Rattle.database.specs.declared.check.Inspected.TheVariants as Inspected
 use Rattle.database.specs.Checks.{inspected}
 use Rattle.database.specs.Checks.Laws.{capacity-most, capacity-fits, formed-used, formed-whole, inspected-refused, inspected-sound}
 use Rattle.database.specs.Records.{Whole}

@@ -11,9 +11,7 @@ use Rattle.path_budget.specs.declared.budget.Budget.{Budget}
 use Rattle.path_budget.specs.declared.budget.Admitted.{Admitted}
 use Rattle.path_frontier.specs.declared.frontier.Frontier.{Frontier}
 use Rattle.path_frontier.specs.declared.frontier.Pushed.{Pushed}
-use Rattle.path_frontier.specs.declared.frontier.Pushed.TheVariants as Pushed
 use Rattle.path_frontier.specs.declared.frontier.Popped.{Popped}
-use Rattle.path_frontier.specs.declared.frontier.Popped.TheVariants as Popped
 use Rattle.path_budget.specs.Budget.{answer_by, one_expanded, refused_count, refused_length, expansion, lengthening}
 use Rattle.words.specs.Slots.{IsSlot}
 use Rattle.path_frontier.specs.Frontier.{Framed, Pushes, Pops, Wider, Widens}

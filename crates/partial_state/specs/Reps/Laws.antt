@@ -15,7 +15,6 @@ use Rattle.semantics.specs.PartialPaths.{Route}
 use Rattle.words.specs.Slots.{IsSlot, padded}
 use Rattle.path_frontier.specs.declared.frontier.Frontier.{Frontier}
 use Rattle.path_frontier.specs.declared.frontier.Pushed.{Pushed}
-use Rattle.path_frontier.specs.declared.frontier.Pushed.TheVariants as Pushed
 use Rattle.path_budget.specs.Budget.{lengthening}
 use Rattle.path_budget.specs.Budget.Laws.{lengthening-refused}
 use Rattle.path_frontier.specs.Frontier.{Framed, pushed, Waits, Wider}

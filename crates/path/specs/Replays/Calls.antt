@@ -10,7 +10,6 @@ use Rattle.semantics.specs.declared.refusal.ImageRefusal.{ImageRefusal}
 use Rattle.semantics.specs.declared.refusal.ReplayRefusal.{ReplayRefusal}
 use Rattle.semantics.specs.declared.answer.Replayed.TheVariants as Replayed
 use Rattle.semantics.specs.declared.answer.Judgement.{Judgement}
-use Rattle.semantics.specs.declared.answer.Judgement.TheVariants as Judgement
 use Rattle.semantics.specs.Limits.{base, max_edges, step_length, steps_length}
 use Rattle.semantics.specs.Answer.{Answer, ok, refuse}
 use Rattle.semantics.specs.Answer.Laws.{ok-inj, and_then-ok}

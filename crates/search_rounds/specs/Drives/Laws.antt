@@ -23,10 +23,8 @@ use Rattle.stepping.specs.Judged.{Stepped}
 use Rattle.path.specs.Replays.Calls.{few-edges}
 use Rattle.search_state.specs.declared.search.Search as S
 use Rattle.search_state.specs.declared.search.Going.{Going}
-use Rattle.search_state.specs.declared.search.Going.TheVariants as Going
 use Rattle.search_state.specs.declared.search.Finished.{Finished}
 use Rattle.search_state.specs.declared.search.Taken.{Taken}
-use Rattle.search_state.specs.declared.search.Taken.TheVariants as Taken
 use Rattle.search_state.specs.Items.{Clear}
 use Rattle.search_state.specs.Items.Laws.{carries-slot, clear-slot}
 use Rattle.search_state.specs.Retraces.{Laid, Retraces, Retraced}

@@ -13,14 +13,11 @@ use Rattle.path_budget.specs.Budget.{expansion}
 use Rattle.path_budget.specs.Budget.Laws.{expansion-limits}
 use Rattle.path_frontier.specs.declared.frontier.Frontier.{Frontier}
 use Rattle.path_frontier.specs.declared.frontier.Popped.{Popped}
-use Rattle.path_frontier.specs.declared.frontier.Popped.TheVariants as Popped
 use Rattle.path_frontier.specs.Frontier.Laws.{pop-frame}
 use Rattle.search_state.specs.declared.dead_ends.DeadEnds.{DeadEnds}
 use Rattle.search_state.specs.declared.search.Search as S
 use Rattle.search_state.specs.declared.search.Going.{Going}
-use Rattle.search_state.specs.declared.search.Going.TheVariants as Going
 use Rattle.search_state.specs.declared.search.Taken.{Taken}
-use Rattle.search_state.specs.declared.search.Taken.TheVariants as Taken
 use Rattle.search_state.specs.declared.progress.Frame.{Frame}
 use Rattle.search_state.specs.declared.progress.Progress.{Progress}
 use Rattle.search_state.specs.declared.progress.Course.{Course}

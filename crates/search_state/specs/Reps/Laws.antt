@@ -25,7 +25,6 @@ use Rattle.words.specs.Slots.{put_slot, padded}
 use Rattle.words.specs.Slots.Laws.{within, length-put, put-at}
 use Rattle.path_frontier.specs.declared.frontier.Frontier.{Frontier}
 use Rattle.path_frontier.specs.declared.frontier.Pushed.{Pushed}
-use Rattle.path_frontier.specs.declared.frontier.Pushed.TheVariants as Pushed
 use Rattle.path_budget.specs.Budget.{completion, limits_of}
 use Rattle.path_budget.specs.Budget.Laws.{completion-allowed, completion-limits, completion-granted, completion-refused}
 use Rattle.path_frontier.specs.Frontier.{pushed, greatest_in, Waits, Pushes, MakesRoom}

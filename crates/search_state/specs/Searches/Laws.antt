@@ -7,7 +7,6 @@ use Rattle.semantics.specs.Limits.{max_expansions}
 use Rattle.path_budget.specs.declared.budget.Admitted.{Admitted}
 use Rattle.path_frontier.specs.declared.frontier.Frontier.{Frontier}
 use Rattle.path_frontier.specs.declared.frontier.Popped.{Popped}
-use Rattle.path_frontier.specs.declared.frontier.Popped.TheVariants as Popped
 use Rattle.path_budget.specs.Budget.{expansion}
 use Rattle.search_state.specs.declared.state.SearchState.{SearchState}
 use Rattle.search_state.specs.declared.search.Search as S

@@ -1,5 +1,5 @@
 -- Databases that were filed by replace calls: what the third demand says of them stands in proofs/Theorems/Calls/Filing.
-use Rattle.std.specs.Prelude.{ℕ, length}
+use Rattle.std.specs.Prelude.{ℕ}
 use Rattle.std.proofs.Math.Path.{◌≡◌}
 use mathlib.Core.List.{List, [], ◌∷◌}
 use Rattle.semantics.specs.declared.search.Limit.TheVariants.{Absent}
@@ -11,8 +11,6 @@ use Rattle.semantics.specs.declared.answer.Replacement.TheVariants as Replacemen
 use Rattle.semantics.specs.Limits.{Bounds, nobody}
 use Rattle.semantics.specs.Answer.{Answer}
 use Rattle.semantics.specs.Graph.{Graph}
-use Rattle.semantics.specs.PartialPaths.{replaced}
-use Rattle.semantics.specs.Demand.{after}
 use Rattle.semantics.specs.Database.{known_owners}
 use Rattle.semantics.specs.Database.Compaction.{compact_call}
 use Rattle.semantics.specs.Calls.{FileRequest, alias_request, fresh_call, replace_call, alias_call}

@@ -3,7 +3,6 @@
 use Rattle.std.specs.Prelude.{ℕ, zero, suc, ◌-◌, ◌*◌, Bool, true, false, not, ltb, length, take, drop}
 use mathlib.Core.List.{List, [], ◌∷◌, ◌++◌, flatten}
 use Rattle.semantics.specs.declared.answer.Compaction.{Compaction}
-use Rattle.semantics.specs.declared.answer.Compaction.TheVariants as Compaction
 use Rattle.semantics.specs.Lists.{pick, cons_if}
 use Rattle.semantics.specs.Limits.{Bounds, record_words}
 use Rattle.semantics.specs.Words.{zeros}

@@ -1,6 +1,6 @@
 -- Where the limit on complete paths refused none, as many are kept as are counted complete.
 -- Serves document 02, order 9: "Their sum is the complete count".
-use Prim.Native.Nat.{ℕ, zero, suc, ◌+◌}
+use Prim.Native.Nat.{ℕ, zero, suc}
 use Rattle.std.proofs.Common.{arith, sym, ◌∙◌, ap, true≢false}
 use Rattle.std.specs.Prelude.{◌≡◌, Bool, length}
 use Rattle.std.proofs.Math.Path.{refl, subst}

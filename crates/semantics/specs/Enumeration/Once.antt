@@ -1,8 +1,8 @@
 -- An enumeration whose tries add one more number to an item's key, no two alike, keeps no key twice.
 -- Serves document 02, order 9: each list of distinct edges is counted once.
-use Prim.Native.Nat.{ℕ, zero, suc, ◌+◌}
+use Prim.Native.Nat.{ℕ, zero, suc}
 use Rattle.std.proofs.Common.{arith, ◌∙◌, true≢false, length-append}
-use Rattle.std.specs.Prelude.{◌≡◌, ◌⊎◌, true, false, length}
+use Rattle.std.specs.Prelude.{◌≡◌, ◌⊎◌, false, length}
 use Rattle.std.proofs.Math.Path.{refl, sym, ap, subst}
 use Rattle.std.proofs.Math.Logic.{inl, inr, ⊎_elim}
 use mathlib.Core.List.Memᴰ

@@ -2,7 +2,7 @@
 -- Document 02, order 2: the greatest number of items that ever waited together. With as many slots nothing changes, and with fewer the answer is 31.
 use Prim.Native.Nat.{ℕ, zero, suc, ◌+◌, ◌≤◌, ◌<◌}
 use Rattle.std.proofs.Common.{arith, sym, ◌∙◌, inl, inr, ⊎_elim, ltb-false}
-use Rattle.std.specs.Prelude.{◌≡◌, ◌⊎◌, Bool, T, length}
+use Rattle.std.specs.Prelude.{◌≡◌, ◌⊎◌, Bool, length}
 use Rattle.std.proofs.Math.Path.{refl, ap, subst}
 use Rattle.std.proofs.Math.Bool.{true, false}
 use mathlib.Core.List.{List, [], ◌∷◌}

@@ -31,7 +31,6 @@ use Rattle.search_state.specs.Extensions.{Extendable, ExtendsTo}
 use Rattle.database.specs.Records.{edge_words}
 use Rattle.database.specs.Records.Laws.{length-edges}
 use Rattle.stitching_trial.specs.declared.trial.StitchTrial.{StitchTrial}
-use Rattle.stitching_trial.specs.declared.trial.StitchTrial.TheVariants as StitchTrial
 use Rattle.stitching_trial.specs.Items.{grown-front}
 use Rattle.stitching_trial.specs.Links.{Tryable}
 use Rattle.stitching_trial.specs.Looks.{cycles-few, rejected-few, complete-few, look-cut, look-rejected, look-overlong, look-stopped, look-extended, look-clears}

@@ -12,7 +12,6 @@ use Rattle.semantics.specs.declared.refusal.SearchRefusal.{SearchRefusal}
 use Rattle.semantics.specs.declared.refusal.DatabaseRefusal.{DatabaseRefusal}
 use Rattle.semantics.specs.declared.refusal.DatabaseRefusal.TheVariants.{Malformed, Outgrown}
 use Rattle.semantics.specs.declared.answer.Resolution.{Resolution}
-use Rattle.semantics.specs.declared.answer.Resolution.TheVariants as Resolution
 use Rattle.semantics.specs.Lists.{and}
 use Rattle.semantics.specs.Lists.Laws.{and-true}
 use Rattle.semantics.specs.Limits.{base, max_expansions}
@@ -35,7 +34,6 @@ use Rattle.reply.specs.declared.finish.Reply.{Reply}
 use Rattle.reply.specs.EdgeLists.Paths.{Replays}
 use Rattle.reply.specs.Replies.{reply_of}
 use Rattle.database.specs.declared.check.Inspected.{Inspected}
-use Rattle.database.specs.declared.check.Inspected.TheVariants as Inspected
 use Rattle.database.specs.Checks.{inspected}
 use Rattle.database.specs.Checks.Laws.{inspected-refused, inspected-sound}
 use Rattle.stitching_trial.specs.Links.{seen_in, Readable}

@@ -28,7 +28,6 @@ use Rattle.semantics.specs.Stitching.{ended, extended, joined, judge_slot}
 use Rattle.storage.specs.Index.{node_row, edge_row}
 use Rattle.semantics.specs.declared.replayed.Step.{Step}
 use Rattle.stepping.specs.declared.step.Effect.{Effect}
-use Rattle.stepping.specs.declared.step.Effect.TheVariants as Effect
 use Rattle.stepping.specs.StepWords.{with_step}
 use Rattle.stepping.specs.Judged.{Ready, Stepped, judged_of, words_after, complete_step}
 use Rattle.stepping.specs.Judged.Laws.{complete-is}

@@ -8,7 +8,6 @@ use Rattle.semantics.specs.declared.refusal.ImageRefusal.{ImageRefusal}
 use Rattle.semantics.specs.declared.refusal.ImageRefusal.TheVariants as Image
 use Rattle.semantics.specs.declared.answer.Checked.{Checked}
 use Rattle.semantics.specs.declared.answer.Checked as C
-use Rattle.semantics.specs.declared.answer.Checked.TheVariants as Checked
 use Rattle.semantics.specs.Calls.{check_call}
 use Rattle.semantics.specs.Lists.{pick}
 use Rattle.semantics.specs.Answer.{Answer, ok, refuse, and_then}

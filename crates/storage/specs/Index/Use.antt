@@ -5,7 +5,6 @@ use Rattle.std.proofs.Common.{arith, ap, subst, eq-eqb, ne_eqb}
 use Rattle.semantics.specs.declared.graph.Edge.{Edge}
 use Rattle.semantics.specs.declared.graph.Edge.TheVariants as E
 use Rattle.semantics.specs.declared.answer.Checked.{Checked}
-use Rattle.semantics.specs.declared.answer.Checked.TheVariants as Checked
 use Rattle.semantics.specs.declared.refusal.ImageRefusal.{ImageRefusal}
 use Rattle.semantics.specs.Lists.{pick, cons_if}
 use Rattle.semantics.specs.Answer.{Answer, ok, refuse}

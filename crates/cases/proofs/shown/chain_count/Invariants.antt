@@ -1,4 +1,4 @@
-use Rattle.std.proofs.Common.{◌≡◌, ◌+◌, ◌-◌, ◌<◌, ◌≤◌, length}
+use Rattle.std.proofs.Common.{◌-◌, ◌≤◌}
 use Rattle.semantics.specs.Limits.{slot_length}
 use Rattle.cases.proofs.shown.chain_count.Given as goal
 

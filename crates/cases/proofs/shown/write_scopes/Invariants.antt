@@ -1,5 +1,4 @@
-use Rattle.std.proofs.Common.{◌≡◌, ◌+◌, ◌-◌, ◌<◌, ◌≤◌, length}
-use Rattle.semantics.specs.Limits.{slot_length}
+use Rattle.std.proofs.Common.{◌-◌, ◌≤◌}
 use Rattle.cases.proofs.shown.write_scopes.Given as goal
 
 abbrev pub invariant-loop-k : goal.invariant-loop-k

@@ -1,5 +1,4 @@
-use Rattle.std.proofs.Common.{◌≡◌, ◌+◌, ◌-◌, ◌<◌, ◌≤◌, length}
-use Rattle.semantics.specs.Limits.{slot_length}
+use Rattle.std.proofs.Common.{◌-◌, ◌≤◌}
 use Rattle.cases.proofs.shown.write_steps.Given as goal
 
 abbrev pub invariant-loop-j : goal.invariant-loop-j

@@ -1,7 +1,6 @@
 -- `check::check`: 35, then 34 for the nodes and for the files.
 use mathlib.Core.Path.{sym, ◌∙◌}
 use native.Mathlib.Omega.{arith}
-use borrow.Author.Tests.{not-true, not-false}
 use Rattle.semantics.specs.Limits.{base}
 use Rattle.semantics.specs.Database.{known_owners}
 use Rattle.database.specs.Checks.Laws.{formed-whole, check-malformed, check-nodes, check-files, check_sound}

@@ -15,9 +15,14 @@ returns-then-begin c =
     let e = ap (refilings a.image.now a.order 0 a.files a.work.now) begin.ensures.words_after
     ∙ filings-fresh a.image.now a.order a.files a.work.now a.words.now (sym begin.ensures.value ∙ if1.true) in
     let all = h.value ∙ ap (λ (f : Filings). f.all) e in
-    let words = h.words_after ∙ ap (λ (f : Filings). f.words) e in record { value = all; work_after = h.work_after ∙ ap (λ (f : Filings). f.work) e; words_after = words; fills = λ k.
-              subst (λ (w : List ℕ). Fills a.image.now a.files w) (sym words)
-              (filings-fill a.image.now a.order a.files a.work.now a.words.now (sym all ∙ k)) }
+    let words = h.words_after ∙ ap (λ (f : Filings). f.words) e in record {
+      value = all;
+      work_after = h.work_after ∙ ap (λ (f : Filings). f.work) e;
+      words_after = words;
+      fills = λ k.
+          subst (λ (w : List ℕ). Fills a.image.now a.files w) (sym words)
+          (filings-fill a.image.now a.order a.files a.work.now a.words.now (sym all ∙ k));
+    }
 
 pub returns : goal.returns
 returns c =

@@ -2,7 +2,6 @@
 use Prim.Native.Nat.{ℕ, ◌<◌}
 use native.Mathlib.Omega.{arith}
 use mathlib.Core.Path.{sym, ◌∙◌}
-use mathlib.Core.Bool.{false}
 use Rattle.finding.specs.Names.{slot_to}
 use Rattle.finding.specs.Names.Laws.{before_more}
 use Rattle.finding.proofs.name.first_to.Goals as goal

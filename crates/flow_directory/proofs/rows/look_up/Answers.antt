@@ -2,7 +2,6 @@
 use Prim.Native.Nat.{◌+◌}
 use native.Mathlib.Omega.{arith}
 use mathlib.Core.Path.{refl, ◌∙◌}
-use mathlib.Core.Bool.{true}
 use Rattle.semantics.specs.Entries.{key_of}
 use Rattle.semantics.specs.Directory.{ascends, looked_up}
 use Rattle.flow_directory.specs.Keys.Laws.{ascends-more, disordered, left_over, found-more, found_none, looked-found, looked-missing}

@@ -1,7 +1,7 @@
 -- `hiding::hiding::hides_some`: the files below `f` are visible.
 use native.Mathlib.Omega.{arith}
 use mathlib.Core.Path.{sym, ◌∙◌}
-use mathlib.Core.Bool.{true, false, true≢false}
+use mathlib.Core.Bool.{true≢false}
 use Rattle.semantics.specs.Hidden.{sees}
 use Rattle.hiding.specs.Hiding.Laws.{all_more}
 use Rattle.hiding.proofs.hiding.hides_some.Goals as goal

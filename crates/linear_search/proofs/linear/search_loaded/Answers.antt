@@ -5,8 +5,11 @@ pub finish-paths-requires : goal.finish-paths-requires
 finish-paths-requires c =
     let attempt = c.attempt in
     let a = c.args in
-    let p = c.requires in record { holds_graph = p; lists = over-lists a.reply a.limits a.res.now a.reference attempt.new.res attempt.auto.res p.loaded
-          (attempt.ensures p.graph p.loaded) c.in-Over.state c.in-Over.is }
+    let p = c.requires in record {
+      holds_graph = p;
+      lists = over-lists a.reply a.limits a.res.now a.reference attempt.new.res attempt.auto.res p.loaded
+          (attempt.ensures p.graph p.loaded) c.in-Over.state c.in-Over.is;
+    }
 
 pub returns-in-Over : goal.returns-in-Over
 returns-in-Over c =

@@ -108,8 +108,7 @@ loop-link-preserved c =
     let loop-test = c.loop-link-test in
     let l = c.loop-link in
     let e = c.expansions in
-    let a = c.args in
-    (
+    let a = c.args in (
       try-edge.auto.item ∙ l.invariant.0,
       try-edge.auto.res ∙ l.invariant.1,
       λ w.
@@ -190,8 +189,7 @@ expansions-preserved c =
     let with-budget = c.with_budget-state in
     let admitted-expansion = c.admitted_expansion-asked in
     let allowed-told = not-false admitted-expansion.result.allowed if1.false in
-    let e = c.expansions in
-    (
+    let e = c.expansions in (
       c.advance.auto.steps ∙ e.invariant.0,
       l.invariant.0 ∙ e.invariant.1,
       l.invariant.1 ∙ e.invariant.2,

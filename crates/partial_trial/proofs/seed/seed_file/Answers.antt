@@ -40,8 +40,7 @@ loop-n-preserved c =
     let seed-node = c.seed_node-going in
     let loop-test = c.loop-n-test in
     let l = c.loop-n in
-    let a = c.args in
-    (
+    let a = c.args in (
       seed-node.auto.item ∙ l.invariant.0,
       seed-node.auto.work ∙ l.invariant.1,
       λ g h e v.

@@ -1,5 +1,4 @@
 use mathlib.Core.Path.{sym, ap}
-use denote.Enum.Declared
 use Rattle.semantics.specs.declared.answer.Replayed.{Replayed}
 use Rattle.path.specs.Replays.{judged_as}
 use Rattle.path.proofs.judgement.judged.Goals as goal

@@ -22,7 +22,11 @@ returns c =
     let l = limits'.ensures in
     let k : FlowKey = key_of a.isin.now a.tranche a.leg in
     let e : flow_request_of k order'.result limits'.result a.work.now a.res.now ≡ flow_request_of k (order_asked a.asked.now) (limits_asked a.asked.now) a.work.now a.res.now = λ j.
-    record { order = o j; limits = l j; work = length a.work.now; result = length a.res.now; key = k } in record { answer_after = c.write.ensures
+    record { order = o j; limits = l j; work = length a.work.now; result = length a.res.now; key = k } in record {
+      answer_after = c.write.ensures
           ∙ ap (λ (l : List ℕ). written (length a.answer.now) l) (c.of_flow.ensures
           ∙ s.result_value
-          ∙ ap (λ (q : FlowRequest). told_flow (flow_call base (seen_in a.image.now a.visible.now) a.rows.now q).answer) e); work_after = s.work_after ∙ ap (λ (q : FlowRequest). (flow_call base (seen_in a.image.now a.visible.now) a.rows.now q).work) e; res_after = s.res_after ∙ ap (λ (q : FlowRequest). (flow_call base (seen_in a.image.now a.visible.now) a.rows.now q).result) e }
+          ∙ ap (λ (q : FlowRequest). told_flow (flow_call base (seen_in a.image.now a.visible.now) a.rows.now q).answer) e);
+      work_after = s.work_after ∙ ap (λ (q : FlowRequest). (flow_call base (seen_in a.image.now a.visible.now) a.rows.now q).work) e;
+      res_after = s.res_after ∙ ap (λ (q : FlowRequest). (flow_call base (seen_in a.image.now a.visible.now) a.rows.now q).result) e;
+    }

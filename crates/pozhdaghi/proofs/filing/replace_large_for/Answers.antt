@@ -13,5 +13,9 @@ returns c =
     let s = c.replace_large-replaced.ensures in
     let config = c.config-config in
     let a = c.args in
-    let e = asked-call a.owner a.image.now a.asked.now a.work.now a.words.now config.result config.ensures in record { answer_after = c.tell_replacement.ensures
-          ∙ ap (λ (x : Replacement). written (length a.answer.now) (told_replacement x)) (s.0 ∙ ap (λ (o : Change Replacement). o.answer) e); work_after = s.1 ∙ ap (λ (o : Change Replacement). o.work) e; words_after = s.2 ∙ ap (λ (o : Change Replacement). o.database) e }
+    let e = asked-call a.owner a.image.now a.asked.now a.work.now a.words.now config.result config.ensures in record {
+      answer_after = c.tell_replacement.ensures
+          ∙ ap (λ (x : Replacement). written (length a.answer.now) (told_replacement x)) (s.0 ∙ ap (λ (o : Change Replacement). o.answer) e);
+      work_after = s.1 ∙ ap (λ (o : Change Replacement). o.work) e;
+      words_after = s.2 ∙ ap (λ (o : Change Replacement). o.database) e;
+    }

@@ -21,7 +21,10 @@ returns c =
     let a = c.args in
     let s = search-large.ensures in
     let e : linear_request_of limits.result a.res.now a.reference ≡ linear_request_of (limits_asked a.asked.now) a.res.now a.reference = ap
-    (λ (l : SearchLimits). linear_request_of l a.res.now a.reference) limits.ensures in record { answer_after = c.write.ensures
+    (λ (l : SearchLimits). linear_request_of l a.res.now a.reference) limits.ensures in record {
+      answer_after = c.write.ensures
           ∙ ap (λ (l : List ℕ). written (length a.answer.now) l) (c.of_linear.ensures
           ∙ ap (λ (x : LinearResolution). told_linear_resolution x) s.0
-          ∙ ap (λ (q : LinearRequest). told_linear_resolution (linear_call base (reply_of a.reply) (seen_in a.image.now a.visible.now) q).answer) e); res_after = s.1 ∙ ap (λ (q : LinearRequest). (linear_call base (reply_of a.reply) (seen_in a.image.now a.visible.now) q).result) e }
+          ∙ ap (λ (q : LinearRequest). told_linear_resolution (linear_call base (reply_of a.reply) (seen_in a.image.now a.visible.now) q).answer) e);
+      res_after = s.1 ∙ ap (λ (q : LinearRequest). (linear_call base (reply_of a.reply) (seen_in a.image.now a.visible.now) q).result) e;
+    }

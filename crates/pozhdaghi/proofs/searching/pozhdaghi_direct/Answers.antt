@@ -22,7 +22,11 @@ returns c =
     let o = order'.ensures in
     let l = limits'.ensures in
     let e : request_of order'.result limits'.result a.work.now a.res.now a.reference ≡ request_of (order_asked a.asked.now) (limits_asked a.asked.now) a.work.now a.res.now a.reference = λ j.
-    record { order = o j; limits = l j; work = length a.work.now; result = length a.res.now; node = a.reference } in record { answer_after = c.write.ensures
+    record { order = o j; limits = l j; work = length a.work.now; result = length a.res.now; node = a.reference } in record {
+      answer_after = c.write.ensures
           ∙ ap (λ (l : List ℕ). written (length a.answer.now) l) (c.of_resolution.ensures
           ∙ s.result_value
-          ∙ ap (λ (q : Request). told_resolution (direct_call base returned (seen_in a.image.now a.visible.now) q).answer) e); work_after = s.work_after ∙ ap (λ (q : Request). (direct_call base returned (seen_in a.image.now a.visible.now) q).work) e; res_after = s.res_after ∙ ap (λ (q : Request). (direct_call base returned (seen_in a.image.now a.visible.now) q).result) e }
+          ∙ ap (λ (q : Request). told_resolution (direct_call base returned (seen_in a.image.now a.visible.now) q).answer) e);
+      work_after = s.work_after ∙ ap (λ (q : Request). (direct_call base returned (seen_in a.image.now a.visible.now) q).work) e;
+      res_after = s.res_after ∙ ap (λ (q : Request). (direct_call base returned (seen_in a.image.now a.visible.now) q).result) e;
+    }

@@ -9,5 +9,8 @@ use Rattle.pozhdaghi.proofs.versions.pozhdaghi_narrow.Goals as goal
 pub returns : goal.returns
 returns c =
     let rewritten = c.narrow-rewritten.ensures in
-    let a = c.args in record { answer_after = c.write.ensures
-          ∙ ap (λ (ns : List ℕ). written (length a.answer.now) ns) (c.of_rewriting.ensures ∙ rewritten.result_value); area_after = rewritten.area_after }
+    let a = c.args in record {
+      answer_after = c.write.ensures
+          ∙ ap (λ (ns : List ℕ). written (length a.answer.now) ns) (c.of_rewriting.ensures ∙ rewritten.result_value);
+      area_after = rewritten.area_after;
+    }

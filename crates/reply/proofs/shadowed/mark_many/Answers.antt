@@ -1,13 +1,11 @@
 -- `mark_many` meets its contract: the first i slots are judged, and every slot holds its list still.
 use mathlib.Core.Path.{◌∙◌}
-use mathlib.Core.Bool.{Bool, false}
-use mathlib.Core.List.{List}
-use Prim.Native.Nat.{ℕ}
+use mathlib.Core.Bool.{false}
 use native.Mathlib.Omega.{arith}
 use Rattle.semantics.specs.Limits.{slot_length}
 use Rattle.storage.specs.Index.{edge_row}
 use Rattle.path.specs.Shadows.{shadows_edges}
-use Rattle.reply.specs.EdgeLists.{beaten_list, beaten_at}
+use Rattle.reply.specs.EdgeLists.{beaten_list}
 use Rattle.reply.specs.ResultSlots.Laws.{lists-marked}
 use Rattle.reply.specs.ResultSlots.Marking.{up_to, mark-none, mark-word, mark-all}
 use Rattle.reply.specs.ResultSlots.Passes.{all-fitting, looked, mark-next}

@@ -13,5 +13,8 @@ begin-requires c = let k = known-most c.requires.known_width.0 in search rules
 
 pub returns : goal.returns
 returns c =
-    let a = c.args in record { value = omega arith; area_after = named-written a.at a.area.now (4 + a.width) a.kind a.file a.width a.symbol c.flag.result a.marked c.requires.width_in_bounds
-          c.begin.ensures c.write_symbol.ensures c.put_byte.ensures c.flag.ensures }
+    let a = c.args in record {
+      value = omega arith;
+      area_after = named-written a.at a.area.now (4 + a.width) a.kind a.file a.width a.symbol c.flag.result a.marked c.requires.width_in_bounds
+          c.begin.ensures c.write_symbol.ensures c.put_byte.ensures c.flag.ensures;
+    }

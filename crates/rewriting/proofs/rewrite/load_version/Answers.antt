@@ -1,7 +1,6 @@
 -- `rewriting::rewrite::load_version`: of the wanted version, and where size and length are refused, the check is that of all versions.
 use native.Mathlib.Omega.{arith}
 use mathlib.Core.Path.{◌≡◌, sym, ap, ◌∙◌}
-use mathlib.Core.Logic.{⊎_elim}
 use Rattle.semantics.specs.Calls.{check_call}
 use Rattle.semantics.specs.Image.{symbol_bytes, check_image}
 use Rattle.image.specs.Reached.Laws.{sized-long}
@@ -25,6 +24,7 @@ returns c =
     let im = a.image.now in
     let e : graph_as a.version im ≡ check_image symbol_bytes im =
     elim c.if-sized.branch [
-      then-sized+else-byte-version w ↦ this-version a.version im (sym w.byte.ensures.value ∙ w.if-byte-version.false) |
-      else-sized w ↦ no_size a.version im (sym c.sized.ensures ∙ w.if-sized.false) ] in
+      | then-sized+else-byte-version w ↦ this-version a.version im (sym w.byte.ensures.value ∙ w.if-byte-version.false)
+      | else-sized w ↦ no_size a.version im (sym c.sized.ensures ∙ w.if-sized.false)
+    ] in
     record { value = c.load_fresh.ensures.value ∙ ap check_call (sym e); loaded = λ g q. c.load_fresh.ensures.loaded g (sym e ∙ q) }

@@ -5,8 +5,11 @@ use Rattle.rewriting.specs.Rewrites.{graph_as, given, does-refuse}
 use Rattle.rewriting.proofs.rewrite.narrow_with.Goals as goal
 
 pub narrow_graph-requires : goal.narrow_graph-requires
-narrow_graph-requires c = record { given = given 2 c.args.image.now _ _ _ _ c.load_version.ensures.value c.in-Accepted.is
-      c.load_version.ensures.loaded; area_value = c.requires.area_value }
+narrow_graph-requires c = record {
+  given = given 2 c.args.image.now _ _ _ _ c.load_version.ensures.value c.in-Accepted.is
+      c.load_version.ensures.loaded;
+  area_value = c.requires.area_value;
+}
 
 pub returns-in-Refused : goal.returns-in-Refused
 returns-in-Refused c =

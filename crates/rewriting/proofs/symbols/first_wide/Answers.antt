@@ -1,7 +1,6 @@
 -- `rewriting::symbols::first_wide`: every symbol passed so far fits.
 use native.Mathlib.Omega.{arith}
 use mathlib.Core.Path.{sym, ap, ◌∙◌}
-use mathlib.Core.Bool.{true}
 use Rattle.semantics.specs.Image.Encoding.{symbol_fits}
 use Rattle.storage.specs.Index.{node_row}
 use Rattle.storage.specs.References.Laws.{passed-more}

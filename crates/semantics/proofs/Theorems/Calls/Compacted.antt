@@ -18,7 +18,6 @@ use Rattle.semantics.specs.declared.refusal.PartialPathRefusal.{PartialPathRefus
 use Rattle.semantics.specs.declared.answer.Compaction.TheVariants as Compaction
 use Rattle.semantics.specs.declared.answer.Resolution.{Resolution}
 use Rattle.semantics.specs.declared.answer.Replacement.{Replacement}
-use Rattle.semantics.specs.declared.answer.Replacement.TheVariants as Replacement
 use Rattle.semantics.specs.Lists.{and}
 use Rattle.semantics.specs.Lists.Laws.{and-true}
 use Rattle.semantics.specs.Limits.{Bounds}

@@ -11,7 +11,6 @@ use mathlib.Core.List.{List, [], ◌∷◌, Memᴰ}
 use Rattle.semantics.specs.declared.search.Limit.TheVariants.{Absent}
 use Rattle.semantics.specs.declared.search.SearchOrder.{SearchOrder}
 use Rattle.semantics.specs.declared.search.PartialPathStats.{PartialPathStats}
-use Rattle.semantics.specs.declared.refusal.ImageRefusal.{ImageRefusal}
 use Rattle.semantics.specs.declared.refusal.DatabaseRefusal.{DatabaseRefusal}
 use Rattle.semantics.specs.declared.refusal.PartialPathRefusal.{PartialPathRefusal}
 use Rattle.semantics.specs.declared.answer.Creation.TheVariants as Creation
@@ -30,7 +29,6 @@ use Rattle.semantics.specs.Acceptance.{accepts}
 use Rattle.semantics.specs.Database.{slots_in, check_database, fresh_words, has_room, replace_words, known_owners}
 use Rattle.semantics.specs.Database.Laws.{fresh-slots, slots-replaced, whole-records}
 use Rattle.semantics.specs.Database.Checked.{Checked, checked-words, checked-owners}
-use Rattle.semantics.specs.Database.Compaction.{compact_call}
 use Rattle.semantics.proofs.Theorems.Database.Compaction.Laws.{compact-live, compact-checked}
 use Rattle.semantics.specs.Calls.{FileRequest, file_setting_of, alias_request, creation_outcome, filing_outcome, computation_outcome, replacement_outcome, alias_outcome, fresh_call, replace_call, alias_call}
 use Rattle.semantics.specs.Calls.Filing.{unlimited, Refiled, begun, refiled, aliased, compacted, Filed}

@@ -1,6 +1,6 @@
 -- THE WAITING FIGURE OF A CALL: from the figure that an unrefused call tells, its answer with any other work area is known. As many slots as the
 -- figure are enough: the same answer and the same words. With fewer the call is 31. So an operator lends exactly the figure. Document 02, order 2.
-use Rattle.std.specs.Prelude.{ℕ, ◌≤◌, ◌<◌, ◌⊎◌, Bool, List, [], ◌∷◌, ltb}
+use Rattle.std.specs.Prelude.{ℕ, ◌≤◌, ◌<◌, Bool, List, [], ◌∷◌, ltb}
 use Rattle.std.proofs.Common.{arith, sym, ⊎_elim}
 use Rattle.std.proofs.Math.Path.{◌≡◌, refl, subst}
 use Rattle.std.proofs.Math.Bool.{true, false, true≢false}
@@ -14,9 +14,7 @@ use Rattle.semantics.specs.declared.refusal.SearchRefusal.TheVariants as Search
 use Rattle.semantics.specs.declared.refusal.PartialPathRefusal.{PartialPathRefusal}
 use Rattle.semantics.specs.declared.refusal.PartialPathRefusal.TheVariants as Partial
 use Rattle.semantics.specs.declared.answer.Resolution.{Resolution}
-use Rattle.semantics.specs.declared.answer.Resolution.TheVariants as Resolution
 use Rattle.semantics.specs.declared.answer.Replacement.{Replacement}
-use Rattle.semantics.specs.declared.answer.Replacement.TheVariants as Replacement
 use Rattle.semantics.specs.Limits.{Bounds, slot_words, nobody}
 use Rattle.semantics.specs.Answer.{Answer, ok, refuse, and_then, wrap}
 use Rattle.semantics.specs.Answer.Laws.{refuse-ok}

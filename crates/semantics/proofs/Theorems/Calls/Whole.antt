@@ -9,8 +9,7 @@ use Rattle.semantics.specs.declared.search.SearchStats.{SearchStats}
 use Rattle.semantics.specs.declared.refusal.ImageRefusal.{ImageRefusal}
 use Rattle.semantics.specs.declared.refusal.DatabaseRefusal.{DatabaseRefusal}
 use Rattle.semantics.specs.declared.answer.Resolution.{Resolution}
-use Rattle.semantics.specs.declared.answer.Resolution.TheVariants as Resolution
-use Rattle.semantics.specs.Limits.{Bounds, slot_words, nobody}
+use Rattle.semantics.specs.Limits.{Bounds, nobody}
 use Rattle.semantics.specs.Answer.{Answer, ok, refuse}
 use Rattle.semantics.specs.Answer.Laws.{ok-inj}
 use Rattle.semantics.specs.Graph.{Graph, view_of}
@@ -21,17 +20,16 @@ use Rattle.semantics.specs.Direct.{direct}
 use Rattle.semantics.specs.Recorded.{recorded}
 use Rattle.semantics.specs.Image.{check_image}
 use Rattle.semantics.proofs.Theorems.Image.Laws.{image-accepted}
-use Rattle.semantics.specs.Words.{lists_in}
 use Rattle.semantics.specs.PartialPaths.{Slot}
 use Rattle.semantics.specs.Database.{slots_in, known_owners, check_database}
 use Rattle.semantics.specs.Database.Checked.{Checked, checked-words}
-use Rattle.semantics.specs.Demand.{file_owners, all_owners, NoAliases, Demand, DemandAll, Holds}
+use Rattle.semantics.specs.Demand.{file_owners, all_owners, Demand, DemandAll, Holds}
 use Rattle.semantics.proofs.Theorems.Demand.Rules.{Exactly, demand-exactly, ExactlyAll, all-exactly}
 use Rattle.semantics.specs.Hidden.{every_file, seen, seen_image, seen_slots}
 use Rattle.semantics.proofs.Theorems.Hidden.Laws.{seen-accepted, seen-checked}
 use Rattle.semantics.proofs.Theorems.Hidden.All.{slots-every}
 use Rattle.semantics.proofs.Theorems.Hidden.Holds.{visible-files, visible_all, hide-holds, hide-holds-all}
-use Rattle.semantics.specs.Calls.{Request, Outcome, setting_of, direct_call, stitched_outcome, stitched_call}
+use Rattle.semantics.specs.Calls.{Request, setting_of, direct_call, stitched_outcome, stitched_call}
 use Rattle.semantics.proofs.Theorems.Calls.Laws.{demand, demand-all}
 use Rattle.semantics.proofs.Theorems.Calls.Statistics.{direct-identities}
 use Rattle.semantics.specs.Calls.Filing.{Refiled, Filed}

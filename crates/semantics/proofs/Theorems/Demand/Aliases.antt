@@ -2,7 +2,7 @@
 -- Document 02, order 5.
 use Prim.Native.Nat.{ℕ, ◌≤◌, ◌<◌}
 use Rattle.std.proofs.Common.{arith, sym, ◌∙◌, subst, ⊎_elim, true≢false}
-use Rattle.std.specs.Prelude.{◌≡◌, ◌⊎◌, Bool, eqb, length, ℤ}
+use Rattle.std.specs.Prelude.{◌≡◌, Bool, eqb, length, ℤ}
 use Rattle.std.proofs.Math.Path.{refl, ap}
 use Rattle.std.proofs.Math.Logic.{inl, inr}
 use Rattle.std.proofs.Math.Bool.{true, false}

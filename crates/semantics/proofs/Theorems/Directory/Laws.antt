@@ -9,7 +9,6 @@ use Rattle.semantics.specs.declared.graph.NodeId.{NodeId}
 use Rattle.semantics.specs.declared.refusal.ImageRefusal.{ImageRefusal}
 use Rattle.semantics.specs.declared.refusal.SearchRefusal.{SearchRefusal}
 use Rattle.semantics.specs.declared.answer.Definitions.{Definitions}
-use Rattle.semantics.specs.declared.answer.Definitions.TheVariants as Definitions
 use Rattle.semantics.specs.Lists.{and, pick}
 use Rattle.semantics.specs.Lists.Laws.{and-true, eqb-true, eqb_same}
 use Rattle.semantics.specs.Limits.{Bounds, isin_bytes, row_bytes}

@@ -38,7 +38,6 @@ use Rattle.semantics.proofs.Theorems.Direct.Laws.{step-taken, direct-ok, direct-
 use Rattle.semantics.specs.Demand.{Taken, Valid}
 use Rattle.semantics.specs.declared.refusal.ImageRefusal.{ImageRefusal}
 use Rattle.semantics.specs.declared.answer.Finding.{Finding}
-use Rattle.semantics.specs.declared.answer.Finding.TheVariants as Finding
 use Rattle.semantics.specs.Told.{told_finding}
 use Rattle.semantics.specs.Words.{whole_slots, area}
 use Rattle.semantics.specs.Calls.{Outcome}

@@ -1,6 +1,6 @@
 -- An accepted image is its version and its graph, written: no byte of it is free. For any symbol width.
 -- Document 02, order 3: each rewrite undoes the other byte for byte.
-use Prim.Native.Nat.{ℕ, zero, suc, ◌+◌, ◌-◌, ◌*◌, ◌≤◌, ◌<◌}
+use Prim.Native.Nat.{ℕ, zero, suc, ◌+◌, ◌*◌, ◌≤◌, ◌<◌}
 use Rattle.std.proofs.Common.{arith, zero-add, suc-add, ◌∙◌, true≢false, ltb→lt, lt→ltb, take-append-drop, drop-drop}
 use Rattle.std.specs.Prelude.{◌≡◌, Bool, not, eqb, leb, take}
 use Rattle.std.proofs.Math.Path.{refl, sym, ap, ap₂, subst}

@@ -11,13 +11,12 @@ use Rattle.semantics.specs.declared.graph.Node.TheVariants as N
 use Rattle.semantics.specs.declared.refusal.ImageRefusal.{ImageRefusal}
 use Rattle.semantics.specs.declared.refusal.ImageRefusal.TheVariants as Image
 use Rattle.semantics.specs.declared.answer.Rewriting.{Rewriting}
-use Rattle.semantics.specs.declared.answer.Rewriting.TheVariants as Rewriting
 use Rattle.semantics.specs.Lists.{pick, and}
 use Rattle.semantics.specs.Lists.Laws.{T→eq, eq→T, eqb_same, eqb-true, bool_false, and-true}
 use Rattle.semantics.specs.Answer.{Answer, ok, refuse}
 use Rattle.semantics.specs.Told.{told_rewriting}
 use Rattle.semantics.specs.Bytes.{byte_at}
-use Rattle.semantics.specs.Bytes.Written.{room, AllBytes}
+use Rattle.semantics.specs.Bytes.Written.{AllBytes}
 use Rattle.semantics.specs.Graph.{Graph}
 use Rattle.semantics.specs.Image.{symbol_bytes, only, most_bytes, first_record, next_place, place_of, header, check_with, check_image}
 use Rattle.semantics.proofs.Theorems.Image.Laws.{ltb-le, image-accepted}

@@ -5,7 +5,7 @@ use Rattle.std.proofs.Math.Path.{◌≡◌, refl, sym, ap}
 use Rattle.std.proofs.Common.{◌∙◌, subst}
 use Rattle.std.proofs.Math.Logic.{inl, inr, ⊎_elim}
 use Rattle.std.proofs.Math.Bool.{true, false, true≢false}
-use mathlib.Core.List.{List, [], ◌∷◌, Memᴰ}
+use mathlib.Core.List.{[], ◌∷◌, Memᴰ}
 use Rattle.semantics.specs.declared.search.Limit.TheVariants.{Absent}
 use Rattle.semantics.specs.declared.search.SearchOrder.TheVariants.{DepthFirst}
 use Rattle.semantics.specs.declared.search.SearchStats.{SearchStats}
@@ -15,7 +15,6 @@ use Rattle.semantics.specs.declared.refusal.SearchRefusal.{SearchRefusal}
 use Rattle.semantics.specs.declared.refusal.SearchRefusal.TheVariants as Search
 use Rattle.semantics.specs.declared.answer.Resolution.TheVariants as Resolution
 use Rattle.semantics.specs.declared.answer.Tallying.{Tallying}
-use Rattle.semantics.specs.declared.answer.Tallying.TheVariants as Tallying
 use Rattle.semantics.specs.Lists.{has}
 use Rattle.semantics.specs.Lists.Laws.{mem-map}
 use Rattle.semantics.specs.Limits.{Bounds, slot_words, within}

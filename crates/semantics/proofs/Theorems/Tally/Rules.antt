@@ -15,7 +15,6 @@ use Rattle.semantics.specs.declared.refusal.SearchRefusal.{SearchRefusal}
 use Rattle.semantics.specs.declared.refusal.SearchRefusal.TheVariants as Search
 use Rattle.semantics.specs.declared.answer.Resolution.TheVariants as Resolution
 use Rattle.semantics.specs.declared.answer.Tallying.{Tallying}
-use Rattle.semantics.specs.declared.answer.Tallying.TheVariants as Tallying
 use Rattle.semantics.specs.Limits.{Bounds, slot_words}
 use Rattle.semantics.specs.Answer.{Answer, ok, refuse}
 use Rattle.semantics.specs.Graph.{Graph, View, view_of, Lawful}

@@ -19,47 +19,29 @@ use Rattle.semantics.specs.declared.refusal.PartialPathRefusal.TheVariants as Pa
 use Rattle.semantics.specs.declared.refusal.DatabaseRefusal.{DatabaseRefusal}
 use Rattle.semantics.specs.declared.refusal.DatabaseRefusal.TheVariants as Database
 use Rattle.semantics.specs.declared.answer.Checked.{Checked}
-use Rattle.semantics.specs.declared.answer.Checked.TheVariants as Checked
 use Rattle.semantics.specs.declared.answer.Replayed.{Replayed}
-use Rattle.semantics.specs.declared.answer.Replayed.TheVariants as Replayed
 use Rattle.semantics.specs.declared.answer.Judgement.{Judgement}
-use Rattle.semantics.specs.declared.answer.Judgement.TheVariants as Judgement
 use Rattle.semantics.specs.declared.answer.Resolution.{Resolution}
-use Rattle.semantics.specs.declared.answer.Resolution.TheVariants as Resolution
 use Rattle.semantics.specs.declared.answer.LinearResolution.{LinearResolution}
-use Rattle.semantics.specs.declared.answer.LinearResolution.TheVariants as LinearResolution
 use Rattle.semantics.specs.declared.answer.Creation.{Creation}
-use Rattle.semantics.specs.declared.answer.Creation.TheVariants as Creation
 use Rattle.semantics.specs.declared.answer.Replacement.{Replacement}
-use Rattle.semantics.specs.declared.answer.Replacement.TheVariants as Replacement
 use Rattle.semantics.specs.declared.answer.Finding.{Finding}
-use Rattle.semantics.specs.declared.answer.Finding.TheVariants as Finding
 use Rattle.semantics.specs.Lists.{or, pick}
 use Rattle.semantics.specs.Graph.{node_id, edge_id, file_id}
 use Rattle.semantics.specs.Told.{told_flag, told_image, told_path, told_replay_refusal, told_search, told_linear, told_partial, told_database, told_stats, told_partial_stats, told_checked, told_replayed, told_judgement, told_resolution, told_linear_resolution, told_creation, told_replacement, told_finding, told_rewriting, told_conversion, told_compaction, told_entered, told_trend, told_node, told_node_reading, told_edge_reading, told_listing, told_tallying, told_flow}
 use Rattle.semantics.specs.declared.answer.Tallying.{Tallying}
-use Rattle.semantics.specs.declared.answer.Tallying.TheVariants as Tallying
 use Rattle.semantics.specs.declared.answer.Definitions.{Definitions}
-use Rattle.semantics.specs.declared.answer.Definitions.TheVariants as Definitions
 use Rattle.semantics.specs.declared.answer.Flow.{Flow}
-use Rattle.semantics.specs.declared.answer.Flow.TheVariants as Flow
 use Rattle.semantics.specs.declared.answer.Rewriting.{Rewriting}
-use Rattle.semantics.specs.declared.answer.Rewriting.TheVariants as Rewriting
 use Rattle.semantics.specs.declared.answer.Conversion.{Conversion}
-use Rattle.semantics.specs.declared.answer.Conversion.TheVariants as Conversion
 use Rattle.semantics.specs.declared.answer.Compaction.{Compaction}
-use Rattle.semantics.specs.declared.answer.Compaction.TheVariants as Compaction
 use Rattle.semantics.specs.declared.answer.Entered.{Entered}
-use Rattle.semantics.specs.declared.answer.Entered.TheVariants as Entered
 use Rattle.semantics.specs.declared.answer.Trend.{Trend}
 use Rattle.semantics.specs.declared.graph.Node.{Node}
 use Rattle.semantics.specs.declared.graph.Node.TheVariants as N
 use Rattle.semantics.specs.declared.answer.NodeReading.{NodeReading}
-use Rattle.semantics.specs.declared.answer.NodeReading.TheVariants as NodeReading
 use Rattle.semantics.specs.declared.answer.EdgeReading.{EdgeReading}
-use Rattle.semantics.specs.declared.answer.EdgeReading.TheVariants as EdgeReading
 use Rattle.semantics.specs.declared.answer.Listing.{Listing}
-use Rattle.semantics.specs.declared.answer.Listing.TheVariants as Listing
 use Rattle.semantics.specs.Bytes.{signed}
 use Rattle.semantics.specs.Bytes.Written.{fits32, signed-unsigned}
 

@@ -11,7 +11,6 @@ use Rattle.std.proofs.Math.Dec.{leb, leb→le}
 use Rattle.std.proofs.Math.ListN.{length, get_or, length-append, length-replicate, length-drop}
 use Rattle.std.proofs.Math.Seq.{length-take-le}
 use Rattle.semantics.specs.declared.answer.Conversion.{Conversion}
-use Rattle.semantics.specs.declared.answer.Conversion.TheVariants as Conversion
 use Rattle.semantics.specs.Lists.{and, pick}
 use Rattle.semantics.specs.Lists.Laws.{and-true, eq→T, T→eq}
 use Rattle.semantics.specs.Limits.{Bounds, record_words}

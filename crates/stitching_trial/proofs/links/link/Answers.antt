@@ -24,11 +24,14 @@ link_one-requires c =
     let a = c.args in
     let p = c.requires in
     let files = c.number.ensures in
-    let w = a.words.now in record { readable = (
+    let w = a.words.now in record {
+      readable = (
         p.0,
         omega (arith, l.invariant.1, c.loop-i-test.true),
         subst (λ n. LinkedFrom (sees a.visible.now) w l.links n) (let z : l.i ≡ l.i - 1 + 1 = omega (arith, c.loop-i-test.true) in z) l.invariant.2,
-      ); shows_all = λ none f h. c.hides_some-hides.ensures none f (omega (arith, h, files.0)) }
+      );
+      shows_all = λ none f h. c.hides_some-hides.ensures none f (omega (arith, h, files.0));
+    }
 
 pub loop-i-preserved : goal.loop-i-preserved
 loop-i-preserved c = let l = c.loop-i in (c.link_one.auto.links ∙ l.invariant.0, omega (arith, l.invariant.1), c.link_one.ensures)

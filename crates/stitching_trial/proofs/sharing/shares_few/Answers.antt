@@ -18,8 +18,7 @@ loop-i-smaller c = let l = c.loop-i in omega (arith, c.loop-i-test.true, l.invar
 pub loop-i-preserved : goal.loop-i-preserved
 loop-i-preserved c =
     let l = c.loop-i in
-    let a = c.args in
-    (
+    let a = c.args in (
       search rules,
       l.invariant.1,
       sym (shares-miss a.edges.now a.path.now l.i (omega (arith, c.loop-i-test.true, l.invariant.1))

@@ -37,8 +37,7 @@ pub loop-i-preserved : goal.loop-i-preserved
 loop-i-preserved c =
     let append = c.append-effect in
     let loop-test = c.loop-i-test in
-    let l = c.loop-i in
-    (
+    let l = c.loop-i in (
       omega (arith, loop-test.true),
       append.auto.steps ∙ l.invariant.1,
       λ t.

@@ -1,6 +1,5 @@
 -- `storage::refs::misfit_edge`: every edge passed so far fits.
 use mathlib.Core.Path.{sym, ◌∙◌}
-use mathlib.Core.Bool.{true}
 use native.Mathlib.Omega.{arith}
 use Rattle.storage.specs.References.{edge_test}
 use Rattle.storage.specs.References.Laws.{passed-more}

@@ -2,7 +2,7 @@
 use mathlib.Core.Path.{◌≡◌, refl, ap, ◌∙◌}
 use Prim.Native.Nat.{◌*◌}
 use native.Mathlib.Omega.{arith}
-use lib.ListN.{length, drop, length-set}
+use lib.ListN.{drop, length-set}
 use lib.Seq.{paste, paste-zero}
 use Rattle.words.specs.Copies.{copy_within}
 use Rattle.words.specs.Slots.{slot_at, put_slot}

@@ -2,7 +2,7 @@
 use mathlib.Core.Path.{◌≡◌, refl, ap, ◌∙◌}
 use Prim.Native.Nat.{◌+◌, ◌*◌}
 use native.Mathlib.Omega.{arith}
-use lib.ListN.{length, get_or, length-set}
+use lib.ListN.{get_or, length-set}
 use Rattle.words.specs.Copies.{exchanged, exchanged-none, swap-within}
 use Rattle.words.specs.Slots.{slot_at, put_slot, swap_slots}
 use Rattle.words.specs.Slots.Laws.{slots_apart}

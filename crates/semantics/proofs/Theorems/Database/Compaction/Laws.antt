@@ -12,7 +12,6 @@ use mathlib.Core.List.{List, [], ◌∷◌, ◌++◌, map, flatten, append-nil}
 use Rattle.std.proofs.Math.Dec.{leb, ltb}
 use Rattle.std.proofs.Math.ListN.{length, length-append, length-replicate, length-drop, get_or-append, get_or-map}
 use Rattle.semantics.specs.declared.answer.Compaction.{Compaction}
-use Rattle.semantics.specs.declared.answer.Compaction.TheVariants as Compaction
 use Rattle.semantics.specs.Lists.{pick, cons_if}
 use Rattle.semantics.specs.Lists.Laws.{and-true, eq→T, T→eq}
 use Rattle.semantics.specs.Limits.{Bounds, record_words}
