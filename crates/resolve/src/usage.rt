@@ -41,9 +41,8 @@ pub(crate) fn tell_help<W: Write>(out: &mut W) -> io::Result<()> {
     )?;
     print(
         out,
-        b"What cannot be read, and that output was lost, is told on standard error.\n",
-    )?;
-    print(out, b"The exit status is always 0.\n")
+        b"What cannot be read is told on standard error. The exit status is always 0.\n",
+    )
 }
 
 pub(crate) fn tell_misuse<W: Write>(err: &mut W) {
