@@ -7,7 +7,7 @@ ghost use Rattle.semantics.specs.Finding.{references_from};
 ghost use Rattle.semantics.specs.Reading.{listed};
 ghost use Rattle.semantics.specs.Entries.{references_of, outgoing_of};
 ghost use Rattle.semantics.specs.Told.{told_listing};
-ghost use Rattle.storage.specs.Index.{EDGES, Blocks, node_row, Loaded, Takes, HoldsGraph, HoldsNodes};
+ghost use Rattle.storage.specs.Index.{EDGES, Blocks, node_row, Loaded, Takes, HoldsGraph, HoldsNodes, is_small};
 ghost use Rattle.readers.specs.Listing.{Holds, Adds, Lists, outgoing_loaded};
 
 use semantics::answer::{Checked, Listing};
@@ -98,17 +98,35 @@ fn references_in(image: &[u8], visible: &[u8], index: &mut [u32], res: &mut [u32
     }
 }
 
+// Each index stands in a function that is not compiled into its caller, so that a call needs room for one of them alone.
+#[inline(never)]
+fn references_small(image: &[u8], visible: &[u8], res: &mut [u32]) -> Listing
+    requires { is_small image.now ≡ true }
+    ensures result_value { told_listing result ≡ told_listing (references_of image.now visible.now res.old).answer }
+    ensures res_after { res.new ≡ (references_of image.now visible.now res.old).result }
+{
+    let mut index = [0u32; blocks::SMALL];
+    references_in(image, visible, &mut index, res)
+}
+
+#[inline(never)]
+fn references_large(image: &[u8], visible: &[u8], res: &mut [u32]) -> Listing
+    ensures result_value { told_listing result ≡ told_listing (references_of image.now visible.now res.old).answer }
+    ensures res_after { res.new ≡ (references_of image.now visible.now res.old).result }
+{
+    let mut index = [0u32; blocks::INDEX];
+    references_in(image, visible, &mut index, res)
+}
+
 // The references that are visible, on any bytes. A small image gets a small index, as in every call.
 pub fn references(image: &[u8], visible: &[u8], res: &mut [u32]) -> Listing
     ensures result_value { told_listing result ≡ told_listing (references_of image.now visible.now res.old).answer }
     ensures res_after { res.new ≡ (references_of image.now visible.now res.old).result }
 {
     if check::is_small(image) {
-        let mut index = [0u32; blocks::SMALL];
-        return references_in(image, visible, &mut index, res);
+        return references_small(image, visible, res);
     }
-    let mut index = [0u32; blocks::INDEX];
-    references_in(image, visible, &mut index, res)
+    references_large(image, visible, res)
 }
 
 // 10 for a node that is not known, else its edges, in an area that is zero.

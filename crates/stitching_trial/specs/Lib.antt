@@ -2,4 +2,3 @@ pub mod Items
 pub mod Links
 pub mod Looks
 pub mod Trials
-pub mod Marks

@@ -4,5 +4,4 @@
 
 pub mod joined_path;
 pub mod links;
-mod sharing;
 pub mod trial;

@@ -1,10 +1,11 @@
 // What becomes of a partial path on the path under expansion. Document 01, "Answer": per partial path in stitching cycle, length, the bound on
 // edges, append, completeness. The bound is tested on the whole before any edge is appended.
 ghost use Rattle.std.specs.Prelude.{◌≡◌};
+ghost use Rattle.semantics.specs.Lists.{shares};
 ghost use Rattle.stitching_trial.specs.Trials.{Appends, AppendsTo, ended_by, Judging, JudgedAs};
 
-use crate::sharing;
 use path_budget::budget::Budget;
+use search_state::path_slot;
 use semantics::bounds::MAX_EDGES;
 use semantics::refusal::{PathRefusal, SearchRefusal};
 use stepping::step::Effect;
@@ -17,6 +18,18 @@ pub enum StitchTrial {
     Rejected,
     Refused(SearchRefusal),
     Extended { complete: bool },
+}
+
+// Does one of these edges stand on the path? Such a partial path is a cycle cut; one that was used already shares all of its edges.
+fn shares(edges: &[u32], path: &[u32]) -> bool
+    ensures { result ≡ shares edges.now path.now }
+{
+    for i in 0..edges.len() {
+        if path_slot::contains(path, edges[i]) {
+            return true;
+        }
+    }
+    false
 }
 
 // The edges are appended in order behind the k edges of the path, whose own steps stay. Answers the last step or the first refusal.
@@ -71,7 +84,7 @@ pub fn judge_partial_path(
     ensures { (v : Judging index.now steps.old path.now edges.now)
         → JudgedAs index.now steps.old path.now edges.now v budget.max_length result steps.new }
 {
-    if sharing::shares(edges, path) {
+    if shares(edges, path) {
         return StitchTrial::Cut;
     }
     let whole = path.len() + edges.len();

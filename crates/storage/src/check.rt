@@ -167,14 +167,30 @@ pub fn is_small(image: &[u8]) -> bool
     true
 }
 
+// The two indices stand in functions of their own, neither of which is compiled into its caller: a call then needs room for one of them and not for both.
+#[inline(never)]
+fn check_small(image: &[u8]) -> Checked
+    requires { is_small image.now ≡ true }
+    ensures { told_checked result ≡ told_checked (check_of image.now) }
+{
+    let mut index = [0u32; blocks::SMALL];
+    load_fresh(image, &mut index)
+}
+
+#[inline(never)]
+fn check_large(image: &[u8]) -> Checked
+    ensures { told_checked result ≡ told_checked (check_of image.now) }
+{
+    let mut index = [0u32; blocks::INDEX];
+    load_fresh(image, &mut index)
+}
+
 // The check of any bytes. A small image gets a small index: zeroing a large one would take longer than the check.
 pub fn check(image: &[u8]) -> Checked
     ensures { told_checked result ≡ told_checked (check_of image.now) }
 {
     if is_small(image) {
-        let mut index = [0u32; blocks::SMALL];
-        return load_fresh(image, &mut index);
+        return check_small(image);
     }
-    let mut index = [0u32; blocks::INDEX];
-    load_fresh(image, &mut index)
+    check_large(image)
 }

@@ -2,7 +2,7 @@ use native.Mathlib.Omega.{arith}
 use mathlib.Core.Path.{sym, ◌∙◌}
 use Rattle.stitching_trial.specs.Trials.Laws.{shares-hit, shares-miss, shares-end}
 use borrow.Author.Rules.{rules}
-use Rattle.stitching_trial.proofs.sharing.shares_few.Goals as goal
+use Rattle.stitching_trial.proofs.trial.shares.Goals as goal
 
 pub returns-then-contains : goal.returns-then-contains
 returns-then-contains c =
