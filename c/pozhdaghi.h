@@ -12,7 +12,7 @@
  *   numbers hold every answer but that of `tally`; of fewer, those that fit are written.
  * - What `work`, `result`, `list`, `path`, `area` and `answer` held before has no influence. After the call every element of them is fixed. `work` is zero
  *   then, refused or not. After a refusal `result`, `list`, `path`, `area` and the new words of a conversion are zero, and `words` are not altered.
- * - A call takes up to 227 KB of the caller's stack as measured; docs/FORMAT.md has a table. Give a thread 512 KB. Calls on different areas may run on any
+ * - A call takes up to 226 KB of the caller's stack as measured; docs/FORMAT.md has a table. Give a thread 512 KB. Calls on different areas may run on any
  *   threads at once. While a call writes an area, no other call may read or write it.
  *
  * "Image refusals" below are 1 to 5, in the order that docs/FORMAT.md gives; they come before all others.

@@ -104,14 +104,14 @@ const CALLS: [Call; 28] = [
         let mut database = DatabaseMut::lend(&mut lent.words);
         database.replace_aliases(image, &ASKED, &mut work).is_ok()
     }),
-    ("stitched", [227, 227], |lent| {
+    ("stitched", [226, 226], |lent| {
         lent.search(|image, words, work, to| {
             image
                 .stitched(Visible::All, words, REFERENCE, &ASKED, work, to)
                 .is_ok()
         })
     }),
-    ("stitched_recorded", [227, 227], |lent| {
+    ("stitched_recorded", [226, 226], |lent| {
         lent.search(|image, words, work, to| {
             image
                 .stitched_recorded(Visible::All, words, REFERENCE, &ASKED, work, to)
