@@ -125,7 +125,7 @@ const CALLS: [Call; 28] = [
                 .is_ok()
         })
     }),
-    ("resolve_flow", [194, 194], |lent| {
+    ("resolve_flow", [199, 199], |lent| {
         lent.search(|image, _, work, to| {
             image
                 .resolve_flow(Visible::All, ROW, KEY, &ASKED, work, to)
@@ -156,7 +156,7 @@ const CALLS: [Call; 28] = [
             .find_name(Visible::All, lent.definition, None, &mut work, &mut results)
             .is_ok()
     }),
-    ("tally", [182, 182], |lent| {
+    ("tally", [183, 183], |lent| {
         let (image, mut work) = (Image::unchecked(&lent.image), Work::lend(&mut lent.work));
         image.tally(Visible::All, REFERENCE, &mut work).is_ok()
     }),
