@@ -50,8 +50,8 @@ RATTLE = {
         "WINDOW_ENTRIES": "WINDOW_ENTRIES",
         "WINDOW_WORDS": "WINDOW_WORDS",
     },
+    "image/src/version.rt": {"LONGEST_IMAGE": "MOST_BYTES"},
     "image/src/header.rt": {
-        "LONGEST_IMAGE": "MOST_BYTES",
         "MOST_FILES": "MOST_FILES",
         "MOST_NODES": "MOST_NODES",
         "MOST_GRAPH_EDGES": "MOST_EDGES",
@@ -75,7 +75,7 @@ RATTLE = {
 
 # Where a refusal gets its number: a case of an enum, or a function of its own.
 REFUSALS = ["told/src/refusal.rt", "pozhdaghi/src/numbers.rt"]
-CASE = re.compile(r"\b\w+::(\w+)(?:\([^()]*\)|\s*\{[^{}]*\})?\s*=>\s*(?:bare|valued)\((\d+)\b")
+CASE = re.compile(r"\b\w+::(\w+)(?:\([^()]*\)|\s*\{[^{}]*\})?\)?\s*=>\s*(?:bare|valued)\((\d+)\b")
 OWN = re.compile(r"\bpub fn (\w+)\([^()]*\) -> Told\s[^{]*\{[^{}]*\}\s*\{\s*(?:bare|valued)\((\d+)\b")
 SOURCES = re.compile(r"\bfn sources\(.*?\bnumber: (\d+)", re.S)
 NAMED = re.compile(r"\{POZHDAGHI_(?:REFUSED_)?(\w+), \"(\w+)\"")

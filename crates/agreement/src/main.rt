@@ -4,24 +4,19 @@
 // `demand::sets::record_both`, and its premise on databases that of `demand::filing::file_all`, `refile_all` and `refile_with_aliases`.
 #![tactic(auto)]
 
-ghost use Rattle.std.specs.Prelude.{◌≡◌, length};
-ghost use Rattle.storage.specs.Index.{INDEX};
-ghost use Rattle.printing.specs.Areas.{area_words};
-
 mod report;
 
 use demand::filing::{file_all, refile_all, refile_with_aliases};
 use demand::sets::{Answers, Asked, record_both};
 use printing::input;
 use printing::paths::AREA_WORDS;
-use semantics::answer::Checked;
 use semantics::graph::NodeId;
-use semantics::search::{Limit, SearchLimits, SearchOrder};
+use semantics::search::{SearchLimits, SearchOrder};
 use std::io;
 use std::io::{Read, Write};
 use stepping::node::is_reference;
 use storage::{blocks, check, store};
-use told::refusal;
+use told::refusal::Told;
 
 // Room for the longest image that may be accepted.
 const MOST_BYTES: usize = 65_536;
@@ -34,25 +29,26 @@ const VISIBLE: u8 = 1;
 // Room for 512 partial paths.
 const DATABASE_WORDS: usize = 67_075;
 
+// What the searches are lent: direct search the waiting and the found, stitched search the others.
+#[derive(Drop)]
+struct Areas {
+    waiting: [u32; AREA_WORDS],
+    found: [u32; AREA_WORDS],
+    stitching: [u32; AREA_WORDS],
+    joined: [u32; AREA_WORDS],
+}
+
 fn unlimited(order: SearchOrder) -> Asked {
     let limits = SearchLimits {
-        length: Limit::Absent,
-        expansions: Limit::Absent,
-        complete: Limit::Absent,
+        length: None,
+        expansions: None,
+        complete: None,
     };
     Asked { order, limits }
 }
 
 // Both searches see every file, and run in different orders.
-fn record_seen(
-    image: &[u8],
-    words: &[u32],
-    n: u32,
-    waiting: &mut [u32],
-    found: &mut [u32],
-    stitching: &mut [u32],
-    joined: &mut [u32],
-) -> Answers {
+fn record_seen(image: &[u8], words: &[u32], n: u32, areas: &mut Areas) -> Answers {
     let visible = [VISIBLE; MOST_FILES];
     let first = unlimited(SearchOrder::BreadthFirst);
     let second = unlimited(SearchOrder::DepthFirst);
@@ -63,33 +59,28 @@ fn record_seen(
         NodeId(n),
         first,
         second,
-        waiting,
-        found,
-        stitching,
-        joined,
+        &mut areas.waiting,
+        &mut areas.found,
+        &mut areas.stitching,
+        &mut areas.joined,
     )
 }
 
 // A node that is no reference is passed over.
 fn compare_node<W: Write>(
     image: &[u8],
-    index: &[u32],
+    index: &[u32; blocks::INDEX],
     words: &[u32],
     n: u32,
-    waiting: &mut [u32],
-    found: &mut [u32],
-    stitching: &mut [u32],
-    joined: &mut [u32],
+    areas: &mut Areas,
     out: &mut W,
-) -> io::Result<()>
-    requires { (length index.now ≡ INDEX) × (length found.old ≡ area_words) × (length joined.old ≡ area_words) }
-{
+) -> io::Result<()> {
     if is_reference(store::node(index, NodeId(n))) {
-        let answers = record_seen(image, words, n, waiting, found, stitching, joined);
+        let answers = record_seen(image, words, n, areas);
         let direct = answers.direct;
         let stitched = answers.stitched;
-        report::tell(out, n, b"direct", direct, found)?;
-        report::tell(out, n, b"stitched", stitched, joined)?;
+        report::tell(out, n, "direct", direct, &areas.found)?;
+        report::tell(out, n, "stitched", stitched, &areas.joined)?;
     }
     Ok(())
 }
@@ -97,83 +88,59 @@ fn compare_node<W: Write>(
 // Every reference of the loaded graph, by ascending number.
 fn compare_all<W: Write>(
     image: &[u8],
-    index: &[u32],
+    index: &[u32; blocks::INDEX],
     words: &[u32],
     nodes: u32,
-    waiting: &mut [u32],
-    found: &mut [u32],
-    stitching: &mut [u32],
-    joined: &mut [u32],
+    areas: &mut Areas,
     out: &mut W,
-) -> io::Result<()>
-    requires { (length index.now ≡ INDEX) × (length found.old ≡ area_words) × (length joined.old ≡ area_words) }
-{
+) -> io::Result<()> {
     for n in 0..nodes {
-        compare_node(
-            image, index, words, n, waiting, found, stitching, joined, out,
-        )?;
+        compare_node(image, index, words, n, areas, out)?;
     }
     Ok(())
 }
 
 // Filed, and filed again: the slots of the first time are dead then.
 fn file_twice(image: &[u8], files: u32, work: &mut [u32], words: &mut [u32]) -> bool {
-    if file_all(image, files, SearchOrder::BreadthFirst, work, words) {
-        return refile_all(image, files, SearchOrder::DepthFirst, work, words);
-    }
-    false
+    file_all(image, files, SearchOrder::BreadthFirst, work, words)
+        && refile_all(image, files, SearchOrder::DepthFirst, work, words)
 }
 
 // First without the alias set, then with it.
 fn compare_filed<W: Write>(
     image: &[u8],
-    index: &[u32],
+    index: &[u32; blocks::INDEX],
     words: &mut [u32],
     files: u32,
     nodes: u32,
-    waiting: &mut [u32],
-    found: &mut [u32],
-    stitching: &mut [u32],
-    joined: &mut [u32],
+    areas: &mut Areas,
     out: &mut W,
-) -> io::Result<()>
-    requires { (length index.now ≡ INDEX) × (length found.old ≡ area_words) × (length joined.old ≡ area_words) }
-{
-    compare_all(
-        image, index, words, nodes, waiting, found, stitching, joined, out,
-    )?;
-    if refile_with_aliases(image, files, SearchOrder::BreadthFirst, waiting, words) {
+) -> io::Result<()> {
+    compare_all(image, index, words, nodes, areas, out)?;
+    let order = SearchOrder::BreadthFirst;
+    if refile_with_aliases(image, files, order, &mut areas.waiting, words) {
         report::tell_aliases(out)?;
-        return compare_all(
-            image, index, words, nodes, waiting, found, stitching, joined, out,
-        );
+        return compare_all(image, index, words, nodes, areas, out);
     }
     report::tell_not_filed(out)
 }
 
 // The image is checked once here, for its files and nodes.
-fn compare_image<W: Write>(
-    image: &[u8],
-    waiting: &mut [u32],
-    found: &mut [u32],
-    stitching: &mut [u32],
-    joined: &mut [u32],
-    out: &mut W,
-) -> io::Result<()>
-    requires { (length found.old ≡ area_words) × (length joined.old ≡ area_words) }
-{
+fn compare_image<W: Write>(image: &[u8], areas: &mut Areas, out: &mut W) -> io::Result<()> {
     let mut index = [0u32; blocks::INDEX];
     let mut words = [0u32; DATABASE_WORDS];
     match check::load(image, &mut index) {
-        Checked::Refused(r) => report::tell_refused(out, b"refused ", refusal::image(r).number),
-        Checked::Accepted {
-            files,
-            nodes,
-            edges: _,
-        } => {
-            if file_twice(image, files, waiting, &mut words) {
+        Err(r) => report::tell_image_refused(out, Told::from(r).number),
+        Ok(counts) => {
+            if file_twice(image, counts.files, &mut areas.waiting, &mut words) {
                 compare_filed(
-                    image, &index, &mut words, files, nodes, waiting, found, stitching, joined, out,
+                    image,
+                    &index,
+                    &mut words,
+                    counts.files,
+                    counts.nodes,
+                    areas,
+                    out,
                 )
             } else {
                 report::tell_not_filed(out)
@@ -185,33 +152,22 @@ fn compare_image<W: Write>(
 fn read_and_compare<R: Read, W: Write>(
     reader: &mut R,
     bytes: &mut [u8],
-    waiting: &mut [u32],
-    found: &mut [u32],
-    stitching: &mut [u32],
-    joined: &mut [u32],
+    areas: &mut Areas,
     out: &mut W,
-) -> io::Result<()>
-    requires { (length found.old ≡ area_words) × (length joined.old ≡ area_words) }
-{
+) -> io::Result<()> {
     let n = input::read_full(reader, bytes)?;
-    compare_image(&bytes[0..n], waiting, found, stitching, joined, out)
+    compare_image(&bytes[..n], areas, out)
 }
 
 fn main(rt: HostRuntime) -> io::Result<()> {
     let mut bytes = [0u8; MOST_BYTES];
-    let mut waiting = [0u32; AREA_WORDS];
-    let mut found = [0u32; AREA_WORDS];
-    let mut stitching = [0u32; AREA_WORDS];
-    let mut joined = [0u32; AREA_WORDS];
+    let mut areas = Areas {
+        waiting: [0; AREA_WORDS],
+        found: [0; AREA_WORDS],
+        stitching: [0; AREA_WORDS],
+        joined: [0; AREA_WORDS],
+    };
     let mut reader = rt.stdin();
     let mut out = rt.stdout();
-    read_and_compare(
-        &mut reader,
-        &mut bytes,
-        &mut waiting,
-        &mut found,
-        &mut stitching,
-        &mut joined,
-        &mut out,
-    )
+    read_and_compare(&mut reader, &mut bytes, &mut areas, &mut out)
 }

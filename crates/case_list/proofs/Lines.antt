@@ -7,9 +7,10 @@ use Rattle.std.proofs.Math.Numerals.{suc-eq-add-one}
 use Rattle.case_list.specs.Numbers.{long_at}
 use Rattle.case_list.specs.Lines.{named, sums_line, sums_lines, given_words, expected_words}
 
-pub sums_more : (sums : List ℕ) (n x y : ℕ) → x ≡ slice_index sums (2 * n) → y ≡ slice_index sums (2 * n + 1) → sums_lines sums n ++ sums_line n x y ≡ sums_lines sums (n + 1)
-sums_more sums n x y p q =
-    ap (λ z. sums_lines sums n ++ sums_line n z y) p ∙ ap (λ z. sums_lines sums n ++ sums_line n (slice_index sums (2 * n)) z) q
+pub sums_more : (sums : List ℕ) (n k x y : ℕ) → k ≡ n → x ≡ slice_index sums (2 * n) → y ≡ slice_index sums (2 * n + 1) → sums_lines sums n ++ sums_line k x y ≡ sums_lines sums (n + 1)
+sums_more sums n k x y h p q =
+    ap (λ z. sums_lines sums n ++ sums_line z x y) h
+    ∙ ap (λ z. sums_lines sums n ++ sums_line n z y) p ∙ ap (λ z. sums_lines sums n ++ sums_line n (slice_index sums (2 * n)) z) q
     ∙ ap (sums_lines sums) (suc-eq-add-one n)
 
 pub given_more : (words : List ℕ) (n x : ℕ) → x ≡ slice_index words n → given_words words n ++ named (codes " ") x ≡ given_words words (n + 1)

@@ -1,16 +1,14 @@
-// Lent words: filled or written before a call, and told word by word after it.
+// Lent words: written before a call, and told word by word after it.
 ghost use Rattle.std.specs.Prelude.{◌+◌, ◌<◌, ◌≤◌, length};
 ghost use Rattle.case_list.specs.Bounds.{most_place};
 
-use crate::answer::{put, word};
+use crate::answer::{Answer, put, word};
 use crate::list;
 
-// Every word becomes the given one.
-pub fn fill(area: &mut [u32], word: u32) {
-    let mut i: usize = 0;
-    while i < area.len() {
-        put(area, i, word);
-        i += 1;
+// Nothing is written behind the area.
+fn put_at(area: &mut [u32], place: usize, word: u32) {
+    if let Some(old) = area.get_mut(place) {
+        *old = word;
     }
 }
 
@@ -19,61 +17,40 @@ pub fn write(case: &[u8], at: usize, area: &mut [u32])
     requires { at + 1000000 < most_place }
 {
     let count = list::short(case, at) as usize;
-    let mut i: usize = 0;
-    while i < count {
+    for i in (0..count).step_by(2) {
         let place = list::long(case, at + 2 + 4 * i) as usize;
-        put(area, place, list::long(case, at + 6 + 4 * i));
-        i += 2;
+        put_at(area, place, list::long(case, at + 6 + 4 * i));
     }
 }
 
 // Each word at its place in the other area, as far as that has places.
 pub fn copy(area: &[u32], to: &mut [u32]) {
-    let mut i: usize = 0;
-    while i < area.len() {
-        put(to, i, area[i]);
-        i += 1;
-    }
+    let n = area.len().min(to.len());
+    to[..n].copy_from_slice(&area[..n]);
 }
 
 // A place or a length as a word; no area here has more words than one can count.
 fn narrow(number: usize) -> u32 {
-    if number < 4_294_967_296 {
-        number as u32
-    } else {
-        4_294_967_295
-    }
+    u32::try_from(number).unwrap_or(u32::MAX)
 }
 
-// A word that is not 0 is its place and itself.
-fn put_word(out: &mut [u32], at: usize, place: usize, word: u32) -> usize {
-    if 0 < word {
-        let next = put(out, at, narrow(place));
-        return put(out, next, word);
+// Each word that is not 0, as its place and itself, then the length of the area.
+pub fn put_area(out: &mut Answer, area: &[u32]) {
+    for (place, &word) in area.iter().enumerate() {
+        if word != 0 {
+            put(out, narrow(place));
+            put(out, word);
+        }
     }
-    at
-}
-
-// Each word that is not 0, then the length of the area.
-pub fn put_area(out: &mut [u32], at: usize, area: &[u32]) -> usize {
-    let mut next = at;
-    let mut i: usize = 0;
-    while i < area.len() {
-        next = put_word(out, next, i, area[i]);
-        i += 1;
-    }
-    put(out, next, narrow(area.len()))
+    put(out, narrow(area.len()));
 }
 
 // The length, then every word.
-pub fn put_words(out: &mut [u32], at: usize, area: &[u32]) -> usize {
-    let mut next = put(out, at, narrow(area.len()));
-    let mut i: usize = 0;
-    while i < area.len() {
-        next = put(out, next, area[i]);
-        i += 1;
+pub fn put_words(out: &mut Answer, area: &[u32]) {
+    put(out, narrow(area.len()));
+    for &word in area {
+        put(out, word);
     }
-    next
 }
 
 // Is the word at a place another one than before?
@@ -84,13 +61,7 @@ fn altered(before: &[u32], after: &[u32], at: usize) -> bool {
 // Do two places belong to one run: both as they were, or both altered to the same word?
 fn alike(before: &[u32], after: &[u32], at: usize, other: usize) -> bool {
     let first = altered(before, after, at);
-    if first != altered(before, after, other) {
-        return false;
-    }
-    if first {
-        return word(after, at) == word(after, other);
-    }
-    true
+    first == altered(before, after, other) && (!first || word(after, at) == word(after, other))
 }
 
 // Where the run ends that begins at a place.
@@ -98,43 +69,32 @@ fn run_end(before: &[u32], after: &[u32], from: usize) -> usize
     requires { from < length after.now }
     ensures { (from < result) × (result ≤ length after.now) }
 {
-    let mut to = from + 1;
-    while to < after.len() {
+    for to in from + 1..after.len() {
         if !alike(before, after, from, to) {
             return to;
         }
-        to += 1;
     }
-    to
+    after.len()
 }
 
 // An altered run is its place, how many words it has, and the word.
-fn put_run(
-    out: &mut [u32],
-    at: usize,
-    before: &[u32],
-    after: &[u32],
-    from: usize,
-    to: usize,
-) -> usize
+fn put_run(out: &mut Answer, before: &[u32], after: &[u32], from: usize, to: usize)
     requires { from < to }
 {
     if altered(before, after, from) {
-        let count = put(out, at, narrow(from));
-        let last = put(out, count, narrow(to - from));
-        return put(out, last, word(after, from));
+        put(out, narrow(from));
+        put(out, narrow(to - from));
+        put(out, word(after, from));
     }
-    at
 }
 
 // Each altered run, then the length of the area: every word is told, a word that is in no run being the one of before.
-pub fn put_changes(out: &mut [u32], at: usize, before: &[u32], after: &[u32]) -> usize {
-    let mut next = at;
-    let mut i: usize = 0;
-    while i < after.len() {
-        let to = run_end(before, after, i);
-        next = put_run(out, next, before, after, i, to);
-        i = to;
+pub fn put_changes(out: &mut Answer, before: &[u32], after: &[u32]) {
+    let mut from: usize = 0;
+    while from < after.len() {
+        let to = run_end(before, after, from);
+        put_run(out, before, after, from, to);
+        from = to;
     }
-    put(out, next, narrow(after.len()))
+    put(out, narrow(after.len()));
 }

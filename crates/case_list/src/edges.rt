@@ -2,7 +2,7 @@
 ghost use Rattle.std.specs.Prelude.{◌+◌, ◌<◌, ◌≤◌, length};
 ghost use Rattle.case_list.specs.Bounds.{most_place};
 
-use crate::{answer, areas, list};
+use crate::list;
 
 const REPEATED: u8 = b'R';
 
@@ -10,27 +10,25 @@ const REPEATED: u8 = b'R';
 fn copy(case: &[u8], at: usize, edges: &mut [u32])
     requires { (at + 280000 < most_place) × (length edges.old < 65536) }
 {
-    let mut i: usize = 0;
-    while i < edges.len() {
-        answer::put(edges, i, list::long(case, at + 4 * i));
-        i += 1;
+    for (i, edge) in edges.iter_mut().enumerate() {
+        *edge = list::long(case, at + 4 * i);
     }
 }
 
-// Puts the edge list at a place into the lent words, and answers how many edges it has.
+// The edge list at a place, in the lent words.
 // No edge list here is longer than the words are; of such a one, only the beginning would be read.
-pub fn read(case: &[u8], at: usize, edges: &mut [u32]) -> usize
+pub fn read<'a>(case: &[u8], at: usize, words: &'a mut [u32]) -> &'a [u32]
     requires { at + 300000 < most_place }
-    ensures { result ≤ length edges.old }
+    ensures { length result.now ≤ length words.old }
 {
     if list::byte(case, at) == REPEATED {
-        let n = list::lesser(list::long(case, at + 1) as usize, edges.len());
-        areas::fill(&mut edges[0..n], list::long(case, at + 5));
-        return n;
+        let n = words.len().min(list::long(case, at + 1) as usize);
+        words[..n].fill(list::long(case, at + 5));
+        return &words[..n];
     }
-    let n = list::lesser(list::short(case, at + 1) as usize, edges.len());
-    copy(case, at + 3, &mut edges[0..n]);
-    n
+    let n = words.len().min(list::short(case, at + 1) as usize);
+    copy(case, at + 3, &mut words[..n]);
+    &words[..n]
 }
 
 // The place behind the edge list at a place.

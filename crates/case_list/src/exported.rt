@@ -1,25 +1,21 @@
 // What an exported call has told, as the list has it.
 ghost use Rattle.std.specs.Prelude.{◌≤◌};
 
-use crate::answer::{put, put_wide};
+use crate::answer::{Answer, put, put_wide};
 
 // The numbers of the longest answer.
 pub const TOLD: usize = 10;
 
-// The number at a place; 0 behind the last.
-fn number(told: &[u64], at: usize) -> u64 {
-    if at < told.len() { told[at] } else { 0 }
-}
-
 // A number of 32 bits. A longer one is put as two words: the answer then differs from the expected one by its count.
-fn put_number(out: &mut [u32], at: usize, number: u64) -> usize {
-    if number < 4_294_967_296 {
-        return put(out, at, number as u32);
+fn put_number(out: &mut Answer, number: u64) {
+    match u32::try_from(number) {
+        Ok(word) => put(out, word),
+        Err(_) => put_wide(out, number),
     }
-    put_wide(out, at, number)
 }
 
 // How many values are told with a refusal: a record's place, a node, an edge or a file; two nodes with 13.
+// Kept: a number for a refusal, as the C interface has it: what is compared here are the numbers that an exported call writes.
 fn values(refusal: u64) -> usize
     ensures { result ≤ 2 }
 {
@@ -30,41 +26,29 @@ fn values(refusal: u64) -> usize
     }
 }
 
-// Behind the numbers of an answer there are zeros. Any other number is put too, by which the answer differs likewise.
-fn put_behind(out: &mut [u32], at: usize, number: u64) -> usize {
-    if number == 0 {
-        return at;
-    }
-    put_number(out, at, number)
-}
-
-fn put_one(out: &mut [u32], at: usize, number: u64, wide: bool, told: bool) -> usize {
+// A number of 64 bits if it is wide. Behind the numbers that are told there are zeros; any other number is put too, by which the answer differs likewise.
+fn put_one(out: &mut Answer, number: u64, wide: bool, told: bool) {
     if wide {
-        return put_wide(out, at, number);
+        put_wide(out, number);
+    } else if told || number != 0 {
+        put_number(out, number);
     }
-    if told {
-        return put_number(out, at, number);
-    }
-    put_behind(out, at, number)
 }
 
 // The numbers behind the first, of which as many as are said to be wide have 64 bits. With the first, the answer has as many as are counted.
-fn put_numbers(out: &mut [u32], at: usize, told: &[u64], wide: usize, count: usize) -> usize {
-    let mut next = at;
-    let mut i: usize = 1;
-    while i < told.len() {
-        next = put_one(out, next, number(told, i), i <= wide, i < count);
-        i += 1;
+fn put_numbers(out: &mut Answer, told: &[u64], wide: usize, count: usize) {
+    for (i, &number) in told.iter().enumerate().skip(1) {
+        put_one(out, number, i <= wide, i < count);
     }
-    next
 }
 
-// 0 and the numbers behind it; or the refusal and its values. It answers how many words that are.
-pub fn put_answer(out: &mut [u32], told: &[u64], wide: usize, count: usize) -> usize {
-    let refusal = number(told, 0);
-    let first = put_number(out, 0, refusal);
+// 0 and the numbers behind it; or the refusal and its values.
+pub fn put_answer(out: &mut Answer, told: &[u64], wide: usize, count: usize) {
+    let refusal = told.first().copied().unwrap_or(0);
+    put_number(out, refusal);
     if refusal == 0 {
-        return put_numbers(out, first, told, wide, count);
+        put_numbers(out, told, wide, count);
+    } else {
+        put_numbers(out, told, 0, 1 + values(refusal));
     }
-    put_numbers(out, first, told, 0, 1 + values(refusal))
 }

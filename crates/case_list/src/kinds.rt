@@ -1,64 +1,94 @@
 // The kinds of calls, in the order in which they are counted and told. In the first section of the lists every case is the check of an image; in the
 // others a case has the tag of its kind, or is an image or words that the calls behind it are lent.
-ghost use Rattle.std.specs.Prelude.{◌≤◌};
+ghost use Rattle.std.specs.Prelude.{Some};
+ghost use Rattle.case_list.specs.Kinds.{number_of, IsNumbered};
+ghost use Rattle.case_list.specs.Lines.{kind_name};
 
-pub const IMAGES: usize = 0;
+use std::fmt;
 
-pub const REPLAYS: usize = 1;
+#[derive(Clone, Copy, PartialEq, Eq)]
+pub enum Kind {
+    Images,
+    Replays,
+    Complete,
+    Shadows,
+    Direct,
+    DirectRecorded,
+    Linear,
+    LinearRecorded,
+    Fresh,
+    Replaced,
+    Lookups,
+    Stitched,
+    StitchedRecorded,
+}
 
-pub const COMPLETE: usize = 2;
+// How many kinds there are.
+pub const KINDS: usize = 13;
 
-pub const SHADOWS: usize = 3;
+// The kind that has a number. Each number behind the last stands for the last kind.
+impl From<usize> for Kind {
+    ghost from_gives = { IsNumbered };
 
-pub const DIRECT: usize = 4;
-
-pub const DIRECT_RECORDED: usize = 5;
-
-pub const LINEAR: usize = 6;
-
-pub const LINEAR_RECORDED: usize = 7;
-
-pub const FRESH: usize = 8;
-
-pub const REPLACED: usize = 9;
-
-pub const LOOKUPS: usize = 10;
-
-pub const STITCHED: usize = 11;
-
-pub const STITCHED_RECORDED: usize = 12;
-
-// No call. It is also how many kinds there are.
-pub const NONE: usize = 13;
-
-// The kind of a case in one of the sections.
-pub fn kind(section: usize, tag: u8) -> usize
-    ensures { result ≤ 13 }
-{
-    if section < 1 {
-        return IMAGES;
-    }
-    match tag {
-        b'Y' => REPLAYS,
-        b'C' => COMPLETE,
-        b'H' => SHADOWS,
-        b'D' => DIRECT,
-        b'd' => DIRECT_RECORDED,
-        b'L' => LINEAR,
-        b'l' => LINEAR_RECORDED,
-        b'F' => FRESH,
-        b'R' => REPLACED,
-        b'U' => LOOKUPS,
-        b'S' => STITCHED,
-        b's' => STITCHED_RECORDED,
-        _ => NONE,
+    fn from(number: usize) -> Kind {
+        match number {
+            0 => Kind::Images,
+            1 => Kind::Replays,
+            2 => Kind::Complete,
+            3 => Kind::Shadows,
+            4 => Kind::Direct,
+            5 => Kind::DirectRecorded,
+            6 => Kind::Linear,
+            7 => Kind::LinearRecorded,
+            8 => Kind::Fresh,
+            9 => Kind::Replaced,
+            10 => Kind::Lookups,
+            11 => Kind::Stitched,
+            _ => Kind::StitchedRecorded,
+        }
     }
 }
 
-// Direct, linear or stitched.
-pub fn is_search(kind: usize) -> bool {
-    if kind < FRESH {
-        return DIRECT <= kind;
+impl fmt::Display for Kind {
+    ghost output = { λ kind. Some (kind_name (number_of kind)) };
+
+    fn fmt<W: fmt::Write>(&self, f: &mut fmt::Formatter<W>) -> fmt::Result {
+        f.write_str(match self {
+            Kind::Images => "images",
+            Kind::Replays => "replays",
+            Kind::Complete => "complete",
+            Kind::Shadows => "shadows",
+            Kind::Direct => "direct",
+            Kind::DirectRecorded => "direct recorded",
+            Kind::Linear => "linear",
+            Kind::LinearRecorded => "linear recorded",
+            Kind::Fresh => "fresh",
+            Kind::Replaced => "replaced",
+            Kind::Lookups => "lookups",
+            Kind::Stitched => "stitched",
+            Kind::StitchedRecorded => "stitched recorded",
+        })
     }
-    LOOKUPS < kind
+}
+
+// The kind of a case in one of the sections; none if it is no call.
+pub fn kind_of(section: usize, tag: u8) -> Option<Kind> {
+    if section == 0 {
+        return Some(Kind::Images);
+    }
+    match tag {
+        b'Y' => Some(Kind::Replays),
+        b'C' => Some(Kind::Complete),
+        b'H' => Some(Kind::Shadows),
+        b'D' => Some(Kind::Direct),
+        b'd' => Some(Kind::DirectRecorded),
+        b'L' => Some(Kind::Linear),
+        b'l' => Some(Kind::LinearRecorded),
+        b'F' => Some(Kind::Fresh),
+        b'R' => Some(Kind::Replaced),
+        b'U' => Some(Kind::Lookups),
+        b'S' => Some(Kind::Stitched),
+        b's' => Some(Kind::StitchedRecorded),
+        _ => None,
+    }
 }

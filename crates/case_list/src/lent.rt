@@ -36,15 +36,13 @@ pub struct Lent {
 fn copy(case: &[u8], image: &mut [u8])
     requires { length image.old < most_place }
 {
-    let mut i: usize = 0;
-    while i < image.len() {
-        list::put_byte(image, i, list::byte(case, BYTES + i));
-        i += 1;
+    for (i, byte) in image.iter_mut().enumerate() {
+        *byte = list::byte(case, BYTES + i);
     }
 }
 
 fn write(case: &[u8], words: &mut [u32]) {
-    areas::fill(words, list::long(case, FILL));
+    words.fill(list::long(case, FILL));
     areas::write(case, DIFFERENT, words);
 }
 
@@ -52,7 +50,7 @@ fn write(case: &[u8], words: &mut [u32]) {
 fn count(case: &[u8], room: usize) -> usize
     ensures { (result ≤ room) × (result < most_place) }
 {
-    list::lesser(list::long(case, COUNT) as usize, room)
+    room.min(list::long(case, COUNT) as usize)
 }
 
 // What is lent from a case on: if it is an image or words, these are copied, and what was lent before is lent further.
@@ -60,24 +58,22 @@ pub fn read(case: &[u8], last: Lent, image: &mut [u8], words: &mut [u32]) -> Len
     requires { (last.bytes ≤ length image.old) × (last.words ≤ length words.old) }
     ensures { (result.bytes ≤ length image.old) × (result.words ≤ length words.old) }
 {
-    let tag = list::byte(case, 0);
-    if tag == IMAGE {
-        let bytes = count(case, image.len());
-        copy(case, &mut image[0..bytes]);
-        return Lent {
-            bytes,
-            words: last.words,
-        };
+    match list::byte(case, 0) {
+        IMAGE => {
+            let bytes = count(case, image.len());
+            copy(case, &mut image[..bytes]);
+            Lent { bytes, ..last }
+        }
+        WORDS => {
+            let lent = count(case, words.len());
+            write(case, &mut words[..lent]);
+            Lent {
+                words: lent,
+                ..last
+            }
+        }
+        _ => last,
     }
-    if tag == WORDS {
-        let lent = count(case, words.len());
-        write(case, &mut words[0..lent]);
-        return Lent {
-            bytes: last.bytes,
-            words: lent,
-        };
-    }
-    last
 }
 
 // The place behind an image.

@@ -1,5 +1,6 @@
 // A list of cases in bytes, read at any place. Numbers are big-endian.
-ghost use Rattle.std.specs.Prelude.{◌≡◌, ◌+◌, ◌<◌, ◌≤◌, min, slice_index};
+// Kept: a bound on a place in each clause, as each asks for another distance from the greatest place: a type of places would have to carry it too.
+ghost use Rattle.std.specs.Prelude.{◌≡◌, ◌+◌, ◌<◌, slice_index};
 ghost use Rattle.case_list.specs.Bounds.{most_place};
 ghost use Rattle.case_list.specs.Numbers.{short_at, long_at, longest_at};
 
@@ -7,21 +8,14 @@ ghost use Rattle.case_list.specs.Numbers.{short_at, long_at, longest_at};
 pub fn byte(list: &[u8], at: usize) -> u8
     ensures { result ≡ slice_index list.now at }
 {
-    if at < list.len() { list[at] } else { 0 }
+    list.get(at).copied().unwrap_or(0)
 }
 
 // Nothing is written behind the bytes.
 pub fn put_byte(bytes: &mut [u8], at: usize, byte: u8) {
-    if at < bytes.len() {
-        bytes[at] = byte;
+    if let Some(place) = bytes.get_mut(at) {
+        *place = byte;
     }
-}
-
-fn wide(x: u8) -> u32
-    ensures range { result < 256 }
-    ensures value { result ≡ x }
-{
-    x as u32
 }
 
 // A number of 8 bits.
@@ -29,7 +23,7 @@ pub fn tiny(list: &[u8], at: usize) -> u32
     ensures range { result < 256 }
     ensures value { result ≡ slice_index list.now at }
 {
-    wide(byte(list, at))
+    u32::from(byte(list, at))
 }
 
 // A number of 16 bits.
@@ -58,14 +52,7 @@ pub fn longest(list: &[u8], at: usize) -> u64
     requires { at + 6 < most_place }
     ensures { result ≡ longest_at list.now at }
 {
-    let high = long(list, at) as u64;
-    let low = long(list, at + 4) as u64;
+    let high = u64::from(long(list, at));
+    let low = u64::from(long(list, at + 4));
     high * 4_294_967_296 + low
-}
-
-pub fn lesser(a: usize, b: usize) -> usize
-    ensures upper_bound { (result ≤ a) × (result ≤ b) }
-    ensures value { result ≡ min a b }
-{
-    if a < b { a } else { b }
 }

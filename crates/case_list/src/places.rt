@@ -3,11 +3,12 @@
 //   beginning of the last whole image, its length in 2 bytes.
 // - A replay and a question for completeness: a reference in 4 bytes and an edge list. A question for shadowing: the same twice, the left path first.
 // - A search, a replaced file: request.rt. A fresh database: nothing. A lookup: the number of a partial path in 4 bytes.
-ghost use Rattle.std.specs.Prelude.{◌+◌, ◌<◌, ◌≤◌, length};
+ghost use Rattle.std.specs.Prelude.{◌+◌, ◌<◌};
 ghost use Rattle.case_list.specs.Bounds.{most_place};
 
 use crate::answer::Expected;
-use crate::{answer, edges, kinds, lent, list};
+use crate::kinds::Kind;
+use crate::{answer, edges, lent, list};
 
 pub const CHANGED: u8 = b'E';
 
@@ -23,60 +24,63 @@ pub const EDGES: usize = 5;
 
 pub const REFERENCE_BYTES: usize = 4;
 
+// How many bytes a call takes in front of its answer, with its tag.
+const FRESH_BYTES: usize = 1;
+
+const REPLACED_BYTES: usize = 32;
+
+const LOOKUP_BYTES: usize = 5;
+
+const SEARCH_BYTES: usize = 45;
+
 fn behind_check(case: &[u8]) -> usize
     ensures { (0 < result) × (result + 1000000 < most_place) }
 {
-    let tag = list::byte(case, 0);
-    if tag == CHANGED {
-        return VALUE + 1;
+    match list::byte(case, 0) {
+        CHANGED => VALUE + 1,
+        CUT => PLACE + 2,
+        _ => lent::behind_image(case),
     }
-    if tag == CUT {
-        return PLACE + 2;
-    }
-    lent::behind_image(case)
 }
 
-fn behind_paths(case: &[u8], kind: usize) -> usize
+fn behind_path(case: &[u8]) -> usize
+    ensures { (0 < result) × (result + 2000000 < most_place) }
+{
+    edges::behind(case, EDGES)
+}
+
+fn behind_paths(case: &[u8]) -> usize
     ensures { (0 < result) × (result + 1000000 < most_place) }
 {
-    let behind = edges::behind(case, EDGES);
-    if kind == kinds::SHADOWS {
-        return edges::behind(case, behind + REFERENCE_BYTES);
-    }
-    behind
-}
-
-// How many bytes a call of any other kind takes in front of its answer, with its tag.
-fn asked_bytes(kind: usize) -> usize
-    ensures { (0 < result) × (result ≤ 45) }
-{
-    match kind {
-        kinds::FRESH => 1,
-        kinds::REPLACED => 32,
-        kinds::LOOKUPS => 5,
-        _ => 45,
-    }
+    edges::behind(case, behind_path(case) + REFERENCE_BYTES)
 }
 
 // The expected answer of a call. That of a check has a count of 1 byte.
-pub fn expected(case: &[u8], kind: usize) -> Expected
-    ensures { (0 < result.from) × (result.from + 500000 < most_place) × (result.count < 65536) }
+pub fn expected(case: &[u8], kind: Kind) -> Expected
+    ensures { 0 < result.from }
 {
-    if kind == kinds::IMAGES {
-        return answer::read_few(case, behind_check(case));
+    match kind {
+        Kind::Images => answer::read_few(case, behind_check(case)),
+        Kind::Replays | Kind::Complete => answer::read(case, behind_path(case)),
+        Kind::Shadows => answer::read(case, behind_paths(case)),
+        Kind::Fresh => answer::read(case, FRESH_BYTES),
+        Kind::Replaced => answer::read(case, REPLACED_BYTES),
+        Kind::Lookups => answer::read(case, LOOKUP_BYTES),
+        Kind::Direct
+        | Kind::DirectRecorded
+        | Kind::Linear
+        | Kind::LinearRecorded
+        | Kind::Stitched
+        | Kind::StitchedRecorded => answer::read(case, SEARCH_BYTES),
     }
-    if kind <= kinds::SHADOWS {
-        return answer::read(case, behind_paths(case, kind));
-    }
-    answer::read(case, asked_bytes(kind))
 }
 
 // How many bytes a case takes.
-pub fn bytes(case: &[u8], kind: usize) -> usize
+pub fn bytes(case: &[u8], kind: Option<Kind>) -> usize
     ensures { 0 < result }
 {
-    if kind == kinds::NONE {
-        return lent::behind(case);
+    match kind {
+        Some(kind) => answer::behind(expected(case, kind)),
+        None => lent::behind(case),
     }
-    answer::behind(expected(case, kind))
 }

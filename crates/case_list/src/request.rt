@@ -47,17 +47,18 @@ pub fn number(case: &[u8]) -> u32 {
     list::long(case, NUMBER)
 }
 
-// How many words of an area are lent: as many as the case says, if there are so many.
-pub fn area(case: &[u8], at: usize, words: &[u32]) -> usize
+// The words of an area that are lent: as many as the case says, if there are so many.
+pub fn area<'a>(case: &[u8], at: usize, words: &'a mut [u32]) -> &'a mut [u32]
     requires { at + 2 < most_place }
-    ensures { result ≤ length words.now }
+    ensures { length result.now ≤ length words.old }
 {
-    list::lesser(list::long(case, at) as usize, words.len())
+    let n = words.len().min(list::long(case, at) as usize);
+    &mut words[..n]
 }
 
 fn put(asked: &mut [u64], at: usize, number: u64) {
-    if at < asked.len() {
-        asked[at] = number;
+    if let Some(place) = asked.get_mut(at) {
+        *place = number;
     }
 }
 
@@ -65,7 +66,7 @@ fn put(asked: &mut [u64], at: usize, number: u64) {
 fn flag(case: &[u8], at: usize, byte: u8) -> u64
     ensures { result ≤ 1 }
 {
-    if list::byte(case, at) == byte { 1 } else { 0 }
+    u64::from(list::byte(case, at) == byte)
 }
 
 // A limit has 0 for none, or 1 and then the number in 8 bytes.

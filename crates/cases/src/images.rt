@@ -1,4 +1,5 @@
 // The check of an image: whole, with one byte changed, or cut off.
+use case_list::answer::Answer;
 use case_list::exported::TOLD;
 use case_list::{exported, list, places};
 use pozhdaghi::reading::pozhdaghi_check;
@@ -17,27 +18,22 @@ fn check_changed(image: &mut [u8], at: usize, value: u8, told: &mut [u64]) {
 
 // The first bytes of the image.
 fn check_cut(image: &[u8], length: usize, told: &mut [u64]) {
-    let n = list::lesser(length, image.len());
-    pozhdaghi_check(&image[0..n], told);
+    let n = length.min(image.len());
+    pozhdaghi_check(&image[..n], told);
 }
 
 fn check(case: &[u8], image: &mut [u8], told: &mut [u64]) {
-    let tag = list::byte(case, 0);
     let place = list::short(case, places::PLACE) as usize;
-    if tag == places::CHANGED {
-        check_changed(image, place, list::byte(case, places::VALUE), told);
-        return;
+    match list::byte(case, 0) {
+        places::CHANGED => check_changed(image, place, list::byte(case, places::VALUE), told),
+        places::CUT => check_cut(image, place, told),
+        _ => pozhdaghi_check(image, told),
     }
-    if tag == places::CUT {
-        check_cut(image, place, told);
-        return;
-    }
-    pozhdaghi_check(image, told);
 }
 
-// Writes what a check answers, and answers how many numbers that are.
-pub fn answer(case: &[u8], image: &mut [u8], out: &mut [u32]) -> usize {
+// What a check answers.
+pub fn answer(case: &[u8], image: &mut [u8], out: &mut Answer) {
     let mut told = [0u64; TOLD];
     check(case, image, &mut told);
-    exported::put_answer(out, &told, 0, NUMBERS)
+    exported::put_answer(out, &told, 0, NUMBERS);
 }

@@ -4,7 +4,7 @@
 // and how many answers differ.
 #![tactic(auto)]
 
-ghost use Rattle.std.specs.Prelude.{◌<◌, ◌≤◌, length, IfOk};
+ghost use Rattle.std.specs.Prelude.{◌≤◌, length, IfOk};
 
 mod images;
 mod partials;
@@ -12,7 +12,9 @@ mod paths;
 mod searches;
 mod shown;
 
+use case_list::answer::Answer;
 use case_list::compared::SUMS;
+use case_list::kinds::Kind;
 use case_list::lent::{Lent, MOST_IMAGE, MOST_WORDS};
 use case_list::{compared, kinds, lent, list, places};
 use printing::input;
@@ -24,79 +26,56 @@ const LISTS: usize = 5;
 // One list is held at a time.
 const MOST_BYTES: usize = 1300000;
 
-// Room for an answer.
-const MOST_NUMBERS: usize = 8192;
-
-// Writes what the library answers to a case, and answers how many numbers that are.
-fn library_answer(
-    case: &[u8],
-    kind: usize,
-    image: &mut [u8],
-    words: &mut [u32],
-    out: &mut [u32],
-) -> usize {
-    if kind == kinds::IMAGES {
-        return images::answer(case, image, out);
+// What the library answers to a case.
+fn put_answer(case: &[u8], kind: Kind, image: &mut [u8], words: &mut [u32], out: &mut Answer) {
+    match kind {
+        Kind::Images => images::answer(case, image, out),
+        Kind::Replays | Kind::Complete | Kind::Shadows => paths::answer(case, kind, image, out),
+        Kind::Fresh | Kind::Replaced => partials::answer(case, kind, image, words, out),
+        Kind::Lookups => partials::answer_lookup(case, words, out),
+        Kind::Direct
+        | Kind::DirectRecorded
+        | Kind::Linear
+        | Kind::LinearRecorded
+        | Kind::Stitched
+        | Kind::StitchedRecorded => searches::answer(case, kind, image, words, out),
     }
-    if kind <= kinds::SHADOWS {
-        return paths::answer(case, kind, image, out);
-    }
-    if kinds::is_search(kind) {
-        return searches::answer(case, kind, image, words, out);
-    }
-    if kind == kinds::LOOKUPS {
-        return partials::answer_lookup(case, words, out);
-    }
-    partials::answer(case, kind, image, words, out)
 }
 
 // The call at a case is made and its answer compared.
 fn compare<W: Write>(
     out: &mut W,
     case: &[u8],
-    kind: usize,
+    kind: Kind,
     image: &mut [u8],
     words: &mut [u32],
     sums: &mut [u64],
-) -> io::Result<()>
-    requires { kind ≤ 13 }
-{
-    let mut given = [0u32; MOST_NUMBERS];
-    let count = library_answer(case, kind, image, words, &mut given);
-    compared::compare(out, case, kind, &given, count, sums)
+) -> io::Result<()> {
+    let mut given = Answer::new();
+    put_answer(case, kind, image, words, &mut given);
+    compared::compare(out, case, kind, given.as_slice(), sums)
 }
 
 // What a case lends is copied, or its call is made. It answers what is lent to the next.
 fn visit<W: Write>(
     out: &mut W,
     case: &[u8],
-    kind: usize,
+    kind: Option<Kind>,
     last: Lent,
     image: &mut [u8],
     words: &mut [u32],
     sums: &mut [u64],
 ) -> io::Result<Lent>
-    requires { (kind ≤ 13) × (last.bytes ≤ length image.old) × (last.words ≤ length words.old) }
+    requires { (last.bytes ≤ length image.old) × (last.words ≤ length words.old) }
     ensures { IfOk result (λ lent. (lent.bytes ≤ length image.old) × (lent.words ≤ length words.old)) }
 {
     let lent = lent::read(case, last, image, words);
-    let b = lent.bytes;
-    let w = lent.words;
-    if kind < kinds::NONE {
-        compare(out, case, kind, &mut image[0..b], &mut words[0..w], sums)?;
+    if let Some(kind) = kind {
+        let b = lent.bytes;
+        let w = lent.words;
+        compare(out, case, kind, &mut image[..b], &mut words[..w], sums)?;
     }
     Ok(lent)
-}
-
-// The place behind a case that begins at a place and takes some bytes.
-fn next(list: &[u8], at: usize, bytes: usize) -> usize
-    requires { (at < length list.now) × (0 < bytes) }
-    ensures { (at < result) × (result ≤ length list.now) }
-{
-    if list.len() - at <= bytes {
-        return list.len();
-    }
-    at + bytes
 }
 
 // Every case of a list in its order.
@@ -108,12 +87,12 @@ fn replay<W: Write>(
     words: &mut [u32],
     sums: &mut [u64],
 ) -> io::Result<()> {
-    let mut at: usize = 0;
+    let mut rest = list;
     let mut lent = Lent { bytes: 0, words: 0 };
-    while at < list.len() {
-        let kind = kinds::kind(which, list::byte(list, at));
-        lent = visit(out, &list[at..], kind, lent, image, words, sums)?;
-        at = next(list, at, places::bytes(&list[at..], kind));
+    while let Some(&tag) = rest.first() {
+        let kind = kinds::kind_of(which, tag);
+        lent = visit(out, rest, kind, lent, image, words, sums)?;
+        rest = rest.get(places::bytes(rest, kind)..).unwrap_or(&[]);
     }
     Ok(())
 }
@@ -124,8 +103,8 @@ fn read<R: Read>(reader: &mut R, list: &mut [u8]) -> io::Result<usize>
 {
     let mut length = [0u8; 4];
     input::read_full(reader, &mut length)?;
-    let n = list::lesser(list::long(&length, 0) as usize, list.len());
-    input::read_full(reader, &mut list[0..n])
+    let n = list.len().min(list::long(&length, 0) as usize);
+    input::read_full(reader, &mut list[..n])
 }
 
 fn replay_all<R: Read, W: Write>(
@@ -138,7 +117,7 @@ fn replay_all<R: Read, W: Write>(
     let mut sums = [0u64; SUMS];
     for which in 0..LISTS {
         let n = read(reader, list)?;
-        replay(out, which, &list[0..n], image, words, &mut sums)?;
+        replay(out, which, &list[..n], image, words, &mut sums)?;
     }
     compared::tell(out, &sums)
 }

@@ -1,13 +1,13 @@
 // Paths of a reference and an edge list: replayed, asked for completeness, asked for shadowing.
 use crate::shown;
-use case_list::answer::put;
+use case_list::answer::{Answer, put};
 use case_list::exported::TOLD;
-use case_list::{edges, exported, kinds, list, places, request};
+use case_list::kinds::Kind;
+use case_list::{edges, exported, list, places, request};
 use path::replay;
 use pozhdaghi::reading::{pozhdaghi_is_complete, pozhdaghi_shadows};
-use semantics::answer::Replayed;
+use semantics::answer::{Replayed, TurnedBack};
 use semantics::graph::NodeId;
-use told::refusal;
 use told::refusal::Told;
 
 // The longest edge list that is lent.
@@ -17,81 +17,67 @@ const MOST_EDGES: usize = 100000;
 const NUMBERS: usize = 2;
 
 // As many numbers as the refusal counts.
-fn put_told(out: &mut [u32], told: Told) -> usize {
-    let first = put(out, 0, told.number);
-    if told.count < 2 {
-        return first;
+fn put_told(out: &mut Answer, told: Told) {
+    let numbers = [told.number, told.first, told.second];
+    for &number in numbers.iter().take(told.count.max(1) as usize) {
+        put(out, number);
     }
-    let second = put(out, first, told.first);
-    if told.count < 3 {
-        return second;
-    }
-    put(out, second, told.second)
 }
 
-fn put_replayed(out: &mut [u32], answer: Replayed) -> usize {
+fn put_replayed(out: &mut Answer, answer: Replayed) {
     match answer {
-        Replayed::Done => put(out, 0, 0),
-        Replayed::Image(r) => put_told(out, refusal::image(r)),
-        Replayed::Refused(r) => put_told(out, refusal::replay(r)),
+        Ok(()) => put(out, 0),
+        Err(TurnedBack::Image(r)) => put_told(out, Told::from(r)),
+        Err(TurnedBack::Refused(r)) => put_told(out, Told::from(r)),
     }
 }
 
 // A replay is answered by the path, if it is not refused. The list has what a caller reads off the path by value, so the call is the library's own.
-fn answer_replay(image: &[u8], reference: u32, edges: &[u32], out: &mut [u32]) -> usize {
+fn answer_replay(image: &[u8], reference: u32, edges: &[u32], out: &mut Answer) {
     let outcome = replay::replay(image, NodeId(reference), edges);
     let answer = outcome.answer;
-    let next = put_replayed(out, answer);
-    let Replayed::Done = answer else {
-        return next;
-    };
-    shown::write_path(outcome.path, out, next)
+    put_replayed(out, answer);
+    if let Ok(()) = answer {
+        shown::put_path(outcome.path, out);
+    }
 }
 
-fn answer_complete(image: &[u8], reference: u32, edges: &[u32], out: &mut [u32]) -> usize {
+fn answer_complete(image: &[u8], reference: u32, edges: &[u32], out: &mut Answer) {
     let mut told = [0u64; TOLD];
     pozhdaghi_is_complete(image, reference, edges, &mut told);
-    exported::put_answer(out, &told, 0, NUMBERS)
+    exported::put_answer(out, &told, 0, NUMBERS);
 }
 
 // The right path stands behind the edge list of the left one.
-fn answer_shadows(
-    case: &[u8],
-    image: &[u8],
-    edges: &[u32],
-    others: &mut [u32],
-    out: &mut [u32],
-) -> usize {
+fn answer_shadows(case: &[u8], image: &[u8], edges: &[u32], others: &mut [u32], out: &mut Answer) {
     let mut told = [0u64; TOLD];
     let behind = edges::behind(case, places::EDGES);
     let right = list::long(case, behind);
-    let n = edges::read(case, behind + places::REFERENCE_BYTES, others);
+    let others = edges::read(case, behind + places::REFERENCE_BYTES, others);
     let left = request::number(case);
-    pozhdaghi_shadows(image, left, edges, right, &others[0..n], &mut told);
-    exported::put_answer(out, &told, 0, NUMBERS)
+    pozhdaghi_shadows(image, left, edges, right, others, &mut told);
+    exported::put_answer(out, &told, 0, NUMBERS);
 }
 
 fn answer_lent(
     case: &[u8],
-    kind: usize,
+    kind: Kind,
     image: &[u8],
     edges: &mut [u32],
     others: &mut [u32],
-    out: &mut [u32],
-) -> usize {
-    let n = edges::read(case, places::EDGES, edges);
-    if kind == kinds::REPLAYS {
-        return answer_replay(image, request::number(case), &edges[0..n], out);
+    out: &mut Answer,
+) {
+    let edges = edges::read(case, places::EDGES, edges);
+    match kind {
+        Kind::Replays => answer_replay(image, request::number(case), edges, out),
+        Kind::Complete => answer_complete(image, request::number(case), edges, out),
+        _ => answer_shadows(case, image, edges, others, out),
     }
-    if kind == kinds::COMPLETE {
-        return answer_complete(image, request::number(case), &edges[0..n], out);
-    }
-    answer_shadows(case, image, &edges[0..n], others, out)
 }
 
-// Writes what a call on paths answers, and answers how many numbers that are.
-pub fn answer(case: &[u8], kind: usize, image: &[u8], out: &mut [u32]) -> usize {
+// What a call on paths answers.
+pub fn answer(case: &[u8], kind: Kind, image: &[u8], out: &mut Answer) {
     let mut edges = [0u32; MOST_EDGES];
     let mut others = [0u32; MOST_EDGES];
-    answer_lent(case, kind, image, &mut edges, &mut others, out)
+    answer_lent(case, kind, image, &mut edges, &mut others, out);
 }

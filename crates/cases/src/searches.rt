@@ -1,7 +1,9 @@
 // Direct, linear and stitched searches. What they leave in both areas is compared word by word.
+use case_list::answer::Answer;
 use case_list::exported::TOLD;
+use case_list::kinds::Kind;
 use case_list::request::{ASKED, MOST_AREA};
-use case_list::{areas, exported, kinds, list, request};
+use case_list::{areas, exported, list, request};
 use pozhdaghi::searching::{
     pozhdaghi_direct, pozhdaghi_direct_recorded, pozhdaghi_linear, pozhdaghi_linear_recorded,
     pozhdaghi_stitched, pozhdaghi_stitched_recorded,
@@ -17,15 +19,12 @@ const MOST_FILES: usize = 256;
 
 const VISIBLE: u8 = 1;
 
-fn is_linear(kind: usize) -> bool {
-    if kind == kinds::LINEAR {
-        return true;
-    }
-    kind == kinds::LINEAR_RECORDED
+fn is_linear(kind: Kind) -> bool {
+    matches!(kind, Kind::Linear | Kind::LinearRecorded)
 }
 
 fn search(
-    kind: usize,
+    kind: Kind,
     image: &[u8],
     visible: &[u8],
     words: &[u32],
@@ -35,99 +34,71 @@ fn search(
     res: &mut [u32],
     told: &mut [u64],
 ) {
-    if kind == kinds::DIRECT {
-        pozhdaghi_direct(image, visible, node, asked, work, res, told);
-        return;
+    match kind {
+        Kind::Direct => pozhdaghi_direct(image, visible, node, asked, work, res, told),
+        Kind::DirectRecorded => {
+            pozhdaghi_direct_recorded(image, visible, node, asked, work, res, told)
+        }
+        Kind::Linear => pozhdaghi_linear(image, visible, node, asked, res, told),
+        Kind::LinearRecorded => pozhdaghi_linear_recorded(image, visible, node, asked, res, told),
+        Kind::Stitched => {
+            pozhdaghi_stitched(image, visible, words, node, asked, work, res, told)
+        }
+        _ => pozhdaghi_stitched_recorded(image, visible, words, node, asked, work, res, told),
     }
-    if kind == kinds::DIRECT_RECORDED {
-        pozhdaghi_direct_recorded(image, visible, node, asked, work, res, told);
-        return;
-    }
-    if kind == kinds::LINEAR {
-        pozhdaghi_linear(image, visible, node, asked, res, told);
-        return;
-    }
-    if kind == kinds::LINEAR_RECORDED {
-        pozhdaghi_linear_recorded(image, visible, node, asked, res, told);
-        return;
-    }
-    if kind == kinds::STITCHED {
-        pozhdaghi_stitched(image, visible, words, node, asked, work, res, told);
-        return;
-    }
-    pozhdaghi_stitched_recorded(image, visible, words, node, asked, work, res, told);
 }
 
-fn fill(case: &[u8], work: &mut [u32], res: &mut [u32]) {
-    let word = list::long(case, request::SEARCH_FILL);
-    areas::fill(work, word);
-    areas::fill(res, word);
-}
-
-// The result area, and the work area of a search that takes one.
-fn put_areas(out: &mut [u32], at: usize, kind: usize, work: &[u32], res: &[u32]) -> usize {
-    let behind = areas::put_area(out, at, res);
-    if is_linear(kind) {
-        return behind;
-    }
-    areas::put_area(out, behind, work)
-}
-
-fn answer_lent(
+// What a search tells, with both areas filled by the word that the case says.
+fn told(
     case: &[u8],
-    kind: usize,
+    kind: Kind,
     image: &[u8],
     words: &[u32],
     work: &mut [u32],
     res: &mut [u32],
-    out: &mut [u32],
-) -> usize {
+) -> [u64; TOLD] {
     let visible = [VISIBLE; MOST_FILES];
+    let node = request::number(case);
+    let fill = list::long(case, request::SEARCH_FILL);
     let mut asked = [0u64; ASKED];
     let mut told = [0u64; TOLD];
     request::put_search_asked(case, &mut asked);
-    fill(case, work, res);
+    work.fill(fill);
+    res.fill(fill);
     search(
-        kind,
-        image,
-        &visible,
-        words,
-        request::number(case),
-        &asked,
-        work,
-        res,
-        &mut told,
+        kind, image, &visible, words, node, &asked, work, res, &mut told,
     );
-    let behind = exported::put_answer(out, &told, WIDE, NUMBERS);
-    put_areas(out, behind, kind, work, res)
+    told
+}
+
+// The result area, and the work area of a search that takes one.
+fn put_areas(out: &mut Answer, kind: Kind, work: &[u32], res: &[u32]) {
+    areas::put_area(out, res);
+    if !is_linear(kind) {
+        areas::put_area(out, work);
+    }
 }
 
 // The areas have just the words that the list names.
-fn answer_areas(
+fn answer_lent(
     case: &[u8],
-    kind: usize,
+    kind: Kind,
     image: &[u8],
     words: &[u32],
     work: &mut [u32],
     res: &mut [u32],
-    out: &mut [u32],
-) -> usize {
-    let w = request::area(case, request::SEARCH_WORK, work);
-    let r = request::area(case, request::SEARCH_RESULT, res);
-    answer_lent(
-        case,
-        kind,
-        image,
-        words,
-        &mut work[0..w],
-        &mut res[0..r],
-        out,
-    )
+    out: &mut Answer,
+) {
+    let work = request::area(case, request::SEARCH_WORK, work);
+    let res = request::area(case, request::SEARCH_RESULT, res);
+    let told = told(case, kind, image, words, work, res);
+    exported::put_answer(out, &told, WIDE, NUMBERS);
+    put_areas(out, kind, work, res);
 }
 
-// Writes what a search answers and leaves in its areas, and answers how many numbers that are.
-pub fn answer(case: &[u8], kind: usize, image: &[u8], words: &[u32], out: &mut [u32]) -> usize {
+// What a search answers and leaves in its areas.
+pub fn answer(case: &[u8], kind: Kind, image: &[u8], words: &[u32], out: &mut Answer) {
     let mut work = [0u32; MOST_AREA];
     let mut result = [0u32; MOST_AREA];
-    answer_areas(case, kind, image, words, &mut work, &mut result, out)
+    answer_lent(case, kind, image, words, &mut work, &mut result, out);
 }

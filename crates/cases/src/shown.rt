@@ -4,8 +4,8 @@
 ghost use Rattle.std.specs.Prelude.{◌<◌};
 ghost use Rattle.semantics.specs.Limits.{step_length};
 
-use case_list::answer::{put, word};
-use semantics::bounds::{MAX_EDGES, SLOT_WORDS, STEP_WORDS};
+use case_list::answer::{Answer, put, word};
+use semantics::bounds::{SLOT_WORDS, STEP_WORDS};
 use semantics::replayed::Path;
 use stepping::layout;
 
@@ -49,94 +49,71 @@ fn chain_count(steps: &[u32], top: u32, link: u32) -> u32
     requires { link < step_length }
 {
     let mut cell = top;
-    let mut count: u32 = 0;
-    while count < MOST_CELLS {
+    for count in 0..MOST_CELLS {
         if cell == 0 {
             return count;
         }
         cell = cell_word(steps, cell, link);
-        count += 1;
     }
-    count
+    MOST_CELLS
 }
 
-fn write_scopes(steps: &[u32], top: u32, out: &mut [u32], at: usize) -> usize {
+fn put_scopes(steps: &[u32], top: u32, out: &mut Answer) {
     let count = chain_count(steps, top, SCOPES);
-    let mut next = put(out, at, count);
+    put(out, count);
     let mut cell = top;
-    let mut k: u32 = 0;
-    while k < count {
-        next = put(out, next, cell_word(steps, cell, SCOPE));
+    for _ in 0..count {
+        put(out, cell_word(steps, cell, SCOPE));
         cell = cell_word(steps, cell, SCOPES);
-        k += 1;
     }
-    next
 }
 
-fn write_symbol(steps: &[u32], cell: u32, out: &mut [u32], at: usize) -> usize {
-    let low = put(out, at, cell_word(steps, cell, SYMBOL_HIGH));
-    let next = put(out, low, cell_word(steps, cell, SYMBOL));
+fn put_symbol(steps: &[u32], cell: u32, out: &mut Answer) {
+    put(out, cell_word(steps, cell, SYMBOL_HIGH));
+    put(out, cell_word(steps, cell, SYMBOL));
     let attached = cell_word(steps, cell, ATTACHED);
     if attached == 0 {
-        return put(out, next, 0);
+        put(out, 0);
+    } else {
+        put(out, 1);
+        put_scopes(steps, attached, out);
     }
-    let behind = put(out, next, 1);
-    write_scopes(steps, attached, out, behind)
 }
 
-fn write_symbols(steps: &[u32], top: u32, out: &mut [u32], at: usize) -> usize {
+fn put_symbols(steps: &[u32], top: u32, out: &mut Answer) {
     let count = chain_count(steps, top, BELOW);
-    let mut next = put(out, at, count);
+    put(out, count);
     let mut cell = top;
-    let mut k: u32 = 0;
-    while k < count {
-        next = write_symbol(steps, cell, out, next);
+    for _ in 0..count {
+        put_symbol(steps, cell, out);
         cell = cell_word(steps, cell, BELOW);
-        k += 1;
     }
-    next
 }
 
 // Edge j of the path, and the jump behind it.
-fn write_step(path: Path, j: usize, out: &mut [u32], at: usize) -> usize {
-    if MAX_EDGES <= j {
-        return at;
+fn put_step(path: Path, j: usize, out: &mut Answer) {
+    if let (Some(&edge), Some(&jump)) = (path.edges.get(j), path.jumps.get(j)) {
+        put(out, 0);
+        put(out, edge);
+        if jump {
+            put(out, 1);
+            put(out, step_word(&path.steps, j as u32 + 1, END));
+        }
     }
-    let edge = put(out, at, 0);
-    let next = put(out, edge, path.edges[j]);
-    if path.jumps[j] {
-        let jump = put(out, next, 1);
-        return put(out, jump, step_word(&path.steps, j as u32 + 1, END));
-    }
-    next
 }
 
-fn write_steps(path: Path, out: &mut [u32], at: usize) -> usize {
-    let count = path.count as usize;
-    let mut next = at;
-    let mut j: usize = 0;
-    while j < count {
-        next = write_step(path, j, out, next);
-        j += 1;
+fn put_steps(path: Path, out: &mut Answer) {
+    for j in 0..path.count as usize {
+        put_step(path, j, out);
     }
-    put(out, next, 2)
+    put(out, 2);
 }
 
-// Writes the path and answers the place behind it.
-pub fn write_path(path: Path, out: &mut [u32], at: usize) -> usize {
+// What is read off the path.
+pub fn put_path(path: Path, out: &mut Answer) {
     let last = path.count;
-    let steps = put(out, at, path.end);
-    let symbols = write_steps(path, out, steps);
-    let scopes = write_symbols(
-        &path.steps,
-        step_word(&path.steps, last, SYMBOLS),
-        out,
-        symbols,
-    );
-    write_scopes(
-        &path.steps,
-        step_word(&path.steps, last, SCOPES),
-        out,
-        scopes,
-    )
+    put(out, path.end);
+    put_steps(path, out);
+    put_symbols(&path.steps, step_word(&path.steps, last, SYMBOLS), out);
+    put_scopes(&path.steps, step_word(&path.steps, last, SCOPES), out);
 }

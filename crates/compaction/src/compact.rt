@@ -12,7 +12,7 @@ ghost use Rattle.database.specs.Filing.{with_records};
 ghost use Rattle.compaction.specs.Moves.{Keeps, noted, freed};
 
 use database::{check, layout};
-use semantics::answer::Compaction;
+use semantics::answer::{Compaction, CompactionRefusal};
 use semantics::bounds::{MAX_EDGES, RECORD_WORDS};
 use words::slots;
 
@@ -24,7 +24,7 @@ fn one_more(words: &[u32], i: usize, n: usize) -> usize
     requires { InWords base i words.now × (n ≤ i) }
     ensures { result ≡ pick (is_live (record_at base i words.now)) (n + 1) n }
 {
-    let owner = layout::owner(words, i);
+    let owner = layout::owner(words, MAX_EDGES, i);
     if 0 < owner {
         return n + 1;
     }
@@ -69,7 +69,7 @@ fn keep(words: &mut [u32], list: &mut [u32], i: usize, to: usize) -> usize
     requires { InWords base i words.old × (to ≤ i) × (i < 2 ^ 32) × (0 < owner_word base i words.old → 2 * to + 2 ≤ length list.old) }
     ensures { Keeps base i to words.old list.old result words.new list.new }
 {
-    if 0 < layout::owner(words, i) {
+    if 0 < layout::owner(words, MAX_EDGES, i) {
         move_record(words, i, to);
         note(list, i, to);
         return to + 1;
@@ -111,14 +111,14 @@ pub fn compact(words: &mut [u32], list: &mut [u32]) -> Compaction
     ensures list_after { list.new ≡ (compact_database words.old list.old).list }
 {
     slots::zero(list);
-    if !check::well_formed_for(words, MAX_EDGES) {
-        return Compaction::Malformed;
+    if !check::well_formed(words, MAX_EDGES) {
+        return Err(CompactionRefusal::Malformed);
     }
     let live = count_live(words);
     if list.len() < PAIR_WORDS * live {
-        return Compaction::ListTooShort;
+        return Err(CompactionRefusal::ListTooShort);
     }
     let last = close_up(words, list);
     free_rest(words, last);
-    Compaction::Done { live: live as u32 }
+    Ok(live as u32)
 }

@@ -12,7 +12,7 @@ ghost use Rattle.database.specs.Filing.{with_records};
 ghost use Rattle.conversion.specs.Slots.{has_room_for};
 
 use database::{check, layout, replace};
-use semantics::answer::Conversion;
+use semantics::answer::{Conversion, ConversionRefusal};
 use semantics::bounds::{FORMER_EDGES, MAX_EDGES};
 use words::slots;
 
@@ -21,8 +21,8 @@ fn fits(old: &[u32], i: usize) -> bool
     requires { (well_formed former known_owners old.now ≡ true) × (i < used_in old.now) }
     ensures { result ≡ fits_in base (get_or (slots_in former old.now) i dead) }
 {
-    if 0 < layout::owner_for(old, FORMER_EDGES, i) {
-        return layout::count_for(old, FORMER_EDGES, i) as usize <= MAX_EDGES;
+    if 0 < layout::owner(old, FORMER_EDGES, i) {
+        return layout::count(old, FORMER_EDGES, i) as usize <= MAX_EDGES;
     }
     true
 }
@@ -49,7 +49,7 @@ fn has_room(old: &[u32], new: &[u32]) -> bool
     if new.len() < layout::FIRST_RECORD {
         return false;
     }
-    layout::number(old, layout::USED_AT) <= layout::capacity_for(new, MAX_EDGES)
+    layout::number(old, layout::USED_AT) <= layout::capacity(new, MAX_EDGES)
 }
 
 // Slot i of the new area becomes slot i of the old one.
@@ -58,15 +58,15 @@ fn convert_slot(old: &[u32], new: &mut [u32], i: usize)
     requires in_words { InWords base i new.old × (fits_in base (get_or (slots_in former old.now) i dead) ≡ true) }
     ensures { new.new ≡ put_record base i (encode_slot (record_words base) (get_or (slots_in former old.now) i dead)) new.old }
 {
-    let owner = layout::owner_for(old, FORMER_EDGES, i);
+    let owner = layout::owner(old, FORMER_EDGES, i);
     if 0 < owner {
-        let start = layout::start_for(old, FORMER_EDGES, i);
-        let end = layout::end_for(old, FORMER_EDGES, i);
-        let edges = layout::edges_for(old, FORMER_EDGES, i);
-        replace::put_record_for(new, MAX_EDGES, i, owner - 1, start, end, edges);
+        let start = layout::start(old, FORMER_EDGES, i);
+        let end = layout::end(old, FORMER_EDGES, i);
+        let edges = layout::edges(old, FORMER_EDGES, i);
+        replace::put_record(new, MAX_EDGES, i, owner - 1, start, end, edges);
         return;
     }
-    replace::zero_record_for(new, MAX_EDGES, i);
+    replace::zero_record(new, MAX_EDGES, i);
 }
 
 // All used slots are written under their numbers.
@@ -87,14 +87,14 @@ pub fn convert(old: &[u32], new: &mut [u32]) -> Conversion
     ensures after { new.new ≡ (convert_database old.now new.old).written }
 {
     slots::zero(new);
-    if !check::well_formed_for(old, FORMER_EDGES) {
-        return Conversion::Malformed;
+    if !check::well_formed(old, FORMER_EDGES) {
+        return Err(ConversionRefusal::Malformed);
     }
     if !has_room(old, new) {
-        return Conversion::Full;
+        return Err(ConversionRefusal::Full);
     }
     if !all_fit(old) {
-        return Conversion::TooLong;
+        return Err(ConversionRefusal::TooLong);
     }
     convert_slots(old, new);
     replace::store_header(
@@ -103,5 +103,5 @@ pub fn convert(old: &[u32], new: &mut [u32]) -> Conversion
         old[layout::NODES_AT],
         old[layout::FILES_AT],
     );
-    Conversion::Done
+    Ok(())
 }

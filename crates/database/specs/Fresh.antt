@@ -1,10 +1,9 @@
 -- The outcomes of a fresh database: a refused image, under 3 words, and the words that it holds.
 -- Document 01, "Partial paths": "A fresh database holds 0, N, F and zeros".
-use Rattle.std.specs.Prelude.{ℕ, zero, suc, ◌-◌, ◌≤◌, ◌<◌, ◌≡◌, refl, List, ◌∷◌, leb, length, drop}
+use Rattle.std.specs.Prelude.{ℕ, zero, suc, ◌-◌, ◌≤◌, ◌<◌, ◌≡◌, refl, List, ◌∷◌, leb, length, drop, Err, Ok}
 use Rattle.std.proofs.Common.{arith, ◌∙◌, ap, le-leb}
 use Rattle.std.proofs.lemmas.Bool.{lt-leb}
 use Rattle.semantics.specs.declared.refusal.ImageRefusal.{ImageRefusal}
-use Rattle.semantics.specs.declared.answer.Creation.{Creation}
 use Rattle.semantics.specs.Answer.{Answer, ok, refuse}
 use Rattle.semantics.specs.Graph.{Graph}
 use Rattle.semantics.specs.Told.{told_creation}
@@ -12,12 +11,14 @@ use Rattle.semantics.specs.Words.{zeros}
 use Rattle.semantics.specs.Database.{fresh_words}
 use Rattle.semantics.specs.Calls.{creation_outcome, fresh_call}
 use Rattle.database.specs.Filing.{headed}
+use Rattle.semantics.specs.PublicAnswers.{Creation}
+use Rattle.semantics.specs.declared.answer.CreationRefusal.{CreationRefusal}
 
 -- what is made for a graph: the answer and every word
 abbrev pub Created : Graph → List ℕ → Creation → List ℕ → Type 0
 Created g ws r left = (r ≡ (creation_outcome (leb 3 (length ws)) g ws).answer) × (left ≡ (creation_outcome (leb 3 (length ws)) g ws).database)
 
-pub created-short : (g : Graph) (ws : List ℕ) → length ws < 3 → Created g ws Creation.Malformed ws
+pub created-short : (g : Graph) (ws : List ℕ) → length ws < 3 → Created g ws (Err CreationRefusal.Malformed) ws
 unfolding creation_outcome
 created-short g ws h = rw (lt-leb 3 (length ws) h) (refl, refl)
 
@@ -27,7 +28,7 @@ drop-zeros (suc k) zero = let q : zero - suc k ≡ zero = omega arith in rw q
 drop-zeros (suc k) (suc m) = let q : suc m - suc k ≡ m - k = omega arith in rw q (drop-zeros k m)
 
 -- zeros, then the words in front
-pub created-done : (nodes files : ℕ) (g : Graph) (ws left : List ℕ) → nodes ≡ length g.nodes → files ≡ g.files → 3 ≤ length ws → left ≡ headed 0 nodes files (zeros (length ws)) → Created g ws Creation.Done left
+pub created-done : (nodes files : ℕ) (g : Graph) (ws left : List ℕ) → nodes ≡ length g.nodes → files ≡ g.files → 3 ≤ length ws → left ≡ headed 0 nodes files (zeros (length ws)) → Created g ws (Ok tt) left
 unfolding creation_outcome
 created-done nodes files g ws left n f h e =
     let w : left ≡ fresh_words g (length ws) =
@@ -45,6 +46,6 @@ pub fresh-created : (x : Answer ImageRefusal Graph) (g : Graph) (ws left : List 
 unfolding fresh_call
 fresh-created x g ws left r e c = rw e (ap told_creation c.0, c.1)
 
-pub fresh-image : (x : Answer ImageRefusal Graph) (why : ImageRefusal) (ws : List ℕ) → x ≡ refuse why → Fresh x ws (Creation.Image why) ws
+pub fresh-image : (x : Answer ImageRefusal Graph) (why : ImageRefusal) (ws : List ℕ) → x ≡ refuse why → Fresh x ws (Err (CreationRefusal.Image why)) ws
 unfolding fresh_call
 fresh-image x why ws e = rw e (refl, refl)

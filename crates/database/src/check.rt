@@ -12,31 +12,18 @@ use crate::layout;
 use semantics::bounds;
 use semantics::refusal::DatabaseRefusal;
 
-// What a check finds: a database, or 35 or 34.
-#[derive(Clone, Copy)]
-pub enum Inspected {
-    Sound,
-    Refused(DatabaseRefusal),
-}
-
 // Which owners a database may name: the files, and nobody, whose set belongs to no file.
 fn known(files: u32, owner: u32) -> bool
     ensures { result ≡ known_owners files owner }
 {
-    if owner < files {
-        return true;
-    }
-    owner == bounds::NOBODY
+    owner < files || owner == bounds::NOBODY
 }
 
 // 1 to so many edges.
 fn counted(count: u32, most: usize) -> bool
     ensures { result ≡ and (leb 1 count) (leb count most) }
 {
-    if 1 <= count {
-        return count as usize <= most;
-    }
-    false
+    1 <= count && count as usize <= most
 }
 
 // Record i is dead, or it has a known owner, a start below N and 1 to so many edges.
@@ -44,19 +31,17 @@ fn sound(words: &[u32], most: usize, i: usize) -> bool
     requires { InWords (bounded most) i words.now }
     ensures { result ≡ sound (bounded most) known_owners (nodes_in words.now) (files_in words.now) (record_at (bounded most) i words.now) }
 {
-    let owner = layout::owner_for(words, most, i);
+    let owner = layout::owner(words, most, i);
     if owner < 1 {
         return true;
     }
-    if known(words[layout::FILES_AT], owner - 1) {
-        if layout::start_for(words, most, i) < words[layout::NODES_AT] {
-            return counted(layout::count_for(words, most, i), most);
-        }
-    }
-    false
+    known(words[layout::FILES_AT], owner - 1)
+        && layout::start(words, most, i) < words[layout::NODES_AT]
+        && counted(layout::count(words, most, i), most)
 }
 
 // All used records are so.
+// Kept: Whole is asked of words that most functions write next, as clear_file and take_back; a struct that borrows them would end at the first write.
 fn all_sound(words: &[u32], most: usize) -> bool
     requires { Whole (bounded most) words.now }
     ensures { result ≡ every (sound (bounded most) known_owners (nodes_in words.now) (files_in words.now)) (records (bounded most) words.now) }
@@ -71,38 +56,28 @@ fn all_sound(words: &[u32], most: usize) -> bool
 }
 
 // The words do not meet 35, for slots of so many edges.
-pub fn well_formed_for(words: &[u32], most: usize) -> bool
+pub fn well_formed(words: &[u32], most: usize) -> bool
     requires { most < 2 ^ 32 }
     ensures { result ≡ well_formed (bounded most) known_owners words.now }
 {
     if words.len() < layout::FIRST_RECORD {
         return false;
     }
-    if layout::capacity_for(words, most) < layout::number(words, layout::USED_AT) {
+    if layout::capacity(words, most) < layout::number(words, layout::USED_AT) {
         return false;
     }
     all_sound(words, most)
 }
 
-// The same for the present bound.
-pub(crate) fn well_formed(words: &[u32]) -> bool
-    ensures { result ≡ well_formed base known_owners words.now }
-{
-    well_formed_for(words, bounds::MAX_EDGES)
-}
-
 // 35, then 34 for a graph of so many nodes and files.
-pub fn check(words: &[u32], nodes: u32, files: u32) -> Inspected
+pub fn check(words: &[u32], nodes: u32, files: u32) -> Result<(), DatabaseRefusal>
     ensures { (g : Graph) → nodes ≡ length g.nodes → files ≡ g.files → result ≡ inspected (check_database base known_owners g words.now) }
 {
-    if !well_formed(words) {
-        return Inspected::Refused(DatabaseRefusal::Malformed);
+    if !well_formed(words, bounds::MAX_EDGES) {
+        return Err(DatabaseRefusal::Malformed);
     }
-    if nodes < words[layout::NODES_AT] {
-        return Inspected::Refused(DatabaseRefusal::Outgrown);
+    if nodes < words[layout::NODES_AT] || files < words[layout::FILES_AT] {
+        return Err(DatabaseRefusal::Outgrown);
     }
-    if files < words[layout::FILES_AT] {
-        return Inspected::Refused(DatabaseRefusal::Outgrown);
-    }
-    Inspected::Sound
+    Ok(())
 }

@@ -7,7 +7,7 @@ ghost use Rattle.semantics.specs.Told.{told_creation};
 ghost use Rattle.database.specs.Fresh.{Created};
 
 use crate::{layout, replace};
-use semantics::answer::{Checked, Creation};
+use semantics::answer::{Creation, CreationRefusal};
 use storage::check;
 use words::slots;
 
@@ -16,11 +16,11 @@ fn create(words: &mut [u32], nodes: u32, files: u32) -> Creation
     ensures { (g : Graph) → nodes ≡ length g.nodes → files ≡ g.files → Created g words.old result words.new }
 {
     if words.len() < layout::FIRST_RECORD {
-        return Creation::Malformed;
+        return Err(CreationRefusal::Malformed);
     }
     slots::zero(words);
     replace::store_header(words, 0, nodes, files);
-    Creation::Done
+    Ok(())
 }
 
 // The image is checked first; a refused call alters no word.
@@ -28,12 +28,6 @@ pub fn fresh(image: &[u8], words: &mut [u32]) -> Creation
     ensures result_value { told_creation result ≡ told_creation (fresh_database image.now words.old).answer }
     ensures words_after { words.new ≡ (fresh_database image.now words.old).database }
 {
-    match check::check(image) {
-        Checked::Accepted {
-            files,
-            nodes,
-            edges,
-        } => create(words, nodes, files),
-        Checked::Refused(r) => Creation::Image(r),
-    }
+    let counts = check::check(image).map_err(CreationRefusal::Image)?;
+    create(words, counts.nodes, counts.files)
 }

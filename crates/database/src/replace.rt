@@ -18,12 +18,12 @@ pub fn has_room(words: &[u32], new: u64) -> bool
     requires { (3 ≤ length words.now) × (used_in words.now ≤ capacity base words.now) }
     ensures { result ≡ leb (used_in words.now + new) (capacity base words.now) }
 {
-    let left = layout::capacity(words) - layout::number(words, layout::USED_AT);
+    let left = layout::capacity(words, bounds::MAX_EDGES) - layout::number(words, layout::USED_AT);
     new <= left as u64
 }
 
 // Record i becomes zeros.
-pub fn zero_record_for(words: &mut [u32], most: usize, i: usize)
+pub fn zero_record(words: &mut [u32], most: usize, i: usize)
     requires { InWords (bounded most) i words.old }
     ensures { words.new ≡ put_record (bounded most) i (zeros (record_words (bounded most))) words.old }
 {
@@ -32,23 +32,14 @@ pub fn zero_record_for(words: &mut [u32], most: usize, i: usize)
     slots::zero(&mut words[at..end]);
 }
 
-fn zero_record(words: &mut [u32], i: usize)
-    requires { InWords base i words.old }
-    ensures { words.new ≡ put_record base i (zeros (record_words base)) words.old }
-{
-    zero_record_for(words, bounds::MAX_EDGES, i);
-}
-
 // It does so if it is a live record of the file; a dead one, or one of another file, stays as it is.
 fn clear_record(words: &mut [u32], i: usize, file: u32)
     requires { InWords base i words.old }
     ensures { words.new ≡ put_record base i (clear_record file (record_at base i words.old)) words.old }
 {
-    let owner = layout::owner(words, i);
-    if 0 < owner {
-        if owner - 1 == file {
-            zero_record(words, i);
-        }
+    let owner = layout::owner(words, bounds::MAX_EDGES, i);
+    if 0 < owner && owner - 1 == file {
+        zero_record(words, bounds::MAX_EDGES, i);
     }
 }
 
@@ -76,7 +67,7 @@ fn lay_out(into: &mut [u32], most: usize, file: u32, start: u32, end: u32, edges
 }
 
 // Record i becomes a partial path of the file. Its first word is the file + 1, so that has to be a word.
-pub fn put_record_for(
+pub fn put_record(
     words: &mut [u32],
     most: usize,
     i: usize,
@@ -93,14 +84,6 @@ pub fn put_record_for(
     lay_out(&mut words[at..behind], most, file, start, end, edges);
 }
 
-// The same for the present bound.
-pub fn put_record(words: &mut [u32], i: usize, file: u32, start: u32, end: u32, edges: &[u32])
-    requires { InWords base i words.old × (file + 1 < 2 ^ 32) × (length edges.now ≤ base.edges) }
-    ensures { words.new ≡ put_record base i (encode_slot (record_words base) (slot file start end edges.now)) words.old }
-{
-    put_record_for(words, bounds::MAX_EDGES, i, file, start, end, edges);
-}
-
 // The words in front: slots used, N and F.
 pub fn store_header(words: &mut [u32], used: u32, nodes: u32, files: u32)
     requires { 3 ≤ length words.old }
@@ -111,23 +94,13 @@ pub fn store_header(words: &mut [u32], used: u32, nodes: u32, files: u32)
     words[layout::FILES_AT] = files;
 }
 
-// Were all words zeros so far, and is this one?
-fn still_clean(clean: bool, word: u32) -> bool
-    ensures { result ≡ and (eqb word 0) clean }
-{
-    if word == 0 {
-        return clean;
-    }
-    false
-}
-
 // Are all of them zeros? Without a way out of the loop they are compared several at a time.
 fn is_clean(words: &[u32]) -> bool
     ensures { result ≡ is_clean words.now }
 {
     let mut clean = true;
-    for i in 0..words.len() {
-        clean = still_clean(clean, words[i]);
+    for word in words {
+        clean &= *word == 0;
     }
     clean
 }
@@ -155,10 +128,9 @@ pub fn take_back(words: &mut [u32], first: usize)
     requires { Whole base words.old × (first < 2 ^ 32) }
     ensures { words.new ≡ used_up_to first (freed_from base first (used_in words.old - first) words.old) }
 {
-    let mut i = layout::number(words, layout::USED_AT);
-    while first < i {
-        i -= 1;
-        zero_record(words, i);
+    let used = layout::number(words, layout::USED_AT);
+    for i in (first..used).rev() {
+        zero_record(words, bounds::MAX_EDGES, i);
     }
     count_used(words, first);
 }

@@ -3,10 +3,8 @@
 use Rattle.std.specs.Prelude.{ℕ, ◌≡◌, false, List, length}
 use Rattle.std.proofs.Common.{sym, subst, ◌∙◌}
 use Rattle.semantics.specs.Entries.{graph_in}
-use Rattle.semantics.specs.declared.search.Limit.{Limit}
 use Rattle.semantics.specs.declared.search.SearchStats.{SearchStats}
-use Rattle.semantics.specs.declared.answer.Resolution.{Resolution}
-use Rattle.semantics.specs.Limits.{base, slot_words}
+use Rattle.semantics.specs.Limits.{base, slot_words, Limit}
 use Rattle.semantics.specs.Answer.{ok}
 use Rattle.semantics.specs.Graph.{Graph, view_of}
 use Rattle.semantics.specs.Hidden.{sees, seen, seen_slots}
@@ -20,12 +18,13 @@ use Rattle.semantics.specs.Calls.{Request, Outcome}
 use Rattle.demand.specs.declared.sets.Asked.{Asked}
 use Rattle.semantics.specs.Calls.Whole.{Finished, Premises, AliasPremises, direct_recorded, stitched_recorded}
 use Rattle.semantics.proofs.Theorems.Calls.Whole.{demand-3, demand-aliases}
+use Rattle.semantics.specs.PublicAnswers.{Resolution, resolved}
 
 -- neither refused, nor with the flag of the path count or of complete paths
 pub record Ended (r : Resolution) : Type 0 where
   pub paths : ℕ
   pub stats : SearchStats
-  pub answered : r ≡ Resolution.Done paths stats
+  pub answered : r ≡ resolved paths stats
   pub uncounted : stats.count_limited ≡ false
   pub uncut : stats.complete_limited ≡ false
 

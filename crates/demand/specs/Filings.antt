@@ -2,7 +2,7 @@
 -- the premise of demand 3. Document 01, "Partial paths", last paragraph; document 02, order 5.
 use Prim.Native.Nat.{ℕ, zero, suc, ◌+◌, ◌-◌, ◌≤◌, ◌<◌}
 use native.Mathlib.Omega.{arith}
-use Rattle.std.specs.Prelude.{◌≡◌, ◌⊎◌, Bool, ltb, length}
+use Rattle.std.specs.Prelude.{◌≡◌, ◌⊎◌, Bool, ltb, length, None, Err, Ok}
 use Rattle.std.proofs.Math.Path.{refl, sym, ap, subst}
 use Rattle.std.proofs.Common.{◌∙◌, ⊎_elim, true≢false, ltb-true, ltb-false}
 use Rattle.std.proofs.Math.Bool.{true, false}
@@ -11,9 +11,6 @@ use mathlib.Core.List.{List, [], ◌∷◌, Memᴰ}
 use Rattle.semantics.specs.Entries.{graph_in, fresh_database}
 use Rattle.semantics.specs.declared.search.SearchOrder.{SearchOrder}
 use Rattle.semantics.specs.declared.search.PartialPathStats.{PartialPathStats}
-use Rattle.semantics.specs.declared.answer.Creation.{Creation}
-use Rattle.semantics.specs.declared.answer.Replacement.{Replacement}
-use Rattle.semantics.specs.declared.search.Limit.TheVariants.{Absent}
 use Rattle.semantics.specs.Lists.{pick}
 use Rattle.semantics.specs.Limits.{base, nobody}
 use Rattle.semantics.specs.Answer.{Answer, ok}
@@ -29,19 +26,22 @@ use Rattle.semantics.specs.Database.Checked.{Checked}
 use Rattle.semantics.specs.Calls.{Change, alias_request, replace_call, alias_call}
 use Rattle.semantics.specs.Calls.Filing.{Refiled, Filed, begun, refiled, aliased, unlimited}
 use Rattle.semantics.proofs.Theorems.Calls.Filing.{still-none, refiled-holds, refiled-some, aliases-refiled, filed-holds}
+use Rattle.semantics.specs.PublicAnswers.{Creation, Replacement}
+use Rattle.semantics.specs.declared.answer.CreationRefusal.{CreationRefusal}
+use Rattle.semantics.specs.declared.answer.ReplacementRefusal.{ReplacementRefusal}
 
 -- was the call answered with Done
 abbrev pub is_created : Creation → Bool
-is_created Creation.Done = true
-is_created (Creation.Image r) = false
-is_created Creation.Malformed = false
+is_created (Ok tt) = true
+is_created (Err (CreationRefusal.Image r)) = false
+is_created (Err CreationRefusal.Malformed) = false
 
 abbrev pub is_replaced : Replacement → Bool
-is_replaced (Replacement.Done stats) = true
-is_replaced (Replacement.Image r) = false
-is_replaced (Replacement.Database r) = false
-is_replaced (Replacement.Refused r) = false
-is_replaced Replacement.Full = false
+is_replaced (Ok stats) = true
+is_replaced (Err (ReplacementRefusal.Image r)) = false
+is_replaced (Err (ReplacementRefusal.Database r)) = false
+is_replaced (Err (ReplacementRefusal.Refused r)) = false
+is_replaced (Err ReplacementRefusal.Full) = false
 
 -- a file replaced without limits
 abbrev pub refiling : List ℕ → SearchOrder → ℕ → List ℕ → List ℕ → Change Replacement
@@ -49,7 +49,7 @@ refiling im order f work words = replace_call base known_owners (graph_in im) (u
 
 -- the alias set replaced without limits
 abbrev pub aliasing : List ℕ → SearchOrder → List ℕ → List ℕ → Change Replacement
-aliasing im order work words = alias_call base known_owners (graph_in im) (alias_request order Absent Absent (length work)) words
+aliasing im order work words = alias_call base known_owners (graph_in im) (alias_request order None None (length work)) words
 
 -- whether every call was answered with Done, and every word of the work area and of the database
 pub record Filings : Type 0 where
@@ -120,17 +120,17 @@ module _ (im : List ℕ) (order : SearchOrder) (files f : ℕ) (work words : Lis
         ∙ sym (next-is ∙ ap (λ b. onward b (refiling im order f work words) (refilings im order (suc f) (files - (f + 1)))) h)
 
 -- ALL WERE REPLACED
-replaced-stats : (a : Replacement) → is_replaced a ≡ true → (t : PartialPathStats) × (a ≡ Replacement.Done t)
-replaced-stats (Replacement.Done t) e = (t, refl)
-replaced-stats (Replacement.Image r) e = absurd (true≢false (sym e))
-replaced-stats (Replacement.Database r) e = absurd (true≢false (sym e))
-replaced-stats (Replacement.Refused r) e = absurd (true≢false (sym e))
-replaced-stats Replacement.Full e = absurd (true≢false (sym e))
+replaced-stats : (a : Replacement) → is_replaced a ≡ true → (t : PartialPathStats) × (a ≡ Ok t)
+replaced-stats (Ok t) e = (t, refl)
+replaced-stats (Err (ReplacementRefusal.Image r)) e = absurd (true≢false (sym e))
+replaced-stats (Err (ReplacementRefusal.Database r)) e = absurd (true≢false (sym e))
+replaced-stats (Err (ReplacementRefusal.Refused r)) e = absurd (true≢false (sym e))
+replaced-stats (Err ReplacementRefusal.Full) e = absurd (true≢false (sym e))
 
-created-done : (a : Creation) → is_created a ≡ true → a ≡ Creation.Done
-created-done Creation.Done e = refl
-created-done (Creation.Image r) e = absurd (true≢false (sym e))
-created-done Creation.Malformed e = absurd (true≢false (sym e))
+created-done : (a : Creation) → is_created a ≡ true → a ≡ Ok tt
+created-done (Ok tt) e = refl
+created-done (Err (CreationRefusal.Image r)) e = absurd (true≢false (sym e))
+created-done (Err CreationRefusal.Malformed) e = absurd (true≢false (sym e))
 
 -- files below f were replaced
 abbrev UpTo : ℕ → List ℕ → Type 0

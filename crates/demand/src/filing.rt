@@ -9,28 +9,18 @@ use database::fresh;
 use partial::replace;
 use semantics::answer::{Creation, Replacement};
 use semantics::graph::FileId;
-use semantics::search::{Limit, SearchOrder};
+use semantics::search::SearchOrder;
 
 fn is_created(answer: Creation) -> bool
     ensures { result ≡ is_created answer }
 {
-    match answer {
-        Creation::Done => true,
-        Creation::Image(_) => false,
-        Creation::Malformed => false,
-    }
+    answer.is_ok()
 }
 
 fn is_replaced(answer: Replacement) -> bool
     ensures { result ≡ is_replaced answer }
 {
-    match answer {
-        Replacement::Done { stats: _ } => true,
-        Replacement::Image(_) => false,
-        Replacement::Database(_) => false,
-        Replacement::Refused(_) => false,
-        Replacement::Full => false,
-    }
+    answer.is_ok()
 }
 
 // Whether the words are a fresh database now.
@@ -47,17 +37,7 @@ fn refile(image: &[u8], file: u32, order: SearchOrder, work: &mut [u32], words: 
     ensures work_after { work.new ≡ (refiling image.now order file work.old words.old).work }
     ensures words_after { words.new ≡ (refiling image.now order file work.old words.old).database }
 {
-    let length = Limit::Absent;
-    let expansions = Limit::Absent;
-    let replaced = replace::replace_file(
-        image,
-        FileId(file),
-        order,
-        length,
-        expansions,
-        work,
-        words,
-    );
+    let replaced = replace::replace_file(image, FileId(file), order, None, None, work, words);
     is_replaced(replaced)
 }
 
@@ -67,9 +47,7 @@ fn refile_aliases(image: &[u8], order: SearchOrder, work: &mut [u32], words: &mu
     ensures work_after { work.new ≡ (aliasing image.now order work.old words.old).work }
     ensures words_after { words.new ≡ (aliasing image.now order work.old words.old).database }
 {
-    let length = Limit::Absent;
-    let expansions = Limit::Absent;
-    let replaced = replace::replace_aliases(image, order, length, expansions, work, words);
+    let replaced = replace::replace_aliases(image, order, None, None, work, words);
     is_replaced(replaced)
 }
 

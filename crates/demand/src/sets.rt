@@ -48,18 +48,22 @@ pub fn record_both(
     ensures agrees_all { first.limits.length ≡ second.limits.length → AgreesAll image.now visible.now words.now reference.0 first.limits.length
         result.direct found.new result.stitched joined.new }
 {
-    let order = first.order;
-    let limits = first.limits;
-    let direct = direct::search_recorded(image, visible, reference, order, limits, waiting, found);
-    let other_order = second.order;
-    let other_limits = second.limits;
+    let direct = direct::search_recorded(
+        image,
+        visible,
+        reference,
+        first.order,
+        first.limits,
+        waiting,
+        found,
+    );
     let stitched = stitched::search_recorded(
         image,
         visible,
         words,
         reference,
-        other_order,
-        other_limits,
+        second.order,
+        second.limits,
         stitching,
         joined,
     );

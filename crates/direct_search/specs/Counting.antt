@@ -1,7 +1,6 @@
 -- The numbers of the complete paths by length, round by round, against the enumeration that keeps every complete path.
 -- Serves document 02, order 9.
-use Rattle.std.specs.Prelude.{ℕ, ◌+◌, ◌-◌, ◌≤◌, ◌≡◌, List, length, get_or, set}
-use Rattle.semantics.specs.declared.search.Limit.TheVariants.{Absent, AtMost}
+use Rattle.std.specs.Prelude.{ℕ, ◌+◌, ◌-◌, ◌≤◌, ◌≡◌, List, length, get_or, set, Ok, Err, None, Some}
 use Rattle.semantics.specs.declared.search.SearchLimits.{SearchLimits}
 use Rattle.semantics.specs.declared.refusal.SearchRefusal.{SearchRefusal}
 use Rattle.semantics.specs.Limits.{base, slot_length, max_expansions}
@@ -18,8 +17,7 @@ use Rattle.search_state.specs.declared.search.Search as S
 use Rattle.search_state.specs.declared.progress.Frame.{Frame}
 use Rattle.search_state.specs.Progresses.{frame_of}
 use Rattle.search_state.specs.Reps.{setting_of}
-use Rattle.search_rounds.specs.declared.conclusion.SearchEnd.{SearchEnd}
-use Rattle.search_rounds.specs.declared.conclusion.SearchEnd.TheVariants.{Over, Refused}
+use Rattle.search_rounds.specs.Drives.{SearchEnd}
 use Rattle.search_rounds.specs.Drives.{Driving}
 use Rattle.direct_search.specs.DirectAnswers.{edge_tries}
 pub mod Laws
@@ -39,7 +37,7 @@ kept_from g f n m = run (keeping (setting_of f)) (edge_tries f.limits.length g) 
 -- what the rounds are given: a search that may keep no path, beside the state of the enumeration that keeps each, and the numbers of what that has kept
 pub record Counting (index steps item : List ℕ) (s : S.Search) (ws rs ns : List ℕ) : Type 0 where
   pub driving : Driving index steps item s ws rs
-  pub none : (frame_of s).limits.complete ≡ AtMost 0
+  pub none : (frame_of s).limits.complete ≡ Some 0
   pub state : State Path
   pub keeps : Keeping state driving.model
   pub numbers : ns ≡ lengths base (edge_lists state.kept)
@@ -49,15 +47,15 @@ run_on {s = s} x = kept_from (view_of x.driving.graph) (frame_of s) (max_expansi
 
 -- the search is over with the numbers of what is kept, or refused alike
 abbrev pub Tallies : SearchEnd → List ℕ → Answer SearchRefusal (State Path) → Type 0
-Tallies (Over f) ns (ok u) = ns ≡ lengths base (edge_lists u.kept)
-Tallies (Over f) ns (refuse y) = ⊥
-Tallies (Refused x) ns (ok u) = ⊥
-Tallies (Refused x) ns (refuse y) = x ≡ y
+Tallies (Ok f) ns (ok u) = ns ≡ lengths base (edge_lists u.kept)
+Tallies (Ok f) ns (refuse y) = ⊥
+Tallies (Err x) ns (ok u) = ⊥
+Tallies (Err x) ns (refuse y) = x ≡ y
 
 -- the limits of a tally: complete paths are counted, and none is kept
 abbrev pub none_kept : SearchLimits
-none_kept = record { length = Absent; expansions = Absent; complete = AtMost 0 }
+none_kept = record { length = None; expansions = None; complete = Some 0 }
 
 -- what the definitions answer to a tally on a graph
 abbrev pub tallied_on : Graph → List ℕ → ℕ → Answer SearchRefusal (State Path)
-tallied_on g ws n = direct base Absent (tally_setting (whole_slots slot_length (length ws))) (view_of g) n
+tallied_on g ws n = direct base None (tally_setting (whole_slots slot_length (length ws))) (view_of g) n

@@ -11,7 +11,7 @@ use Rattle.semantics.specs.Path.{Path}
 use Rattle.semantics.specs.Enumeration.{State, one, each}
 use Rattle.semantics.specs.Direct.{judge}
 use Rattle.search_state.specs.declared.search.Search as S
-use Rattle.search_state.specs.declared.search.Going.{Going}
+use Rattle.search_state.specs.Searches.{Going}
 use Rattle.search_state.specs.Items.{Carries}
 use Rattle.search_state.specs.Searches.{Clears}
 use Rattle.search_state.specs.Progresses.{frame_of}

@@ -1,21 +1,19 @@
 -- Edges that lead nowhere are passed over, and the search goes on behind them, in code against the enumeration.
 -- Document 01, "Answer": `try_compute`.
-use Rattle.std.specs.Prelude.{ℕ, ◌+◌, ◌-◌, ◌<◌, ◌≤◌, ◌≡◌, Bool, false, not, List, [], ◌∷◌, eqb, ltb, length}
+use Rattle.std.specs.Prelude.{ℕ, ◌+◌, ◌-◌, ◌<◌, ◌≤◌, ◌≡◌, Bool, false, not, List, [], ◌∷◌, eqb, ltb, length, Ok, Err}
 use Rattle.semantics.specs.ReplayedPaths.{step_at}
 use Rattle.semantics.specs.declared.graph.Edge.{Edge}
 use Rattle.semantics.specs.declared.graph.Edge.TheVariants as E
-use Rattle.semantics.specs.declared.search.Limit.{Limit}
 use Rattle.semantics.specs.declared.refusal.SearchRefusal.TheVariants as Search
 use Rattle.semantics.specs.Lists.{or, pick}
-use Rattle.semantics.specs.Limits.{within, looked_ever}
+use Rattle.semantics.specs.Limits.{within, looked_ever, Limit}
 use Rattle.semantics.specs.Graph.{View, view_of}
 use Rattle.semantics.specs.Path.{Path}
 use Rattle.storage.specs.Index.{edge_row, next_row}
 use Rattle.storage.specs.Index.Use.{left}
 use Rattle.path_budget.specs.declared.budget.Budget.{Budget}
 use Rattle.search_state.specs.declared.search.Search as S
-use Rattle.search_state.specs.declared.search.Going.{Going}
-use Rattle.search_state.specs.declared.search.Going.TheVariants as Going
+use Rattle.search_state.specs.Searches.{Going}
 use Rattle.search_state.specs.declared.dead_ends.DeadEnds.{DeadEnds}
 use Rattle.search_state.specs.Passes.{passed_cut, passed_rejection, passed_length, passed_by}
 use Rattle.edge_trial.specs.declared.trial.EdgeTrial.{EdgeTrial}
@@ -107,5 +105,5 @@ pub record Turning (r : Pass) (item : List ℕ) (k : ℕ) (on : S.Search) (ws rs
 
 -- it goes on at the next link, or the expansion is refused
 abbrev pub Turned : (r : Pass) (item : List ℕ) (k : ℕ) (on : S.Search) (ws rs : List ℕ) → Turning r item k on ws rs → Going → List ℕ → List ℕ → List ℕ → Type 0
-Turned r item k on ws rs x (Going.On next) item' ws' rs' = Mid x.most x.index x.steps x.item₀ k x.s x.ws₀ x.rs₀ x.v next item' ws' rs' (beyond_row x.index r.link)
-Turned r item k on ws rs x (Going.Refused z) item' ws' rs' = Expanded x.most x.index x.steps x.item₀ k x.s x.ws₀ x.rs₀ x.v (Going.Refused z) ws' rs'
+Turned r item k on ws rs x (Ok next) item' ws' rs' = Mid x.most x.index x.steps x.item₀ k x.s x.ws₀ x.rs₀ x.v next item' ws' rs' (beyond_row x.index r.link)
+Turned r item k on ws rs x (Err z) item' ws' rs' = Expanded x.most x.index x.steps x.item₀ k x.s x.ws₀ x.rs₀ x.v (Err z) ws' rs'

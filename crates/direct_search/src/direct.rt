@@ -23,14 +23,14 @@ use edge_trial::trial;
 use edge_trial::trial::EdgeTrial;
 use path_budget::budget::Budget;
 use reply::finish::Reply;
-use search_rounds::conclusion::{SearchEnd, conclude};
+use search_rounds::conclusion::conclude;
 use search_rounds::start::start;
 use search_state::dead_ends::DeadEnds;
 use search_state::path_slot;
-use search_state::progress::{Course, Frame, Next, Progress};
+use search_state::progress::{Frame, Progress};
 use search_state::retrace::retrace;
-use search_state::search::Going;
-use semantics::answer::{Checked, Resolution};
+use search_state::search::{Finished, Round};
+use semantics::answer::{Resolution, ResolutionRefusal};
 use semantics::bounds::{SLOT_WORDS, STEPS_WORDS};
 use semantics::graph::{Edge, EdgeId, NodeId};
 use semantics::refusal::SearchRefusal;
@@ -40,6 +40,7 @@ use storage::{blocks, check, store};
 use words::slots;
 
 // What becomes of the edges from a link on: those that lead nowhere are counted, up to the first that lengthens the path or meets the bound.
+// Kept: as a `Result<Option<bool>, TooLong>` each place that makes it would name two layers for one of three outcomes, and the one that takes it apart too.
 #[derive(Clone, Copy)]
 pub enum Led {
     End,
@@ -56,6 +57,7 @@ pub struct Pass {
 }
 
 // What one trial adds, or what it leads to.
+// Kept: a ControlFlow<Led, DeadEnds> could also break with the end, which no trial does; this type says so. `TooLong` is no `Err`, as what was counted goes out beside it.
 #[derive(Clone, Copy)]
 pub enum Counted {
     More(DeadEnds),
@@ -96,8 +98,8 @@ fn leaves(index: &[u32], edges: &[u32], node: u32) -> bool
     requires { Blocks index.now }
     ensures { result ≡ leaves_by (edge_row index.now) node edges.now }
 {
-    for i in 0..edges.len() {
-        if is_from(index, edges[i], node) {
+    for edge in edges {
+        if is_from(index, *edge, node) {
             return true;
         }
     }
@@ -123,9 +125,8 @@ fn pass_all(first: u32) -> Pass
 {
     Pass {
         passed: DeadEnds {
-            cycles: 0,
-            rejected: 0,
             overlong: 0 < first,
+            ..DeadEnds::nothing()
         },
         link: 0,
         led: Led::End,
@@ -183,17 +184,16 @@ fn onward(
     work: &mut [u32],
     res: &mut [u32],
     frame: Frame,
-) -> Course
+) -> Result<Progress, SearchRefusal>
     requires { Turning pass item.old k (at frame progress) work.old res.old }
     ensures { (x : Turning pass item.old k (at frame progress) work.old res.old)
         → Turned pass item.old k (at frame progress) work.old res.old x (course_at frame result) item.new work.new
         res.new }
 {
     let on = progress.passed_by(pass.passed);
-    let led = pass.led;
-    match led {
-        Led::End => Course::On(on),
-        Led::TooLong => Course::Refused(SearchRefusal::TooLong),
+    match pass.led {
+        Led::End => Ok(on),
+        Led::TooLong => Err(SearchRefusal::TooLong),
         Led::Extended { complete } => {
             path_slot::with_edge(item, k, pass.link - 1);
             on.extend(complete, work, res, item, frame)
@@ -222,7 +222,7 @@ fn expand(
     work: &mut [u32],
     res: &mut [u32],
     frame: Frame,
-) -> Course
+) -> Result<Progress, SearchRefusal>
     requires { Given looked_before index.now steps.now item.old k (at frame progress) work.old res.old }
     ensures expanded { (v : Given looked_before index.now steps.now item.old k (at frame progress) work.old
         res.old) → Expanded looked_before index.now steps.now item.old k (at frame progress) work.old
@@ -235,14 +235,10 @@ fn expand(
     let mut link = store::first(index, NodeId(steps::get_step(steps, k).end));
     while 0 < link {
         let pass = pass_over(index, steps, &item[1..k + 1], budget, link);
-        let going = onward(pass, item, k, on, work, res, frame);
-        let Course::On(next) = going else {
-            return going;
-        };
-        on = next;
+        on = onward(pass, item, k, on, work, res, frame)?;
         link = beyond(index, pass.link);
     }
-    Course::On(on)
+    Ok(on)
 }
 
 // The popped path's steps are laid out, where steps up to `laid` stand there for the path before, and the path is expanded.
@@ -255,7 +251,7 @@ fn round(
     work: &mut [u32],
     res: &mut [u32],
     frame: Frame,
-) -> Course
+) -> Result<Progress, SearchRefusal>
     requires { Rounding looked_before index.now steps.old item.old laid (at frame progress) work.old res.old }
     ensures rounded { (v : Rounding looked_before index.now steps.old item.old laid (at frame progress) work.old
         res.old) → Rounded edge_tries looked_before index.now steps.old item.old laid (at frame progress)
@@ -274,7 +270,7 @@ fn add(numbers: &mut [u64], at: usize, more: u64)
     ensures { numbers.new ≡ added_to numbers.old at more }
 {
     if at < numbers.len() {
-        numbers[at] = numbers[at] + more;
+        numbers[at] += more;
     }
 }
 
@@ -289,7 +285,7 @@ fn drive(
     res: &mut [u32],
     numbers: &mut [u64],
     frame: Frame,
-) -> SearchEnd
+) -> Result<Finished, SearchRefusal>
     requires { Driving index.now steps.old item.old (at frame progress) work.old res.old × Low numbers.old (at frame progress) }
     ensures driven_to { (v : Driving index.now steps.old item.old (at frame progress) work.old res.old)
         → DrivenTo edge_tries index.now steps.old item.old (at frame progress) work.old res.old v result
@@ -300,19 +296,14 @@ fn drive(
     let mut on = progress;
     let mut laid: usize = 0;
     loop {
-        match on.take(work, item, frame) {
-            Next::Over(finished) => return SearchEnd::Over(finished),
-            Next::TooMany => return SearchEnd::Refused(SearchRefusal::TooManyExpansions),
-            Next::Expand(next) => {
+        match on.take(work, item, frame)? {
+            Round::Over(finished) => return Ok(finished),
+            Round::Expand(next) => {
                 let k = item[0] as usize;
-                match round(index, steps, item, laid, next, work, res, frame) {
-                    Course::On(s) => {
-                        add(numbers, k + 1, s.complete - next.complete);
-                        on = s;
-                        laid = k;
-                    }
-                    Course::Refused(r) => return SearchEnd::Refused(r),
-                }
+                let s = round(index, steps, item, laid, next, work, res, frame)?;
+                add(numbers, k + 1, s.complete - next.complete);
+                on = s;
+                laid = k;
             }
         }
     }
@@ -328,7 +319,7 @@ pub fn search_counted(
     work: &mut [u32],
     res: &mut [u32],
     numbers: &mut [u64],
-) -> SearchEnd
+) -> Result<Finished, SearchRefusal>
     requires { HoldsGraph index.now × (res.old ≡ zeros (length res.old)) × (numbers.old ≡ zeros (length numbers.old)) }
     ensures ends { (g : Graph) → Loaded g index.now → Ends result res.new (direct_of g (request_of order limits work.old res.old reference)) }
     ensures tallies { order ≡ DepthFirst → limits ≡ none_kept → length numbers.old ≡ slot_length
@@ -336,21 +327,19 @@ pub fn search_counted(
 {
     let mut steps = [0u32; STEPS_WORDS];
     let mut item = [0u32; SLOT_WORDS];
-    match start(
+    let on = start(
         index, reference, order, limits, &mut steps, &item, work, res,
-    ) {
-        Going::On(on) => drive(
-            index,
-            &mut steps,
-            &mut item,
-            on.progress(),
-            work,
-            res,
-            numbers,
-            on.frame(),
-        ),
-        Going::Refused(r) => SearchEnd::Refused(r),
-    }
+    )?;
+    drive(
+        index,
+        &mut steps,
+        &mut item,
+        on.progress(),
+        work,
+        res,
+        numbers,
+        on.frame(),
+    )
 }
 
 // The same with no number but that of length 0, which is never counted. The crates above that make many searches on one graph, or ask more of one,
@@ -362,7 +351,7 @@ pub fn search_kept(
     limits: SearchLimits,
     work: &mut [u32],
     res: &mut [u32],
-) -> SearchEnd
+) -> Result<Finished, SearchRefusal>
     requires { HoldsGraph index.now × (res.old ≡ zeros (length res.old)) }
     ensures { (g : Graph) → Loaded g index.now → Ends result res.new (direct_of g (request_of order limits work.old res.old reference)) }
 {
@@ -378,7 +367,7 @@ fn attempt(
     limits: SearchLimits,
     work: &mut [u32],
     res: &mut [u32],
-) -> SearchEnd
+) -> Result<Finished, SearchRefusal>
     requires { HoldsGraph index.now }
     ensures { (g : Graph) → Loaded g index.now → Ends result res.new (direct_of g (request_of order limits work.old res.old reference)) }
 {
@@ -420,16 +409,12 @@ fn search_in(
     ensures { Does (direct_search (reply_of reply) image.now visible.now reference order limits work.old res.old) result work.new res.new }
 {
     match check::load_seen(image, visible, index) {
-        Checked::Refused(r) => {
+        Err(r) => {
             slots::zero(work);
             slots::zero(res);
-            Resolution::Image(r)
+            Err(ResolutionRefusal::Image(r))
         }
-        Checked::Accepted {
-            files: _,
-            nodes: _,
-            edges: _,
-        } => search_loaded(index, reference, order, limits, reply, work, res),
+        Ok(_) => search_loaded(index, reference, order, limits, reply, work, res),
     }
 }
 
@@ -485,6 +470,7 @@ pub fn search(
 }
 
 // The same search with its recorded paths.
+// Kept: a call for each reply, as each is a public call of its name; what both do is one function.
 pub fn search_recorded(
     image: &[u8],
     visible: &[u8],

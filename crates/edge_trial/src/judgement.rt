@@ -10,7 +10,6 @@ ghost use Rattle.stepping.specs.Judged.{Ready, Stepped, judged_of};
 ghost use Rattle.edge_trial.specs.Trials.{judgement_by};
 
 use semantics::judgement::EdgeJudgement;
-use stepping::step::Effect;
 use stepping::{step, steps};
 
 // The path has k edges, and its steps stand in `steps`. What the index and the steps stand for is judged as the definition judges it; the second
@@ -22,9 +21,7 @@ pub fn judge(index: &[u32], steps: &[u32], k: u32, edge: u32) -> EdgeJudgement
     ensures value_2 { result ≡ judgement_by (node_row index.now) (judged_of (node_row index.now) steps.now k edge (edge_row index.now edge)) }
 {
     match steps::judge(index, steps, k, edge) {
-        Effect::Refused(refusal) => EdgeJudgement::Refused(refusal),
-        Effect::Done(step) => EdgeJudgement::Extends {
-            complete: step::is_complete(index, step),
-        },
+        Err(refusal) => Err(refusal),
+        Ok(step) => Ok(step::is_complete(index, step)),
     }
 }

@@ -11,7 +11,6 @@ use crate::judgement;
 use path_budget::budget::Budget;
 use search_state::path_slot;
 use semantics::bounds::MAX_EDGES;
-use semantics::judgement::EdgeJudgement;
 
 #[derive(Clone, Copy)]
 pub enum EdgeTrial {
@@ -28,7 +27,7 @@ fn tried(index: &[u32], steps: &[u32], k: u32, edge: u32) -> EdgeTrial
     ensures { result ≡ tried_by (judgement_by (node_row index.now) (judged_of (node_row index.now) steps.now k edge (edge_row index.now edge))) }
 {
     let judged = judgement::judge(index, steps, k, edge);
-    let EdgeJudgement::Extends { complete } = judged else {
+    let Ok(complete) = judged else {
         return EdgeTrial::Rejected;
     };
     EdgeTrial::Extended { complete }

@@ -1,6 +1,7 @@
 // A name for a definition: the references are searched by ascending number, breadth-first and each to its end, until one has a path to it.
 // Document 02, order 1.
-ghost use Rattle.std.specs.Prelude.{◌≡◌, true, false, ℕ, ◌*◌, ◌≤◌, ◌<◌, length};
+ghost use Rattle.std.specs.Prelude.{◌≡◌, true, false, ℕ, ◌*◌, ◌≤◌, ◌<◌, length, unwrap_or};
+ghost use Rattle.std.specs.Option.{ForSome};
 ghost use Rattle.semantics.specs.Limits.{slot_length};
 ghost use Rattle.semantics.specs.Words.{zeros};
 ghost use Rattle.semantics.specs.Graph.{Graph, view_of, is_reference};
@@ -13,8 +14,7 @@ ghost use Rattle.finding.specs.Names.{leads_to, slot_to, FirstIn, only_slot, Tel
 
 use direct_search::direct;
 use reply::closing_up;
-use search_rounds::conclusion::SearchEnd;
-use semantics::answer::{Checked, Finding};
+use semantics::answer::{Finding, FindingRefusal};
 use semantics::bounds::SLOT_WORDS;
 use semantics::graph::{Edge, EdgeId, NodeId};
 use semantics::refusal::{PathRefusal, SearchRefusal};
@@ -22,14 +22,6 @@ use semantics::search::{Limit, SearchLimits, SearchOrder};
 use stepping::node::is_removed;
 use storage::{blocks, check, store};
 use words::slots;
-
-// What became of one reference, or of several: a path to the node from this one stands in the first result slot, none has one, or a search was refused.
-#[derive(Clone, Copy)]
-pub enum Tried {
-    Found(u32),
-    Without,
-    Refused(SearchRefusal),
-}
 
 // Does the edge lead to the node?
 fn leads_to(index: &[u32], edge: u32, node: u32) -> bool
@@ -55,17 +47,18 @@ fn ends_at(index: &[u32], res: &[u32], i: usize, node: u32) -> bool
     leads_to(index, res[SLOT_WORDS * i + count], node)
 }
 
-// The first of the kept paths that ends at the node; their number if none does.
-fn first_to(index: &[u32], res: &[u32], kept: usize, node: u32) -> usize
+// The first of the kept paths that ends at the node.
+fn first_to(index: &[u32], res: &[u32], kept: usize, node: u32) -> Option<usize>
     requires { Blocks index.now × AllFitting slot_length kept res.now }
-    ensures { FirstIn (slot_to index.now res.now node) kept result }
+    ensures first { FirstIn (slot_to index.now res.now node) kept (unwrap_or result kept) }
+    ensures kept { ForSome result (λ i. i < kept) }
 {
     for i in 0..kept {
         if ends_at(index, res, i, node) {
-            return i;
+            return Some(i);
         }
     }
-    kept
+    None
 }
 
 // Slot i becomes the first one, and the others become zero.
@@ -77,7 +70,8 @@ fn keep_only(res: &mut [u32], i: usize, kept: usize)
     closing_up::clear(res, 1, kept);
 }
 
-// A reference is searched to its end, without count limits. The result area is zero before, and after if no path was found.
+// A reference is searched to its end, without count limits: a path from it to the node stands in the first result slot, or it has none. The result
+// area is zero before, and after if no path was found.
 fn try_reference(
     index: &[u32],
     reference: u32,
@@ -85,15 +79,15 @@ fn try_reference(
     limit: Limit,
     work: &mut [u32],
     res: &mut [u32],
-) -> Tried
+) -> Result<Option<u32>, SearchRefusal>
     requires { HoldsGraph index.now × (res.old ≡ zeros (length res.old)) }
     ensures { (g : Graph) → Loaded g index.now
         → Tells result res.new (tried_of g limit (length work.old) (length res.old) node reference true) }
 {
     let limits = SearchLimits {
         length: limit,
-        expansions: Limit::Absent,
-        complete: Limit::Absent,
+        expansions: None,
+        complete: None,
     };
     let driven = direct::search_kept(
         index,
@@ -103,19 +97,14 @@ fn try_reference(
         work,
         res,
     );
-    match driven {
-        SearchEnd::Over(finished) => {
-            let kept = finished.state.kept;
-            let at = first_to(index, res, kept, node);
-            if at < kept {
-                keep_only(res, at, kept);
-                return Tried::Found(reference);
-            }
-            closing_up::clear(res, 0, kept);
-            Tried::Without
-        }
-        SearchEnd::Refused(r) => Tried::Refused(r),
-    }
+    let finished = driven?;
+    let kept = finished.state.kept;
+    let Some(at) = first_to(index, res, kept, node) else {
+        closing_up::clear(res, 0, kept);
+        return Ok(None);
+    };
+    keep_only(res, at, kept);
+    Ok(Some(reference))
 }
 
 // A node is passed over unless it is a reference.
@@ -126,7 +115,7 @@ fn try_node(
     limit: Limit,
     work: &mut [u32],
     res: &mut [u32],
-) -> Tried
+) -> Result<Option<u32>, SearchRefusal>
     requires { HoldsGraph index.now × (res.old ≡ zeros (length res.old)) }
     ensures { (g : Graph) → Loaded g index.now
         → Tells result res.new (tried_of g limit (length work.old) (length res.old) node n (is_reference ((view_of g).node n))) }
@@ -134,10 +123,10 @@ fn try_node(
     if store::is_reference(index, NodeId(n)) {
         return try_reference(index, n, node, limit, work, res);
     }
-    Tried::Without
+    Ok(None)
 }
 
-// The nodes by ascending number, up to the first that has a path or is refused.
+// The nodes by ascending number, up to the first that has a path or is refused: that one, or none of them.
 fn walk(
     index: &[u32],
     nodes: u32,
@@ -145,36 +134,30 @@ fn walk(
     limit: Limit,
     work: &mut [u32],
     res: &mut [u32],
-) -> Tried
+) -> Result<Option<u32>, SearchRefusal>
     requires { HoldsNodes index.now nodes × (res.old ≡ zeros (length res.old)) }
     ensures { (g : Graph) → Loaded g index.now → nodes ≡ length g.nodes
         → Tells result res.new (walked_of g limit (length work.old) (length res.old) node) }
 {
-    let mut n = 0;
-    while n < nodes {
-        match try_node(index, n, node, limit, work, res) {
-            Tried::Without => {}
-            Tried::Found(r) => return Tried::Found(r),
-            Tried::Refused(x) => return Tried::Refused(x),
+    for n in 0..nodes {
+        if let Some(reference) = try_node(index, n, node, limit, work, res)? {
+            return Ok(Some(reference));
         }
-        n += 1;
     }
-    Tried::Without
+    Ok(None)
 }
 
 // What is answered; only the path that was found stays in the areas.
-fn conclude(tried: Tried, work: &mut [u32], res: &mut [u32]) -> Finding
+fn conclude(tried: Result<Option<u32>, SearchRefusal>, work: &mut [u32], res: &mut [u32]) -> Finding
     ensures { Concluded tried work.old res.old result work.new res.new }
 {
     slots::zero(work);
     match tried {
-        Tried::Found(n) => Finding::Found {
-            reference: NodeId(n),
-        },
-        Tried::Without => Finding::Nothing,
-        Tried::Refused(x) => {
+        Ok(Some(n)) => Ok(Some(NodeId(n))),
+        Ok(None) => Ok(None),
+        Err(x) => {
             slots::zero(res);
-            Finding::Refused(x)
+            Err(FindingRefusal::Refused(x))
         }
     }
 }
@@ -185,9 +168,10 @@ fn turn_back(index: &[u32], node: u32) -> Finding
     ensures { result ≡ turned_back node (node_row index.now node) }
 {
     if is_removed(store::node(index, NodeId(node))) {
-        return Finding::Refused(SearchRefusal::Path(PathRefusal::UnknownNode(NodeId(node))));
+        let unknown = PathRefusal::UnknownNode(NodeId(node));
+        return Err(FindingRefusal::Refused(SearchRefusal::Path(unknown)));
     }
-    Finding::NotDefinition(NodeId(node))
+    Err(FindingRefusal::NotDefinition(NodeId(node)))
 }
 
 // The name on a loaded graph.
@@ -227,16 +211,12 @@ fn find_in(
     ensures { Does (find_name image.now visible.now node limit work.old res.old) result work.new res.new }
 {
     match check::load_seen(image, visible, index) {
-        Checked::Refused(r) => {
+        Err(r) => {
             slots::zero(work);
             slots::zero(res);
-            Finding::Image(r)
+            Err(FindingRefusal::Image(r))
         }
-        Checked::Accepted {
-            files: _,
-            nodes,
-            edges: _,
-        } => find_loaded(index, nodes, node, limit, work, res),
+        Ok(counts) => find_loaded(index, counts.nodes, node, limit, work, res),
     }
 }
 

@@ -1,7 +1,6 @@
 -- What resolving a flow does in code and lent words, against its definition.
 -- Document 02, order 11.
 use Rattle.std.specs.Prelude.{ℕ, ◌≡◌, List, length}
-use Rattle.semantics.specs.declared.answer.Flow.{Flow}
 use Rattle.semantics.specs.Limits.{base}
 use Rattle.semantics.specs.Answer.{ok}
 use Rattle.semantics.specs.Graph.{Graph, view_of}
@@ -10,9 +9,9 @@ use Rattle.semantics.specs.Directory.{FlowRequest, flow_outcome, resolved, flow_
 use Rattle.semantics.specs.Entries.{Does}
 use Rattle.storage.specs.Index.{Loaded}
 use Rattle.path.specs.Shadows.Laws.{JumpAt}
-use Rattle.search_rounds.specs.declared.conclusion.SearchEnd.{SearchEnd}
-use Rattle.search_rounds.specs.Drives.{Ends}
+use Rattle.search_rounds.specs.Drives.{SearchEnd, Ends}
 use Rattle.direct_search.specs.DirectAnswers.{direct_of}
+use Rattle.semantics.specs.PublicAnswers.{Flow}
 pub mod Laws
 
 -- a graph of an accepted image in the index

@@ -8,15 +8,25 @@ ghost use Rattle.semantics.specs.Told.{told_flow};
 ghost use Rattle.storage.specs.Index.{Takes};
 ghost use Rattle.flow_directory.specs.Flows.{Searchable, Ended, EndedAs, resolved_of, listed_of};
 
-use crate::rows::Looked;
+use crate::rows::{LookUpRefusal, Sought};
 use crate::{ends, isin, rows};
 use direct_search::direct;
 use reply::finish::{Reply, finish};
-use search_rounds::conclusion::SearchEnd;
-use semantics::answer::{Checked, Flow};
+use search_state::search::Finished;
+use semantics::answer::{Flow, FlowRefusal, Flowed};
+use semantics::refusal::SearchRefusal;
 use semantics::search::{SearchLimits, SearchOrder};
 use storage::{blocks, check};
 use words::slots;
+
+// What is asked of an image beside the set of visible files: the rows and the key, the order and the limits of the search.
+#[derive(Clone, Copy)]
+struct Asked<'a> {
+    rows: &'a [u8],
+    key: Sought<'a>,
+    order: SearchOrder,
+    limits: SearchLimits,
+}
 
 // A refused call leaves both areas zero.
 fn turn_back(flow: Flow, work: &mut [u32], res: &mut [u32]) -> Flow
@@ -28,25 +38,30 @@ fn turn_back(flow: Flow, work: &mut [u32], res: &mut [u32]) -> Flow
 }
 
 // The returned paths of a search that has ended, and the definitions at which they end; or its refusal.
-fn conclude(index: &[u32], driven: SearchEnd, work: &mut [u32], res: &mut [u32]) -> Flow
+fn conclude(
+    index: &[u32],
+    driven: Result<Finished, SearchRefusal>,
+    work: &mut [u32],
+    res: &mut [u32],
+) -> Flow
     requires { Ended index.now driven res.old }
     ensures { (v : Ended index.now driven res.old) → EndedAs v (length work.old) result work.new res.new }
 {
     slots::zero(work);
     match driven {
-        SearchEnd::Over(finished) => {
+        Ok(finished) => {
             let state = finished.state;
             let paths = finish(index, Reply::Returned, res, state.kept);
             let definitions = ends::definitions(index, res, paths);
-            Flow::Done {
+            Ok(Flowed {
                 definitions,
                 paths: paths as u64,
                 stats: finished.stats(),
-            }
+            })
         }
-        SearchEnd::Refused(r) => {
+        Err(r) => {
             slots::zero(res);
-            Flow::Refused(r)
+            Err(FlowRefusal::Refused(r))
         }
     }
 }
@@ -70,28 +85,18 @@ fn resolve_from(
 }
 
 // 41, 42, 43, then the search.
-fn resolve_loaded(
-    index: &[u32],
-    rows: &[u8],
-    isin: &[u8],
-    tranche: u32,
-    leg: u32,
-    order: SearchOrder,
-    limits: SearchLimits,
-    work: &mut [u32],
-    res: &mut [u32],
-) -> Flow
+fn resolve_loaded(index: &[u32], asked: Asked, work: &mut [u32], res: &mut [u32]) -> Flow
     requires { Searchable index.now }
     ensures { (v : Searchable index.now)
-        → Does (listed_of v.graph rows.now (flow_request_of (key_of isin.now tranche leg) order limits work.old res.old)) result work.new res.new }
+        → Does (listed_of v.graph asked.entry.rows.now (flow_request_of (key_of asked.entry.key.isin.now asked.entry.key.tranche asked.entry.key.leg) asked.entry.order asked.entry.limits work.old res.old)) result work.new res.new }
 {
-    if !isin::is_isin(isin) {
-        return turn_back(Flow::MalformedIsin, work, res);
+    if !isin::is_isin(asked.key.isin) {
+        return turn_back(Err(FlowRefusal::MalformedIsin), work, res);
     }
-    match rows::look_up(rows, isin, tranche, leg) {
-        Looked::Found(reference) => resolve_from(index, reference, order, limits, work, res),
-        Looked::Missing => turn_back(Flow::UnknownKey, work, res),
-        Looked::Disordered => turn_back(Flow::Disordered, work, res),
+    match rows::look_up(asked.rows, asked.key) {
+        Ok(reference) => resolve_from(index, reference, asked.order, asked.limits, work, res),
+        Err(LookUpRefusal::Missing) => turn_back(Err(FlowRefusal::UnknownKey), work, res),
+        Err(LookUpRefusal::Disordered) => turn_back(Err(FlowRefusal::Disordered), work, res),
     }
 }
 
@@ -100,25 +105,16 @@ fn resolve_in(
     image: &[u8],
     visible: &[u8],
     index: &mut [u32],
-    rows: &[u8],
-    isin: &[u8],
-    tranche: u32,
-    leg: u32,
-    order: SearchOrder,
-    limits: SearchLimits,
+    asked: Asked,
     work: &mut [u32],
     res: &mut [u32],
 ) -> Flow
     requires { Takes image.now index.old }
-    ensures { Does (resolve_flow image.now visible.now rows.now (key_of isin.now tranche leg) order limits work.old res.old) result work.new res.new }
+    ensures { Does (resolve_flow image.now visible.now asked.entry.rows.now (key_of asked.entry.key.isin.now asked.entry.key.tranche asked.entry.key.leg) asked.entry.order asked.entry.limits work.old res.old) result work.new res.new }
 {
     match check::load_seen(image, visible, index) {
-        Checked::Refused(r) => turn_back(Flow::Image(r), work, res),
-        Checked::Accepted {
-            files: _,
-            nodes: _,
-            edges: _,
-        } => resolve_loaded(index, rows, isin, tranche, leg, order, limits, work, res),
+        Err(r) => turn_back(Err(FlowRefusal::Image(r)), work, res),
+        Ok(_) => resolve_loaded(index, asked, work, res),
     }
 }
 
@@ -126,27 +122,18 @@ fn resolve_in(
 fn resolve_image(
     image: &[u8],
     visible: &[u8],
-    rows: &[u8],
-    isin: &[u8],
-    tranche: u32,
-    leg: u32,
-    order: SearchOrder,
-    limits: SearchLimits,
+    asked: Asked,
     work: &mut [u32],
     res: &mut [u32],
 ) -> Flow
-    ensures { Does (resolve_flow image.now visible.now rows.now (key_of isin.now tranche leg) order limits work.old res.old) result work.new res.new }
+    ensures { Does (resolve_flow image.now visible.now asked.entry.rows.now (key_of asked.entry.key.isin.now asked.entry.key.tranche asked.entry.key.leg) asked.entry.order asked.entry.limits work.old res.old) result work.new res.new }
 {
     if check::is_small(image) {
         let mut index = [0u32; blocks::SMALL];
-        return resolve_in(
-            image, visible, &mut index, rows, isin, tranche, leg, order, limits, work, res,
-        );
+        return resolve_in(image, visible, &mut index, asked, work, res);
     }
     let mut index = [0u32; blocks::INDEX];
-    resolve_in(
-        image, visible, &mut index, rows, isin, tranche, leg, order, limits, work, res,
-    )
+    resolve_in(image, visible, &mut index, asked, work, res)
 }
 
 // A cash flow resolved, on any bytes and numbers.
@@ -166,7 +153,12 @@ pub fn resolve(
     ensures work_after { work.new ≡ (resolve_flow image.now visible.now rows.now (key_of isin.now tranche leg) order limits work.old res.old).work }
     ensures res_after { res.new ≡ (resolve_flow image.now visible.now rows.now (key_of isin.now tranche leg) order limits work.old res.old).result }
 {
-    resolve_image(
-        image, visible, rows, isin, tranche, leg, order, limits, work, res,
-    )
+    let key = Sought { isin, tranche, leg };
+    let asked = Asked {
+        rows,
+        key,
+        order,
+        limits,
+    };
+    resolve_image(image, visible, asked, work, res)
 }

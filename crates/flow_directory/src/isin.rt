@@ -6,19 +6,13 @@ ghost use Rattle.semantics.specs.Isin.Laws.{with_character};
 ghost use Rattle.flow_directory.specs.Sums.{sum_of, Grown};
 
 use semantics::bounds::ISIN_BYTES;
-use words::bytes;
 
-// The bytes of 0 and 9, of A and Z.
-const ZERO: u32 = 48;
+const ZERO: u8 = b'0';
 
-const NINE: u32 = 57;
-
-const FIRST_LETTER: u32 = 65;
-
-const LAST_LETTER: u32 = 90;
+const FIRST_LETTER: u8 = b'A';
 
 // A stands for 10.
-const LETTERS: u32 = FIRST_LETTER - 10;
+const LETTERS: u8 = FIRST_LETTER - 10;
 
 // The country's two letters; the check digit's place.
 const COUNTRY: usize = 2;
@@ -26,42 +20,33 @@ const COUNTRY: usize = 2;
 const CHECK_DIGIT: usize = 11;
 
 // Luhn's sum of the digits to the right, and whether the next one is doubled.
-#[derive(Clone, Copy)]
+#[derive(Clone, Copy, Debug, PartialEq, Eq)]
 pub struct Sum {
     pub total: u32,
     pub doubled: bool,
 }
 
-fn is_digit(c: u32) -> bool
+fn is_digit(c: u8) -> bool
     ensures { result ≡ is_digit c }
 {
-    if c < ZERO {
-        return false;
-    }
-    c <= NINE
+    c.is_ascii_digit()
 }
 
-fn is_capital(c: u32) -> bool
+fn is_capital(c: u8) -> bool
     ensures { result ≡ is_capital c }
 {
-    if c < FIRST_LETTER {
-        return false;
-    }
-    c <= LAST_LETTER
+    c.is_ascii_uppercase()
 }
 
 // May the character stand at this place?
-fn may_stand(i: usize, c: u32) -> bool
+fn may_stand(i: usize, c: u8) -> bool
     ensures { result ≡ may_stand i c }
 {
     if i < COUNTRY {
         return is_capital(c);
     }
     if i < CHECK_DIGIT {
-        if is_capital(c) {
-            return true;
-        }
-        return is_digit(c);
+        return is_capital(c) || is_digit(c);
     }
     is_digit(c)
 }
@@ -70,8 +55,8 @@ fn may_stand(i: usize, c: u32) -> bool
 fn is_in_form(isin: &[u8]) -> bool
     ensures { result ≡ in_form 0 isin.now }
 {
-    for i in 0..isin.len() {
-        if !may_stand(i, bytes::byte(isin, i)) {
+    for (i, c) in isin.iter().enumerate() {
+        if !may_stand(i, *c) {
             return false;
         }
     }
@@ -79,13 +64,10 @@ fn is_in_form(isin: &[u8]) -> bool
 }
 
 // What a letter stands for; 0 for a character below them.
-fn letter(c: u32) -> u32
-    ensures { (result ≡ letter c) × (result ≤ c) }
+fn letter(c: u8) -> u8
+    ensures { result ≡ letter c }
 {
-    if c < LETTERS {
-        return 0;
-    }
-    c - LETTERS
+    c.saturating_sub(LETTERS)
 }
 
 // Twice a digit, its digits summed.
@@ -117,14 +99,14 @@ fn with_digit(sum: Sum, digit: u32) -> Sum
 }
 
 // The sum with the next character: a digit as it is, a letter as two.
-fn with_character(sum: Sum, c: u32) -> Sum
-    requires { (sum.total ≤ 4000) × (c < 256) }
+fn with_character(sum: Sum, c: u8) -> Sum
+    requires { sum.total ≤ 4000 }
     ensures { (sum_of result ≡ with_character (sum_of sum) c) × Grown 100 sum result }
 {
     if is_digit(c) {
-        return with_digit(sum, c - ZERO);
+        return with_digit(sum, u32::from(c - ZERO));
     }
-    let value = letter(c);
+    let value = u32::from(letter(c));
     with_digit(with_digit(sum, value % 10), value / 10)
 }
 
@@ -137,10 +119,8 @@ fn checksum(isin: &[u8]) -> u32
         total: 0,
         doubled: false,
     };
-    let mut i = isin.len();
-    while 0 < i {
-        i -= 1;
-        sum = with_character(sum, bytes::byte(isin, i));
+    for c in isin.iter().rev() {
+        sum = with_character(sum, *c);
     }
     sum.total
 }

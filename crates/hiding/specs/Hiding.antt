@@ -1,14 +1,29 @@
 -- What hiding does to a filled index. Document 02, order 8.
-use Rattle.std.specs.Prelude.{ℕ, ◌+◌, Bool, List, ltb}
+use Rattle.std.specs.Prelude.{ℕ, ◌+◌, ◌*◌, ◌≤◌, ◌≡◌, Bool, List, length, ltb}
+use Rattle.semantics.specs.declared.answer.Counts.{Counts}
 use Rattle.semantics.specs.declared.graph.Node.{Node}
 use Rattle.semantics.specs.declared.graph.Edge.{Edge}
 use Rattle.semantics.specs.declared.graph.Edge.TheVariants as E
 use Rattle.semantics.specs.Lists.{pick, and}
 use Rattle.semantics.specs.Acceptance.{is_live}
+use Rattle.semantics.specs.Graph.{Graph}
 use Rattle.semantics.specs.Hidden.{seen_node, edge_if}
 use Rattle.image.specs.Filling.{Filled}
+use Rattle.image.specs.Index.{EDGES, BLOCK, Blocks}
 pub mod Laws
 pub mod Whole
+
+-- the counts are those of the graph
+pub record Counted (counts : Counts) (g : Graph) : Type 0 where
+  pub file-count : counts.files ≡ g.files
+  pub node-count : counts.nodes ≡ length g.nodes
+  pub edge-count : counts.edges ≡ length g.edges
+
+-- the index has a block for each node and for each edge that is counted
+pub record Fits (counts : Counts) (index : List ℕ) : Type 0 where
+  pub blocks : Blocks index
+  pub nodes-bound : (counts.nodes ≤ EDGES) × (BLOCK * counts.nodes ≤ length index)
+  pub edges-bound : (counts.edges ≤ EDGES) × (BLOCK * counts.edges ≤ length index)
 
 -- nodes below k as they are seen, the others as they were
 abbrev pub seen_to : (ℕ → Bool) → ℕ → (ℕ → Node) → ℕ → Node

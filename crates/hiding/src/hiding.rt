@@ -1,13 +1,15 @@
 // Hidden files in a filled index, between the check of an image and its links. Document 02, order 8.
-ghost use Rattle.std.specs.Prelude.{◌≡◌, ℕ, ◌+◌, ◌*◌, ◌<◌, ◌≤◌, true, false, length};
+ghost use Rattle.std.specs.Prelude.{◌≡◌, ℕ, ◌*◌, ◌<◌, ◌≤◌, true, false, length};
 ghost use Rattle.semantics.specs.Acceptance.{accepts};
 ghost use Rattle.semantics.specs.Hidden.{sees, seen};
 ghost use Rattle.semantics.specs.Graph.{Graph};
 ghost use Rattle.image.specs.Filling.{Held};
 ghost use Rattle.image.specs.Index.{EDGES, BLOCK, Blocks};
-ghost use Rattle.hiding.specs.Hiding.{NodeHidden, NodesHidden, EdgeHidden, EdgesHidden};
+ghost use Rattle.hiding.specs.Hiding.{Counted, Fits, NodeHidden, NodesHidden, EdgeHidden, EdgesHidden};
 
 use image::blocks;
+use semantics::answer::Counts;
+use semantics::kinds;
 
 // The kinds from this one on have a file.
 const FIRST_FILED: u32 = 3;
@@ -16,11 +18,7 @@ const FIRST_FILED: u32 = 3;
 pub fn is_visible(visible: &[u8], file: u32) -> bool
     ensures { result ≡ sees visible.now file }
 {
-    let f = file as usize;
-    if f < visible.len() {
-        return 0 < visible[f];
-    }
-    false
+    visible.get(file as usize).is_some_and(|byte| 0 < *byte)
 }
 
 // A node of a hidden file becomes a removed one.
@@ -32,7 +30,7 @@ fn hide_node(index: &mut [u32], visible: &[u8], n: u32)
     let at = blocks::BLOCK * n as usize;
     if FIRST_FILED <= index[at + blocks::KIND] {
         if !is_visible(visible, index[at + blocks::FILE]) {
-            index[at + blocks::KIND] = 0;
+            index[at + blocks::KIND] = kinds::REMOVED;
         }
     }
 }
@@ -43,10 +41,8 @@ fn hide_nodes(index: &mut [u32], visible: &[u8], count: u32)
     requires count_bound { (count ≤ EDGES) × (BLOCK * count ≤ length index.old) }
     ensures { NodesHidden (sees visible.now) count index.old index.new }
 {
-    let mut n: u32 = 0;
-    while n < count {
+    for n in 0..count {
         hide_node(index, visible, n);
-        n += 1;
     }
 }
 
@@ -75,47 +71,33 @@ fn hide_edges(index: &mut [u32], count: u32)
     requires count_bound { (count ≤ EDGES) × (BLOCK * count ≤ length index.old) }
     ensures { EdgesHidden count index.old index.new }
 {
-    let mut e: u32 = 0;
-    while e < count {
+    for e in 0..count {
         hide_edge(index, e);
-        e += 1;
     }
 }
 
 // Both passes: the nodes first, as an edge is hidden by the kinds of its ends.
-fn hide_records(index: &mut [u32], visible: &[u8], nodes: u32, edges: u32)
-    requires blocks { Blocks index.old }
-    requires nodes_bound { (nodes ≤ EDGES) × (BLOCK * nodes ≤ length index.old) }
-    requires edges_bound { (edges ≤ EDGES) × (BLOCK * edges ≤ length index.old) }
-    ensures { (g : Graph) → accepts g ≡ true → nodes ≡ length g.nodes → edges ≡ length g.edges → Held g index.old → Held (seen (sees visible.now) g) index.new }
+fn hide_records(index: &mut [u32], visible: &[u8], counts: Counts)
+    requires { Fits counts index.old }
+    ensures { (g : Graph) → accepts g ≡ true → Counted counts g → Held g index.old → Held (seen (sees visible.now) g) index.new }
 {
-    hide_nodes(index, visible, nodes);
-    hide_edges(index, edges);
+    hide_nodes(index, visible, counts.nodes);
+    hide_edges(index, counts.edges);
 }
 
 // Is a file below the count hidden? Where none is, nothing but this loop is done.
 pub fn hides_some(visible: &[u8], files: u32) -> bool
     ensures { result ≡ false → (f : ℕ) → f < files → sees visible.now f ≡ true }
 {
-    let mut f: u32 = 0;
-    while f < files {
-        if !is_visible(visible, f) {
-            return true;
-        }
-        f += 1;
-    }
-    false
+    (0..files).any(|f| !is_visible(visible, f))
 }
 
 // The filled index of an accepted graph becomes that of what the desk sees of it.
-pub fn hide(index: &mut [u32], visible: &[u8], files: u32, nodes: u32, edges: u32)
-    requires blocks { Blocks index.old }
-    requires nodes_bound { (nodes ≤ EDGES) × (BLOCK * nodes ≤ length index.old) }
-    requires edges_bound { (edges ≤ EDGES) × (BLOCK * edges ≤ length index.old) }
-    ensures { (g : Graph) → accepts g ≡ true → files ≡ g.files → nodes ≡ length g.nodes → edges ≡ length g.edges → Held g index.old
-        → Held (seen (sees visible.now) g) index.new }
+pub fn hide(index: &mut [u32], visible: &[u8], counts: Counts)
+    requires { Fits counts index.old }
+    ensures { (g : Graph) → accepts g ≡ true → Counted counts g → Held g index.old → Held (seen (sees visible.now) g) index.new }
 {
-    if hides_some(visible, files) {
-        hide_records(index, visible, nodes, edges);
+    if hides_some(visible, counts.files) {
+        hide_records(index, visible, counts);
     }
 }

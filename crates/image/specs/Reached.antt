@@ -1,19 +1,17 @@
 -- The answer of a part of the check, as the definitions of `semantics` have it.
 -- Document 01, "Turned back".
-use Rattle.std.specs.Prelude.{ℕ, ◌+◌, Bool, false, List, eqb, ltb, length}
+use Rattle.std.specs.Prelude.{ℕ, ◌+◌, Bool, false, List, eqb, ltb, length, Result, Ok, Err}
 use Rattle.semantics.specs.declared.refusal.ImageRefusal.{ImageRefusal}
 use Rattle.semantics.specs.declared.refusal.ImageRefusal.TheVariants as Image
 use Rattle.semantics.specs.Lists.{pick}
 use Rattle.semantics.specs.Bytes.{long}
 use Rattle.semantics.specs.Image.{longest_image, files_of, nodes_of, edges_of, first_record}
 use Rattle.semantics.specs.Answer.{Answer, ok, refuse}
-use Rattle.image.specs.declared.reached.Reached.{Reached}
-use Rattle.image.specs.declared.reached.Reached.TheVariants.{Next, Refused}
 pub mod Laws
 
-abbrev pub answer_of : Reached → Answer ImageRefusal ℕ
-answer_of (Next at) = ok at
-answer_of (Refused r) = refuse r
+abbrev pub answer_of : Result ℕ ImageRefusal → Answer ImageRefusal ℕ
+answer_of (Ok at) = ok at
+answer_of (Err r) = refuse r
 
 -- the first part of the header's test: the size that no image may have, and the length
 unfoldable pub is_sized : List ℕ → Bool

@@ -46,11 +46,7 @@ pub fn clear(index: &mut [u32])
     requires { Blocks index.old }
     ensures { Fresh index.new }
 {
-    let mut i = 0;
-    while i < index.len() {
-        index[i] = 0;
-        i += 1;
-    }
+    index.fill(0);
 }
 
 pub(crate) fn put_node(

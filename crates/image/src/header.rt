@@ -1,11 +1,13 @@
 // The header of an image. Document 01, "Turned back", and document 02, order 3: size and length as 2, then the version as 1, then a size
 // that is too great for the version as 2, then the counts as 3.
-ghost use Rattle.std.specs.Prelude.{◌≡◌, ◌<◌, length};
+ghost use Rattle.std.specs.Prelude.{◌≡◌, ◌<◌, length, MatchOption};
 ghost use Rattle.semantics.specs.Bytes.{byte_at};
-ghost use Rattle.semantics.specs.Image.{symbol_bytes, width_in, most_bytes, header, files_of, nodes_of, edges_of};
+ghost use Rattle.semantics.specs.Image.{symbol_bytes, width_in, header, files_of, nodes_of, edges_of};
+ghost use Rattle.image.specs.Versions.{number_of, width_of};
 ghost use Rattle.image.specs.Reached.{answer_of, is_sized, counts_answer};
 
-use crate::reached::Reached;
+use crate::version;
+use crate::version::Version;
 use semantics::refusal::ImageRefusal;
 use words::bytes;
 
@@ -19,20 +21,6 @@ pub const NODES_AT: usize = 7;
 pub const EDGES_AT: usize = 9;
 
 pub const FIRST_RECORD: usize = 11;
-
-// An image of version 1, and one of any version.
-const MOST_NARROW_BYTES: usize = 63_499;
-
-pub const MOST_BYTES: usize = 65_536;
-
-// The versions, and the bytes of a symbol in each.
-pub const NARROW: u32 = 1;
-
-pub const WIDE: u32 = 2;
-
-pub const NARROW_SYMBOL: u32 = 4;
-
-pub const WIDE_SYMBOL: u32 = 8;
 
 const MOST_FILES: u32 = 256;
 
@@ -64,50 +52,36 @@ pub fn edges(image: &[u8]) -> u32
 }
 
 // F, N and M within their bounds.
-fn counts(image: &[u8]) -> Reached
+fn counts(image: &[u8]) -> Result<usize, ImageRefusal>
     requires { 10 < length image.now }
     ensures { answer_of result ≡ counts_answer image.now }
 {
     if MOST_FILES < files(image) {
-        return Reached::Refused(ImageRefusal::Counts);
+        return Err(ImageRefusal::Counts);
     }
     let n = nodes(image);
     if n < FEWEST_NODES {
-        return Reached::Refused(ImageRefusal::Counts);
+        return Err(ImageRefusal::Counts);
     }
     if MOST_NODES < n {
-        return Reached::Refused(ImageRefusal::Counts);
+        return Err(ImageRefusal::Counts);
     }
     if MOST_EDGES < edges(image) {
-        return Reached::Refused(ImageRefusal::Counts);
+        return Err(ImageRefusal::Counts);
     }
-    Reached::Next(FIRST_RECORD)
+    Ok(FIRST_RECORD)
 }
 
-// The bytes of a symbol, by the version; 0 where there is no such version.
-pub fn width(image: &[u8]) -> u32
+// The version, where it is one of the two.
+pub fn version(image: &[u8]) -> Option<Version>
     requires { 10 < length image.now }
-    ensures { result ≡ width_in image.now }
+    ensures { MatchOption result (width_in image.now ≡ 0) (λ v. (byte_at image.now 0 ≡ number_of v) × (width_in image.now ≡ width_of v)) }
 {
-    let version = bytes::byte(image, 0);
-    if version == NARROW {
-        return NARROW_SYMBOL;
+    match bytes::byte(image, 0) {
+        version::NARROW => Some(Version::Narrow),
+        version::WIDE => Some(Version::Wide),
+        _ => None,
     }
-    if version == WIDE {
-        return WIDE_SYMBOL;
-    }
-    0
-}
-
-// How many bytes an image of this version may have.
-fn most_bytes(image: &[u8]) -> usize
-    requires { 10 < length image.now }
-    ensures { result ≡ most_bytes (byte_at image.now 0) }
-{
-    if bytes::byte(image, 0) == NARROW {
-        return MOST_NARROW_BYTES;
-    }
-    MOST_BYTES
 }
 
 // Neither too short nor too long for any version, and as long as it says.
@@ -117,24 +91,24 @@ pub fn sized(image: &[u8]) -> bool
     if image.len() < FIRST_RECORD {
         return false;
     }
-    if MOST_BYTES < image.len() {
+    if version::MOST_BYTES < image.len() {
         return false;
     }
     bytes::long(image, LENGTH_AT) as usize + FILES_AT == image.len()
 }
 
 // The place of the first record, or the refusal.
-pub fn header(image: &[u8]) -> Reached
+pub fn header(image: &[u8]) -> Result<usize, ImageRefusal>
     ensures { answer_of result ≡ header symbol_bytes image.now }
 {
     if !sized(image) {
-        return Reached::Refused(ImageRefusal::Length);
+        return Err(ImageRefusal::Length);
     }
-    if width(image) == 0 {
-        return Reached::Refused(ImageRefusal::Version);
-    }
-    if most_bytes(image) < image.len() {
-        return Reached::Refused(ImageRefusal::Length);
+    let Some(version) = version(image) else {
+        return Err(ImageRefusal::Version);
+    };
+    if version.most_bytes() < image.len() {
+        return Err(ImageRefusal::Length);
     }
     counts(image)
 }

@@ -4,6 +4,6 @@
 
 pub mod blocks;
 pub mod header;
-pub mod reached;
 pub mod record;
 pub mod scan;
+pub mod version;

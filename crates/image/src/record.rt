@@ -7,13 +7,12 @@ ghost use Rattle.semantics.specs.Answer.{ok, refuse};
 ghost use Rattle.semantics.specs.Bytes.{byte_at, long};
 ghost use Rattle.semantics.specs.Image.{longest_image, is_cut, may_stand, body_size, fields_fit, next_place, node_record, edge_record};
 ghost use Rattle.image.specs.Reached.{answer_of};
-ghost use Rattle.image.specs.Records.{KnownWidth, has_symbol, Fielded, Named, node_here, edge_here, NodePut, EdgePut, high_in, scope_in};
-ghost use Rattle.image.specs.declared.reached.Reached.TheVariants.{Next};
+ghost use Rattle.image.specs.Records.{has_symbol, Fielded, Named, node_here, edge_here, NodePut, EdgePut, high_in, scope_in};
+ghost use Rattle.image.specs.Versions.{width_of};
 ghost use Rattle.image.specs.Index.{BLOCK, Blocks};
 
 use crate::blocks;
-use crate::header::NARROW_SYMBOL;
-use crate::reached::Reached;
+use crate::version::Version;
 use semantics::graph::{JUMP, ROOT};
 use semantics::kinds;
 use semantics::refusal::ImageRefusal;
@@ -90,15 +89,15 @@ fn has_symbol(kind: u32) -> bool
 }
 
 // The bytes of a node record behind its count byte. No table: one would be laid out anew for every record.
-fn body_size(width: u32, kind: u32) -> u32
-    requires { (kind < 9) × KnownWidth width }
-    ensures { result ≡ body_size width kind }
+fn body_size(version: Version, kind: u32) -> u32
+    requires { kind < 9 }
+    ensures { result ≡ body_size (width_of version) kind }
 {
     if has_symbol(kind) {
         if kind == kinds::PUSH_SCOPED {
-            return ATTACHED_BODY + width;
+            return ATTACHED_BODY + version.symbol_bytes();
         }
-        return NAMED_BODY + width;
+        return NAMED_BODY + version.symbol_bytes();
     }
     if kind == kinds::SCOPE {
         return SCOPE_BODY;
@@ -110,30 +109,30 @@ fn body_size(width: u32, kind: u32) -> u32
 }
 
 // The symbol of the kinds 4 to 7: its last four bytes, and the four in front of them where it has eight.
-fn symbol_low(image: &[u8], width: u32, at: usize) -> u32
-    requires { Named width image.now at }
-    ensures { result ≡ long image.now (at + width) }
+fn symbol_low(image: &[u8], version: Version, at: usize) -> u32
+    requires { Named (width_of version) image.now at }
+    ensures { result ≡ long image.now (at + width_of version) }
 {
-    bytes::long(image, at + width as usize)
+    bytes::long(image, at + version.symbol_bytes() as usize)
 }
 
-fn symbol_high(image: &[u8], width: u32, at: usize) -> u32
-    requires { Named width image.now at }
-    ensures { result ≡ high_in width image.now at }
+fn symbol_high(image: &[u8], version: Version, at: usize) -> u32
+    requires { Named (width_of version) image.now at }
+    ensures { result ≡ high_in (width_of version) image.now at }
 {
-    if width == NARROW_SYMBOL {
-        return 0;
+    match version {
+        Version::Narrow => 0,
+        Version::Wide => bytes::long(image, at + SYMBOL_AT),
     }
-    bytes::long(image, at + SYMBOL_AT)
 }
 
 // The attached scope of kind 6, behind the symbol.
-fn scope(image: &[u8], width: u32, at: usize, kind: u32) -> u32
-    requires { Fielded width image.now at kind }
-    ensures { result ≡ scope_in width image.now at kind }
+fn scope(image: &[u8], version: Version, at: usize, kind: u32) -> u32
+    requires { Fielded (width_of version) image.now at kind }
+    ensures { result ≡ scope_in (width_of version) image.now at kind }
 {
     if kind == kinds::PUSH_SCOPED {
-        return bytes::short(image, at + SYMBOL_AT + width as usize);
+        return bytes::short(image, at + SYMBOL_AT + version.symbol_bytes() as usize);
     }
     0
 }
@@ -141,101 +140,106 @@ fn scope(image: &[u8], width: u32, at: usize, kind: u32) -> u32
 // A file below F and, but in drop-scopes, a flag of 0 or 1; then the node's words.
 fn fields(
     image: &[u8],
-    width: u32,
+    version: Version,
     files: u32,
     n: u32,
     at: usize,
     kind: u32,
     count: usize,
     index: &mut [u32],
-) -> Reached
-    requires fielded { Fielded width image.now at kind × (count ≡ byte_at image.now at) }
+) -> Result<usize, ImageRefusal>
+    requires fielded { Fielded (width_of version) image.now at kind × (count ≡ byte_at image.now at) }
     requires blocks { Blocks index.old }
     requires n_in_bounds { BLOCK * n < length index.old }
     ensures result_value { answer_of result ≡ pick (fields_fit image.now files kind at (byte_at image.now at)) (ok (next_place image.now at)) (refuse (Record at)) }
-    ensures by_index { (x : ℕ) → result ≡ Next x → NodePut n (node_here width image.now at) index.old index.new }
+    ensures by_index { (x : ℕ) → result ≡ Ok x → NodePut n (node_here (width_of version) image.now at) index.old index.new }
 {
     let file = bytes::short(image, at + FILE_AT);
     if files <= file {
-        return Reached::Refused(ImageRefusal::Record { place: at as u32 });
+        return Err(ImageRefusal::Record { place: at as u32 });
     }
     if kind == kinds::DROP_SCOPES {
         blocks::put_node(index, n, kind, 0, file, 0, 0, 0);
-        return Reached::Next(at + count + 1);
+        return Ok(at + count + 1);
     }
     let flag = bytes::byte(image, at + count);
     if 1 < flag {
-        return Reached::Refused(ImageRefusal::Record { place: at as u32 });
+        return Err(ImageRefusal::Record { place: at as u32 });
     }
     if kind == kinds::SCOPE {
         blocks::put_node(index, n, kind, flag, file, 0, 0, 0);
-        return Reached::Next(at + count + 1);
+        return Ok(at + count + 1);
     }
-    let low = symbol_low(image, width, at);
-    let high = symbol_high(image, width, at);
-    let scope = scope(image, width, at, kind);
+    let low = symbol_low(image, version, at);
+    let high = symbol_high(image, version, at);
+    let scope = scope(image, version, at, kind);
     blocks::put_node(index, n, kind, flag, file, low, high, scope);
-    Reached::Next(at + count + 1)
+    Ok(at + count + 1)
 }
 
 // Cut, kind and where it may stand, count, fields; the node's words are put into the index on the way.
 pub(crate) fn node(
     image: &[u8],
-    width: u32,
+    version: Version,
     files: u32,
     n: u32,
     at: usize,
     index: &mut [u32],
-) -> Reached
-    requires known_width { KnownWidth width × (length image.now ≤ longest_image) }
+) -> Result<usize, ImageRefusal>
+    requires image_len_bound { length image.now ≤ longest_image }
     requires blocks { Blocks index.old }
     requires n_in_bounds { BLOCK * n < length index.old }
-    ensures result_value { answer_of result ≡ node_record width image.now files n at }
-    ensures by_index { (x : ℕ) → result ≡ Next x → NodePut n (node_here width image.now at) index.old index.new }
+    ensures result_value { answer_of result ≡ node_record (width_of version) image.now files n at }
+    ensures by_index { (x : ℕ) → result ≡ Ok x → NodePut n (node_here (width_of version) image.now at) index.old index.new }
 {
     if is_cut(image, at) {
-        return Reached::Refused(ImageRefusal::Length);
+        return Err(ImageRefusal::Length);
     }
     let kind = bytes::byte(image, at + KIND_AT);
     if kinds::DROP_SCOPES < kind {
-        return Reached::Refused(ImageRefusal::Record { place: at as u32 });
+        return Err(ImageRefusal::Record { place: at as u32 });
     }
     if !may_stand(kind, n) {
-        return Reached::Refused(ImageRefusal::Record { place: at as u32 });
+        return Err(ImageRefusal::Record { place: at as u32 });
     }
     let count = bytes::byte(image, at);
-    if count != body_size(width, kind) {
-        return Reached::Refused(ImageRefusal::Length);
+    if count != body_size(version, kind) {
+        return Err(ImageRefusal::Length);
     }
     if kind < kinds::SCOPE {
         blocks::put_node(index, n, kind, 0, 0, 0, 0, 0);
-        return Reached::Next(at + count as usize + 1);
+        return Ok(at + count as usize + 1);
     }
-    fields(image, width, files, n, at, kind, count as usize, index)
+    fields(image, version, files, n, at, kind, count as usize, index)
 }
 
 // Cut, kind, count: an edge has 1 or 9 bytes behind its count byte.
-pub(crate) fn edge(image: &[u8], e: u32, at: usize, index: &mut [u32]) -> Reached
+pub(crate) fn edge(
+    image: &[u8],
+    e: u32,
+    at: usize,
+    index: &mut [u32],
+) -> Result<usize, ImageRefusal>
     requires image_len_bound { length image.now ≤ longest_image }
     requires blocks { Blocks index.old }
     requires e_in_bounds { BLOCK * e < length index.old }
     ensures result_value { answer_of result ≡ edge_record image.now at }
-    ensures by_index { (x : ℕ) → result ≡ Next x → EdgePut e (edge_here image.now at) index.old index.new }
+    ensures by_index { (x : ℕ) → result ≡ Ok x → EdgePut e (edge_here image.now at) index.old index.new }
 {
     if is_cut(image, at) {
-        return Reached::Refused(ImageRefusal::Length);
+        return Err(ImageRefusal::Length);
     }
     let kind = bytes::byte(image, at + KIND_AT);
     if kinds::LIVE < kind {
-        return Reached::Refused(ImageRefusal::Record { place: at as u32 });
+        return Err(ImageRefusal::Record { place: at as u32 });
     }
     let count = bytes::byte(image, at);
     if count != kind * 8 + 1 {
-        return Reached::Refused(ImageRefusal::Length);
+        return Err(ImageRefusal::Length);
     }
     if kind < kinds::LIVE {
         blocks::put_edge(index, e, 0, 0, 0);
-        return Reached::Next(at + REMOVED_BYTES);
+        return Ok(at + REMOVED_BYTES);
     }
     blocks::put_edge(
         index,
@@ -244,5 +248,5 @@ pub(crate) fn edge(image: &[u8], e: u32, at: usize, index: &mut [u32]) -> Reache
         bytes::short(image, at + TARGET_AT),
         bytes::long(image, at + PRECEDENCE_AT),
     );
-    Reached::Next(at + LIVE_BYTES)
+    Ok(at + LIVE_BYTES)
 }

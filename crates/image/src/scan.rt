@@ -3,74 +3,67 @@
 ghost use Rattle.std.specs.Prelude.{◌≡◌, ℕ, ◌+◌, ◌*◌, ◌<◌, ◌≤◌, length};
 ghost use Rattle.semantics.specs.Image.{longest_image, first_record, node_record, edge_record, scan, place_of};
 ghost use Rattle.image.specs.Filling.{Held};
-ghost use Rattle.image.specs.Records.{KnownWidth, Headed, Room, NodesPut, EdgesPut, records_of, graph_read};
+ghost use Rattle.image.specs.Records.{Headed, Room, NodesPut, EdgesPut, records_of, graph_read};
 ghost use Rattle.image.specs.Reached.{answer_of};
-ghost use Rattle.image.specs.declared.reached.Reached.TheVariants.{Next};
+ghost use Rattle.image.specs.Versions.{width_of};
 ghost use Rattle.image.specs.Index.{BLOCK, Blocks, Fresh};
 
 use crate::header::FIRST_RECORD;
-use crate::reached::Reached;
+use crate::version::Version;
 use crate::{header, record};
+use semantics::refusal::ImageRefusal;
 use words::bytes;
 
-fn nodes(image: &[u8], width: u32, files: u32, count: u32, index: &mut [u32]) -> Reached
-    requires known_width { KnownWidth width × (length image.now ≤ longest_image) }
+fn nodes(
+    image: &[u8],
+    version: Version,
+    files: u32,
+    count: u32,
+    index: &mut [u32],
+) -> Result<usize, ImageRefusal>
+    requires image_len_bound { length image.now ≤ longest_image }
     requires blocks { Blocks index.old }
     requires count_in_bounds { BLOCK * count ≤ length index.old }
-    ensures result_value { answer_of result ≡ scan (node_record width image.now files) 0 first_record count }
-    ensures by_index { (x : ℕ) → result ≡ Next x → (x ≡ place_of image.now first_record count) × NodesPut width image.now count index.old index.new }
+    ensures result_value { answer_of result ≡ scan (node_record (width_of version) image.now files) 0 first_record count }
+    ensures by_index { (x : ℕ) → result ≡ Ok x → (x ≡ place_of image.now first_record count) × NodesPut (width_of version) image.now count index.old index.new }
 {
     let mut at = FIRST_RECORD;
-    let mut n: u32 = 0;
-    while n < count {
-        let step = record::node(image, width, files, n, at, index);
-        let Reached::Next(next) = step else {
-            return step;
-        };
-        at = next;
-        n += 1;
+    for n in 0..count {
+        at = record::node(image, version, files, n, at, index)?;
     }
-    Reached::Next(at)
+    Ok(at)
 }
 
-fn edges(image: &[u8], from: usize, count: u32, index: &mut [u32]) -> Reached
+fn edges(image: &[u8], from: usize, count: u32, index: &mut [u32]) -> Result<usize, ImageRefusal>
     requires image_len_bound { length image.now ≤ longest_image }
     requires blocks { Blocks index.old }
     requires count_in_bounds { BLOCK * count ≤ length index.old }
     ensures result_value { answer_of result ≡ scan (λ e. edge_record image.now) 0 from count }
-    ensures by_index { (x : ℕ) → result ≡ Next x → EdgesPut image.now from count index.old index.new }
+    ensures by_index { (x : ℕ) → result ≡ Ok x → EdgesPut image.now from count index.old index.new }
 {
     let mut at = from;
-    let mut e: u32 = 0;
-    while e < count {
-        let step = record::edge(image, e, at, index);
-        let Reached::Next(next) = step else {
-            return step;
-        };
-        at = next;
-        e += 1;
+    for e in 0..count {
+        at = record::edge(image, e, at, index)?;
     }
-    Reached::Next(at)
+    Ok(at)
 }
 
 // All records: the first refusal, or the place behind the last one and the graph in the index.
-pub fn records(image: &[u8], index: &mut [u32]) -> Reached
+pub fn records(image: &[u8], index: &mut [u32]) -> Result<usize, ImageRefusal>
     requires headed { Headed image.now }
     requires fresh { Fresh index.old }
     requires room { Room image.now index.old }
     ensures result_value { answer_of result ≡ records_of image.now }
-    ensures by_index { (x : ℕ) → result ≡ Next x → Held (graph_read image.now) index.new }
+    ensures by_index { (x : ℕ) → result ≡ Ok x → Held (graph_read image.now) index.new }
 {
-    let step = nodes(
+    let version = header::version(image).unwrap();
+    let middle = nodes(
         image,
-        header::width(image),
+        version,
         header::files(image),
         header::nodes(image),
         index,
-    );
-    let Reached::Next(middle) = step else {
-        return step;
-    };
+    )?;
     edges(image, middle, header::edges(image), index)
 }
 
@@ -81,10 +74,8 @@ pub fn place(image: &[u8], from: usize, k: u32) -> usize
     ensures upper_bound { result ≤ from + 256 * k }
 {
     let mut at = from;
-    let mut i: u32 = 0;
-    while i < k {
-        at = at + bytes::byte_or_zero(image, at) as usize + 1;
-        i += 1;
+    for _ in 0..k {
+        at += bytes::byte_or_zero(image, at) as usize + 1;
     }
     at
 }

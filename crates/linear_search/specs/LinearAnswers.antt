@@ -2,7 +2,6 @@
 -- Document 01, "Answer".
 use Rattle.std.specs.Prelude.{length}
 use Rattle.semantics.specs.declared.refusal.LinearRefusal.{LinearRefusal}
-use Rattle.semantics.specs.declared.answer.LinearResolution.{LinearResolution}
 use Rattle.semantics.specs.Limits.{base}
 use Rattle.semantics.specs.Answer.{Answer}
 use Rattle.semantics.specs.Graph.{Graph, view_of}
@@ -12,6 +11,7 @@ use Rattle.semantics.specs.Linear.{linear}
 use Rattle.semantics.specs.Calls.{LinearRequest, Outcome, linear_setting_of, linear_outcome}
 use Rattle.reply.specs.declared.finish.Reply.{Reply}
 use Rattle.reply.specs.Replies.{reply_of}
+use Rattle.semantics.specs.PublicAnswers.{LinearResolution}
 pub mod Laws
 
 -- what the definitions answer on a graph

@@ -1,6 +1,6 @@
 -- A linear search in code against the enumeration: one path grows, edge by edge, and nothing waits.
 -- Document 01, "Answer": `try_compute_linear`.
-use Rattle.std.specs.Prelude.{ℕ, ◌+◌, ◌-◌, ◌<◌, ◌≤◌, ◌^◌, ◌≡◌, ◌⊎◌, Bool, true, false, List, [], ◌∷◌, ltb, length}
+use Rattle.std.specs.Prelude.{ℕ, ◌+◌, ◌-◌, ◌<◌, ◌≤◌, ◌^◌, ◌≡◌, ◌⊎◌, Bool, true, false, List, [], ◌∷◌, ltb, length, Some, None, Ok, Err, Result, Option}
 use Rattle.semantics.specs.declared.search.SearchLimits.{SearchLimits}
 use Rattle.semantics.specs.declared.refusal.LinearRefusal.{LinearRefusal}
 use Rattle.semantics.specs.declared.refusal.LinearRefusal.TheVariants as Linear
@@ -20,10 +20,6 @@ use Rattle.search_state.specs.Items.{Carries}
 use Rattle.search_state.specs.Reps.{slot_of, Counts, Few, Replayed}
 use Rattle.search_state.specs.Reps.Laws.{Kept}
 use Rattle.linear_search.specs.declared.linear.Expansion.{Expansion}
-use Rattle.linear_search.specs.declared.linear.Pace.{Pace}
-use Rattle.linear_search.specs.declared.linear.Pace.TheVariants as Pace
-use Rattle.linear_search.specs.declared.linear.Walked.{Walked}
-use Rattle.linear_search.specs.declared.linear.Walked.TheVariants as Walked
 pub mod Laws
 pub mod Edges
 pub mod Rounds
@@ -47,6 +43,14 @@ abbrev pub rest_tries : Bool → ℕ → List (Try LinearRefusal Path) → List 
 rest_tries false n ts = first n ts
 rest_tries true n ts = later n ts
 
+-- what one edge does: the expansion goes on, or a second edge could be appended, or the search is refused
+abbrev pub Pace : Type 0
+Pace = Result (Option Expansion) LinearRefusal
+
+-- the search is over, or refused
+abbrev pub Walked : Type 0
+Walked = Result SearchState LinearRefusal
+
 -- ---- a complete path is recorded
 
 pub record Choosing (s : SearchState) (rs item : List ℕ) : Type 0 where
@@ -55,15 +59,23 @@ pub record Choosing (s : SearchState) (rs item : List ℕ) : Type 0 where
   pub slot : IsSlot slot_length item
   pub few : s.budget.complete + 1 < 2 ^ 64
 
-abbrev pub Chooses : SearchState → ℕ → State Path → Pace → List ℕ → Answer LinearRefusal (State Path) → Type 0
-Chooses s link m (Pace.On n) rs (ok u) = (n.found ≡ link) × Kept s n.state rs m u
-Chooses s link m (Pace.On n) rs (refuse y) = ⊥
-Chooses s link m Pace.Second rs a = ⊥
-Chooses s link m (Pace.Refused x) rs (ok u) = ⊥
-Chooses s link m (Pace.Refused x) rs (refuse y) = x ≡ y
+-- an expansion that goes on, or a refusal
+abbrev pub Chose : Type 0
+Chose = Result Expansion LinearRefusal
 
-abbrev pub Chosen : SearchState → ℕ → Bool → List ℕ → List ℕ → Pace → List ℕ → Type 0
+abbrev pub Chooses : SearchState → ℕ → State Path → Chose → List ℕ → Answer LinearRefusal (State Path) → Type 0
+Chooses s link m (Ok n) rs (ok u) = (n.found ≡ link) × Kept s n.state rs m u
+Chooses s link m (Ok n) rs (refuse y) = ⊥
+Chooses s link m (Err x) rs (ok u) = ⊥
+Chooses s link m (Err x) rs (refuse y) = x ≡ y
+
+abbrev pub Chosen : SearchState → ℕ → Bool → List ℕ → List ℕ → Chose → List ℕ → Type 0
 Chosen s link complete rs item a rs' = (m : State Path) (q : Path) → Counts s rs m → item ≡ slot_of q → Chooses s link m a rs' (keep complete (setting_of (frame_of s)) m q)
+
+-- the expansion with the edge that was chosen
+abbrev pub pace_of : Chose → Pace
+pace_of (Ok n) = Ok (Some n)
+pace_of (Err x) = Err x
 
 -- ---- the path under expansion
 
@@ -114,9 +126,9 @@ module _ (most : ℕ) (index steps item : List ℕ) (k link : ℕ) (on : Expansi
     pub onward : (ts : List (Try LinearRefusal Path)) → answer_of ts ≡ each (setting_of (frame_of on.state)) state (rest_tries (ltb 0 n.found) v.track.path.end ts)
 
   abbrev pub Paced : Pace → List ℕ → List ℕ → Type 0
-  Paced (Pace.On n) item' rs' = Goes n item' rs'
-  Paced Pace.Second item' rs' = (ts : List (Try LinearRefusal Path)) → answer_of ts ≡ refuse (Linear.MultipleEdges (node_id v.track.path.end))
-  Paced (Pace.Refused x) item' rs' = (ts : List (Try LinearRefusal Path)) → answer_of ts ≡ refuse x
+  Paced (Ok (Some n)) item' rs' = Goes n item' rs'
+  Paced (Ok None) item' rs' = (ts : List (Try LinearRefusal Path)) → answer_of ts ≡ refuse (Linear.MultipleEdges (node_id v.track.path.end))
+  Paced (Err x) item' rs' = (ts : List (Try LinearRefusal Path)) → answer_of ts ≡ refuse x
 
 -- ---- the whole search
 
@@ -139,10 +151,10 @@ pub record Walking (index steps item : List ℕ) (s : SearchState) (rs : List �
   pub unexpanded : s.budget.expanded ≡ 0
 
 abbrev pub Ends : Walked → List ℕ → Answer LinearRefusal (State Path) → Type 0
-Ends (Walked.Over st) rs (ok u) = Counts st rs u
-Ends (Walked.Over st) rs (refuse y) = ⊥
-Ends (Walked.Refused x) rs (ok u) = ⊥
-Ends (Walked.Refused x) rs (refuse y) = x ≡ y
+Ends (Ok st) rs (ok u) = Counts st rs u
+Ends (Ok st) rs (refuse y) = ⊥
+Ends (Err x) rs (ok u) = ⊥
+Ends (Err x) rs (refuse y) = x ≡ y
 
 module _ (index steps item : List ℕ) (s : SearchState) (rs : List ℕ) (v : Walking index steps item s rs) where
   abbrev pub run_of : Answer LinearRefusal (State Path)

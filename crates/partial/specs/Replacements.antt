@@ -1,6 +1,6 @@
 -- A computation and a replacement as they are asked for in code, and what they leave.
 -- Document 01, "Partial paths"; the order of 35, 34, 21 and 33 in "Turned back"; document 02, order 5.
-use Rattle.std.specs.Prelude.{ℕ, ◌+◌, ◌≤◌, ◌<◌, ◌^◌, ◌≡◌, List, length}
+use Rattle.std.specs.Prelude.{ℕ, ◌+◌, ◌≤◌, ◌<◌, ◌^◌, ◌≡◌, List, length, Option, Some, None, Result}
 use Rattle.semantics.specs.Entries.{file_request_of}
 use Rattle.semantics.specs.declared.refusal.ImageRefusal.{ImageRefusal}
 use Rattle.semantics.specs.declared.refusal.PartialPathRefusal.{PartialPathRefusal}
@@ -11,26 +11,25 @@ use Rattle.semantics.specs.Enumeration.{State}
 use Rattle.semantics.specs.PartialPaths.{Route, owned_by, partials, file_partials}
 use Rattle.semantics.specs.Database.{used_in, capacity, known_owners, check_database}
 use Rattle.semantics.specs.Calls.{Change, FileRequest, file_setting_of, computation_outcome, replacement_outcome, alias_outcome, replace_call, alias_call}
-use Rattle.semantics.specs.declared.answer.Replacement.{Replacement}
 use Rattle.storage.specs.Index.{Loaded, HoldsNodes, Sized}
 use Rattle.partial_state.specs.declared.filing.Filing.{Filing}
 use Rattle.partial_state.specs.declared.extraction.Config.{Config}
 use Rattle.partial_state.specs.Filings.{Fits, filed_in}
-use Rattle.partial.specs.declared.compute.Computed.{Computed}
+use Rattle.semantics.specs.declared.search.PartialPathStats.{PartialPathStats}
 use Rattle.partial_trial.specs.Seeds.{starts_of}
-use Rattle.partial.specs.declared.replace.Owner.{Owner}
-use Rattle.partial.specs.declared.replace.Owner.TheVariants.{File, Nobody}
-use Rattle.partial.specs.declared.replace.Sizes.{Sizes}
+use Rattle.semantics.specs.declared.graph.FileId.{FileId}
+use Rattle.semantics.specs.declared.answer.Counts.{Counts}
 use Rattle.partial.specs.Rounds.{Ends}
+use Rattle.semantics.specs.PublicAnswers.{Replacement}
 pub mod Laws
 
 abbrev pub asked_by : Config → List ℕ → ℕ → FileRequest
 asked_by c ws file = file_request_of c.order c.length c.expansions ws file
 
--- the number of an owner, which its slots have plus 1
-abbrev pub number_of : Owner → ℕ
-number_of (File f) = f.0
-number_of Nobody = nobody
+-- the number of an owner, a file or nobody, which its slots have plus 1
+abbrev pub number_of : Option FileId → ℕ
+number_of (Some f) = f.0
+number_of None = nobody
 
 -- an owner's partial paths, as the definitions find them
 abbrev pub routes_of : Graph → FileRequest → Answer PartialPathRefusal (State Route)
@@ -41,7 +40,7 @@ pub record Computing (index : List ℕ) (nodes : ℕ) (f : Filing) (db : List �
   pub holds : HoldsNodes index nodes
   pub fits : Fits f db
 
-abbrev pub ComputedTo : List ℕ → ℕ → Filing → Config → List ℕ → List ℕ → Computed → List ℕ → Type 0
+abbrev pub ComputedTo : List ℕ → ℕ → Filing → Config → List ℕ → List ℕ → Result PartialPathStats PartialPathRefusal → List ℕ → Type 0
 ComputedTo index nodes f c ws db a db' = (g : Graph) → Loaded g index → nodes ≡ length g.nodes → Ends f db a db' (routes_of g (asked_by c ws f.file))
 
 -- what a computation finds that is not refused is filed
@@ -49,7 +48,7 @@ abbrev pub FiledTo : List ℕ → ℕ → Filing → Config → List ℕ → Lis
 FiledTo index nodes f c ws db db' = (g : Graph) → Loaded g index → nodes ≡ length g.nodes → (u : State Route) → routes_of g (asked_by c ws f.file) ≡ ok u → db' ≡ filed_in f u.kept db
 
 -- A REPLACEMENT, from its end: the paths were counted and have room
-pub record Storing (index : List ℕ) (n : Sizes) (f : Filing) (c : Config) (ws db : List ℕ) : Type 0 where
+pub record Storing (index : List ℕ) (n : Counts) (f : Filing) (c : Config) (ws db : List ℕ) : Type 0 where
   pub sized : Sized index n.nodes n.files
   pub found : State Route
   pub is : routes_of sized.holds.graph (asked_by c ws f.file) ≡ ok found
@@ -59,12 +58,12 @@ pub record Storing (index : List ℕ) (n : Sizes) (f : Filing) (c : Config) (ws 
   pub fits : Fits f db
 
 -- an accepted graph has few files, so none of them has nobody's number
-pub record Few (index : List ℕ) (n : Sizes) : Type 0 where
+pub record Few (index : List ℕ) (n : Counts) : Type 0 where
   pub sized : Sized index n.nodes n.files
   pub few : n.files < nobody
 
 -- the words meet neither 35 nor 34
-pub record Replacing (index : List ℕ) (n : Sizes) (db : List ℕ) : Type 0 where
+pub record Replacing (index : List ℕ) (n : Counts) (db : List ℕ) : Type 0 where
   pub sized : Sized index n.nodes n.files
   pub long : 3 ≤ length db
   pub used : used_in db ≤ capacity base db
@@ -76,10 +75,10 @@ computed_on g q db = computation_outcome base g q db (routes_of g q)
 abbrev pub replaced_on : Graph → FileRequest → List ℕ → Change Replacement
 replaced_on g q db = computation_outcome base g q db (file_partials base q.length (file_setting_of base q) g q.file)
 
-abbrev pub inspected_on : Owner → Graph → FileRequest → List ℕ → Change Replacement
-inspected_on (File f) g q db = replacement_outcome base g q db (check_database base known_owners g db)
-inspected_on Nobody g q db = alias_outcome base g q db (check_database base known_owners g db)
+abbrev pub inspected_on : Option FileId → Graph → FileRequest → List ℕ → Change Replacement
+inspected_on (Some f) g q db = replacement_outcome base g q db (check_database base known_owners g db)
+inspected_on None g q db = alias_outcome base g q db (check_database base known_owners g db)
 
-abbrev pub call_for : Owner → Answer ImageRefusal Graph → FileRequest → List ℕ → Change Replacement
-call_for (File f) x q db = replace_call base known_owners x q db
-call_for Nobody x q db = alias_call base known_owners x q db
+abbrev pub call_for : Option FileId → Answer ImageRefusal Graph → FileRequest → List ℕ → Change Replacement
+call_for (Some f) x q db = replace_call base known_owners x q db
+call_for None x q db = alias_call base known_owners x q db

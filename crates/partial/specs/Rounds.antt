@@ -1,6 +1,6 @@
 -- The rounds of a computation, in code against the enumeration.
 -- Document 01, "Partial paths": `StackPartialPathSet::compute`.
-use Rattle.std.specs.Prelude.{ℕ, ◌-◌, ◌*◌, ◌<◌, ◌≤◌, ◌≡◌, ◌⊎◌, Bool, false, List, ◌++◌, leb, ltb, length, take, get_or}
+use Rattle.std.specs.Prelude.{ℕ, ◌-◌, ◌*◌, ◌<◌, ◌≤◌, ◌≡◌, ◌⊎◌, Bool, false, List, ◌++◌, Result, Ok, Err, leb, ltb, length, take, get_or}
 use Rattle.semantics.specs.Limits.{slot_length, max_expansions}
 use Rattle.semantics.specs.declared.search.PartialPathStats.{PartialPathStats}
 use Rattle.semantics.specs.declared.refusal.PartialPathRefusal.{PartialPathRefusal}
@@ -17,8 +17,6 @@ use Rattle.partial_state.specs.declared.extraction.ExtractionFrame.{ExtractionFr
 use Rattle.partial_state.specs.Routes.{held, Waiting}
 use Rattle.partial_state.specs.Filings.{Fits, filed_in}
 use Rattle.partial_state.specs.Reps.{frame_of, setting_of, Rep, Untouched, Tells}
-use Rattle.partial.specs.declared.compute.Computed.{Computed}
-use Rattle.partial.specs.declared.compute.Computed.TheVariants.{Done, Refused}
 use Rattle.partial_state.specs.Extractions.{Computation, Course, Grows}
 use Rattle.partial_trial.specs.Expansions.{Roomy, tries_of}
 pub mod Laws
@@ -75,15 +73,15 @@ nothing_counted = record { expanded = 0; found = 0; cycles = 0; length_limited =
 
 -- it has ended with this state, whose found routes are filed, or is refused alike. Without room for any, the counts are those of the state;
 -- with room it ends as soon as that is taken, whatever would come behind
-abbrev pub Ends : Filing → List ℕ → Computed → List ℕ → Answer PartialPathRefusal (State Route) → Type 0
-Ends f origin (Done stats) db (ok u) = (f.room ≡ 0 → (stats ≡ partial_stats u) × (stats.found ≡ length u.kept)) × (db ≡ filed_in f u.kept origin)
-Ends f origin (Done stats) db (refuse y) = 0 < f.room
-Ends f origin (Refused r) db (ok u) = ⊥
-Ends f origin (Refused r) db (refuse y) = (r ≡ y) × Untouched f origin db
+abbrev pub Ends : Filing → List ℕ → Result PartialPathStats PartialPathRefusal → List ℕ → Answer PartialPathRefusal (State Route) → Type 0
+Ends f origin (Ok stats) db (ok u) = (f.room ≡ 0 → (stats ≡ partial_stats u) × (stats.found ≡ length u.kept)) × (db ≡ filed_in f u.kept origin)
+Ends f origin (Ok stats) db (refuse y) = 0 < f.room
+Ends f origin (Err r) db (ok u) = ⊥
+Ends f origin (Err r) db (refuse y) = (r ≡ y) × Untouched f origin db
 
 -- the enumeration's run with so many expansions left
 abbrev pub run_from : ExtractionFrame → Graph → ℕ → ℕ → State Route → Answer PartialPathRefusal (State Route)
 run_from fr g file n m = run (setting_of fr) (tries_of fr g file) n (merge fr.order m)
 
-abbrev pub DrivenTo : (index : List ℕ) (f : Filing) (item : List ℕ) (x : Computation) (ws db : List ℕ) → Driving index f item x ws db → Computed → List ℕ → Type 0
+abbrev pub DrivenTo : (index : List ℕ) (f : Filing) (item : List ℕ) (x : Computation) (ws db : List ℕ) → Driving index f item x ws db → Result PartialPathStats PartialPathRefusal → List ℕ → Type 0
 DrivenTo index f item x ws db v a db' = Ends f v.origin a db' (run_from (frame_of x) v.graph f.file (max_expansions - x.budget.expanded) v.model)

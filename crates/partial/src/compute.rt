@@ -7,7 +7,7 @@ ghost use Rattle.partial_state.specs.Extractions.{at, going_at, taken_at, Taking
 ghost use Rattle.partial.specs.Rounds.{nothing_counted, is_filed, MadeRoom, Rounding, Rounded, Driving, DrivenTo};
 ghost use Rattle.partial.specs.Replacements.{Computing, ComputedTo};
 
-use partial_state::extraction::{Config, Extracting, Extraction, ExtractionFrame, ExtractionTurn};
+use partial_state::extraction::{Config, Extraction, ExtractionFrame, ExtractionTurn};
 use partial_state::filing::Filing;
 use partial_state::route;
 use partial_trial::{expand, seed};
@@ -17,14 +17,7 @@ use semantics::refusal::PartialPathRefusal;
 use semantics::search::PartialPathStats;
 use words::slots;
 
-// The computation has ended, or it is refused. Without room for any path it ends when no route waits, and the counts are those of the whole. Where
-// there is room for some it ends with the last of them filed, and nothing is counted: the counts would have to be at hand in every round.
-#[derive(Clone, Copy)]
-pub enum Computed {
-    Done(PartialPathStats),
-    Refused(PartialPathRefusal),
-}
-
+// What a computation tells that ended with the last path filed. Nothing is counted then: the counts would have to be at hand in every round.
 fn uncounted() -> PartialPathStats
     ensures { result ≡ nothing_counted }
 {
@@ -42,11 +35,7 @@ fn uncounted() -> PartialPathStats
 fn is_filed(filing: Filing, found: u64) -> bool
     ensures { result ≡ is_filed filing found }
 {
-    let room = filing.room as u64;
-    if 0 < room {
-        return room <= found;
-    }
-    false
+    0 < filing.room && filing.room as u64 <= found
 }
 
 // The next route is copied into the front of the item, as many words as a slot has.
@@ -55,7 +44,7 @@ fn take_front(
     work: &mut [u32],
     item: &mut [u32],
     frame: ExtractionFrame,
-) -> ExtractionTurn
+) -> Result<ExtractionTurn, PartialPathRefusal>
     requires { Framed (at frame on).frontier work.old × (frame.slot ≤ length item.old) × (on.expanded + 1 < 2 ^ 64) }
     ensures { Taking (at frame on) work.old (taken_at frame result) (take frame.slot item.new) work.new }
 {
@@ -96,7 +85,7 @@ fn round(
     work: &mut [u32],
     words: &mut [u32],
     frame: ExtractionFrame,
-) -> Extracting
+) -> Result<Extraction, PartialPathRefusal>
     requires { Rounding looked_before index.now filing item.old (at frame extraction) work.old words.old }
     ensures { (v : Rounding looked_before index.now filing item.old (at frame extraction) work.old words.old)
         → Rounded looked_before index.now filing item.old (at frame extraction) work.old words.old v (going_at frame result)
@@ -116,7 +105,7 @@ fn round_front(
     work: &mut [u32],
     words: &mut [u32],
     frame: ExtractionFrame,
-) -> Extracting
+) -> Result<Extraction, PartialPathRefusal>
     requires { Rounding looked_before index.now filing (take frame.slot item.old) (at frame extraction) work.old words.old × (frame.slot ≤ length item.old) }
     ensures { (v : Rounding looked_before index.now filing (take frame.slot item.old) (at frame extraction) work.old
         words.old) → Rounded looked_before index.now filing (take frame.slot item.old) (at frame extraction) work.old
@@ -134,7 +123,8 @@ fn round_front(
     )
 }
 
-// Routes are taken and expanded until none waits, or all are filed, or the path count or a refusal ends the computation. Round the loop goes the length of a slot
+// Routes are taken and expanded until none waits, or all are filed, or the path count or a refusal ends the computation. Without room for any path
+// the counts are those of the whole. Round the loop goes the length of a slot
 // and not the frame, whose copies the processor would wait for.
 fn drive(
     index: &[u32],
@@ -144,7 +134,7 @@ fn drive(
     work: &mut [u32],
     words: &mut [u32],
     frame: ExtractionFrame,
-) -> Computed
+) -> Result<PartialPathStats, PartialPathRefusal>
     requires { Driving index.now filing item.old (at frame extraction) work.old words.old }
     ensures { (v : Driving index.now filing item.old (at frame extraction) work.old words.old)
         → DrivenTo index.now filing item.old (at frame extraction) work.old words.old v result words.new }
@@ -153,23 +143,16 @@ fn drive(
     let mut slot = frame.slot;
     loop {
         if is_filed(filing, on.found) {
-            return Computed::Done(uncounted());
+            return Ok(uncounted());
         }
         let within = frame.with_slot(slot);
-        match take_front(on, work, item, within) {
-            ExtractionTurn::Over(last) => return Computed::Done(last.stats(within)),
-            ExtractionTurn::TooMany => return Computed::Refused(
-                PartialPathRefusal::TooManyExpansions,
-            ),
+        let turn = take_front(on, work, item, within)?;
+        match turn {
+            ExtractionTurn::Over(last) => return Ok(last.stats(within)),
             ExtractionTurn::Expand(next) => {
                 let ready = make_room(next, item, work, within);
                 slot = ready.slot;
-                match round_front(index, filing, item, next, work, words, ready) {
-                    Extracting::On(s) => {
-                        on = s;
-                    }
-                    Extracting::Refused(r) => return Computed::Refused(r),
-                }
+                on = round_front(index, filing, item, next, work, words, ready)?;
             }
         }
     }
@@ -183,7 +166,7 @@ pub(crate) fn compute(
     config: Config,
     work: &mut [u32],
     words: &mut [u32],
-) -> Computed
+) -> Result<PartialPathStats, PartialPathRefusal>
     requires { Computing index.now nodes filing words.old }
     ensures { ComputedTo index.now nodes filing config work.old words.old result words.new }
 {
@@ -191,7 +174,7 @@ pub(crate) fn compute(
     let mut item = [0u32; SLOT_WORDS];
     let frame = ExtractionFrame::new(config, work.len() / SLOT_WORDS);
     let extraction = Extraction::new();
-    match seed::seed(
+    let begun = seed::seed(
         index,
         filing.file,
         nodes,
@@ -199,8 +182,6 @@ pub(crate) fn compute(
         extraction,
         work,
         frame,
-    ) {
-        Extracting::On(on) => drive(index, filing, &mut item, on, work, words, frame),
-        Extracting::Refused(r) => Computed::Refused(r),
-    }
+    )?;
+    drive(index, filing, &mut item, begun, work, words, frame)
 }

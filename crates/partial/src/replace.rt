@@ -3,44 +3,29 @@
 // A refused replacement alters no word, and the words behind the used slots may hold anything: so the paths are computed and counted
 // first, and computed again and filed when all refusals are past; the second computation ends with the last of them, and where none was
 // found there is none.
-ghost use Rattle.std.specs.Prelude.{◌≡◌, ◌+◌, ◌≤◌, ◌<◌, ◌^◌};
+ghost use Rattle.std.specs.Prelude.{◌≡◌, ◌+◌, ◌≤◌, ◌<◌, ◌^◌, replicate};
 ghost use Rattle.semantics.specs.Entries.{graph_in, replace_file, replace_aliases, Changes, Leaves};
 ghost use Rattle.semantics.specs.Limits.{base, nobody};
-ghost use Rattle.semantics.specs.Image.{nodes_of, edges_of};
 ghost use Rattle.semantics.specs.Told.{told_replacement};
 ghost use Rattle.semantics.specs.Database.{replace_words};
-ghost use Rattle.storage.specs.Index.{FEW, Takes};
+ghost use Rattle.storage.specs.Index.{INDEX, Takes};
 ghost use Rattle.partial.specs.Replacements.{asked_by, number_of, Computing, FiledTo, Storing, Few, Replacing, computed_on, replaced_on, inspected_on, call_for};
 
 use crate::compute;
-use crate::compute::Computed;
-use database::check::Inspected;
 use database::{layout, replace};
 use partial_state::extraction::Config;
 use partial_state::filing::Filing;
-use semantics::answer::{Checked, Replacement};
+use semantics::answer::{Counts, Replacement, ReplacementRefusal};
 use semantics::bounds::NOBODY;
 use semantics::graph::FileId;
 use semantics::refusal::PartialPathRefusal;
 use semantics::search::{Limit, SearchOrder};
-use storage::{blocks, check};
+use storage::blocks::{INDEX, SMALL};
+use storage::check;
 use words::slots;
 
-// Whose partial paths are replaced: those of a file, or of nobody, which are the alias set.
-#[derive(Clone, Copy)]
-pub enum Owner {
-    File(FileId),
-    Nobody,
-}
-
-// What an accepted graph counts.
-#[derive(Clone, Copy)]
-pub struct Sizes {
-    pub files: u32,
-    pub nodes: u32,
-}
-
-// The second computation takes the course of the first, up to the last path. It has nothing to file where the first found none.
+// The second computation takes the course of the first, up to the last path: it is not refused, and its counts are known. It has nothing to file where
+// the first found none.
 fn file_found(
     index: &[u32],
     nodes: u32,
@@ -53,40 +38,40 @@ fn file_found(
     ensures { FiledTo index.now nodes filing config work.old words.old words.new }
 {
     if 0 < filing.room {
-        compute::compute(index, nodes, filing, config, work, words);
+        let _ = compute::compute(index, nodes, filing, config, work, words);
     }
 }
 
 // The found paths are filed in the place of the file's old ones.
 fn store(
     index: &[u32],
-    sizes: Sizes,
+    counts: Counts,
     filing: Filing,
     config: Config,
     work: &mut [u32],
     words: &mut [u32],
 )
-    requires { Storing index.now sizes filing config work.old words.old }
-    ensures { (v : Storing index.now sizes filing config work.old words.old) → words.new
+    requires { Storing index.now counts filing config work.old words.old }
+    ensures { (v : Storing index.now counts filing config work.old words.old) → words.new
         ≡ replace_words base v.sized.holds.graph filing.file v.found words.old }
 {
     replace::clear_file(words, filing.file);
-    file_found(index, sizes.nodes, filing, config, work, words);
+    file_found(index, counts.nodes, filing, config, work, words);
     let used = filing.first + filing.room;
-    replace::store_header(words, used as u32, sizes.nodes, sizes.files);
+    replace::store_header(words, used as u32, counts.nodes, counts.files);
 }
 
 // The computation, then 33.
 fn replace_owner(
     index: &[u32],
-    sizes: Sizes,
+    counts: Counts,
     owner: u32,
     config: Config,
     work: &mut [u32],
     words: &mut [u32],
 ) -> Replacement
-    requires { Replacing index.now sizes words.old × (owner + 1 < 2 ^ 32) }
-    ensures { (v : Replacing index.now sizes words.old)
+    requires { Replacing index.now counts words.old × (owner + 1 < 2 ^ 32) }
+    ensures { (v : Replacing index.now counts words.old)
         → Leaves (computed_on v.sized.holds.graph (asked_by config work.old owner) words.old) result words.new }
 {
     let first = layout::number(words, layout::USED_AT);
@@ -95,19 +80,19 @@ fn replace_owner(
         first,
         room: 0,
     };
-    match compute::compute(index, sizes.nodes, counting, config, work, words) {
-        Computed::Refused(r) => Replacement::Refused(r),
-        Computed::Done(stats) => {
+    match compute::compute(index, counts.nodes, counting, config, work, words) {
+        Err(r) => Err(ReplacementRefusal::Refused(r)),
+        Ok(stats) => {
             if replace::has_room(words, stats.found) {
                 let filing = Filing {
                     file: owner,
                     first,
                     room: stats.found as usize,
                 };
-                store(index, sizes, filing, config, work, words);
-                return Replacement::Done { stats };
+                store(index, counts, filing, config, work, words);
+                return Ok(stats);
             }
-            Replacement::Full
+            Err(ReplacementRefusal::Full)
         }
     }
 }
@@ -115,40 +100,40 @@ fn replace_owner(
 // 21 before it, where a file is meant.
 fn replace_known(
     index: &[u32],
-    sizes: Sizes,
+    counts: Counts,
     file: u32,
     config: Config,
     work: &mut [u32],
     words: &mut [u32],
 ) -> Replacement
-    requires { Replacing index.now sizes words.old × (sizes.files < nobody) }
-    ensures { (v : Replacing index.now sizes words.old)
+    requires { Replacing index.now counts words.old × (counts.files < nobody) }
+    ensures { (v : Replacing index.now counts words.old)
         → Leaves (replaced_on v.sized.holds.graph (asked_by config work.old file) words.old) result words.new }
 {
-    if sizes.files <= file {
-        return Replacement::Refused(PartialPathRefusal::UnknownFile(FileId(file)));
+    if counts.files <= file {
+        return Err(ReplacementRefusal::Refused(PartialPathRefusal::UnknownFile(FileId(file))));
     }
-    replace_owner(index, sizes, file, config, work, words)
+    replace_owner(index, counts, file, config, work, words)
 }
 
-// 35 and 34 before that.
+// 35 and 34 before that. The owner is a file, or nobody, whose partial paths are the alias set.
 fn replace_loaded(
     index: &[u32],
-    sizes: Sizes,
-    owner: Owner,
+    counts: Counts,
+    owner: Option<FileId>,
     config: Config,
     work: &mut [u32],
     words: &mut [u32],
 ) -> Replacement
-    requires { Few index.now sizes }
-    ensures { (v : Few index.now sizes)
+    requires { Few index.now counts }
+    ensures { (v : Few index.now counts)
         → Leaves (inspected_on owner v.sized.holds.graph (asked_by config work.old (number_of owner)) words.old) result words.new }
 {
-    match database::check::check(words, sizes.nodes, sizes.files) {
-        Inspected::Refused(r) => Replacement::Database(r),
-        Inspected::Sound => match owner {
-            Owner::File(file) => replace_known(index, sizes, file.0, config, work, words),
-            Owner::Nobody => replace_owner(index, sizes, NOBODY, config, work, words),
+    match database::check::check(words, counts.nodes, counts.files) {
+        Err(r) => Err(ReplacementRefusal::Database(r)),
+        Ok(()) => match owner {
+            Some(file) => replace_known(index, counts, file.0, config, work, words),
+            None => replace_owner(index, counts, NOBODY, config, work, words),
         },
     }
 }
@@ -157,7 +142,7 @@ fn replace_loaded(
 fn replace_in(
     image: &[u8],
     index: &mut [u32],
-    owner: Owner,
+    owner: Option<FileId>,
     config: Config,
     work: &mut [u32],
     words: &mut [u32],
@@ -167,50 +152,49 @@ fn replace_in(
 {
     let checked = check::load_fresh(image, index);
     match checked {
-        Checked::Refused(r) => {
+        Err(r) => {
             slots::zero(work);
-            Replacement::Image(r)
+            Err(ReplacementRefusal::Image(r))
         }
-        Checked::Accepted {
-            files,
-            nodes,
-            edges: _,
-        } => {
-            let answer = replace_loaded(index, Sizes { files, nodes }, owner, config, work, words);
+        Ok(counts) => {
+            let answer = replace_loaded(index, counts, owner, config, work, words);
             slots::zero(work);
             answer
         }
     }
 }
 
-// A small image gets a small index: zeroing a large one would take longer than the rest. Both are functions that two calls make, so that neither is
-// compiled into a caller: a stack frame with a large index has forty pages, and to touch them takes a third of the time of a call on a small image.
-pub fn replace_small(
+// An index of so many words stands in a function that is not compiled into its caller: a stack frame with a large index has forty pages, and to touch
+// them takes a third of the time of a call on a small image.
+#[inline(never)]
+fn replace_with<const WORDS: usize>(
     image: &[u8],
-    owner: Owner,
+    owner: Option<FileId>,
     config: Config,
     work: &mut [u32],
     words: &mut [u32],
 ) -> Replacement
-    requires { (nodes_of image.now ≤ FEW) × (edges_of image.now ≤ FEW) }
+    requires { Takes image.now (replicate WORDS 0) × (WORDS ≤ INDEX) }
     ensures { Changes (call_for owner (graph_in image.now) (asked_by config work.old (number_of owner)) words.old) result work.new words.new }
 {
-    let mut index = [0u32; blocks::SMALL];
+    let mut index = [0u32; WORDS];
     replace_in(image, &mut index, owner, config, work, words)
 }
 
-// Any other a large one.
-pub fn replace_large(
+// A small image gets a small index: zeroing a large one would take longer than the rest.
+pub fn replace_for(
     image: &[u8],
-    owner: Owner,
+    owner: Option<FileId>,
     config: Config,
     work: &mut [u32],
     words: &mut [u32],
 ) -> Replacement
     ensures { Changes (call_for owner (graph_in image.now) (asked_by config work.old (number_of owner)) words.old) result work.new words.new }
 {
-    let mut index = [0u32; blocks::INDEX];
-    replace_in(image, &mut index, owner, config, work, words)
+    if check::is_small(image) {
+        return replace_with::<SMALL>(image, owner, config, work, words);
+    }
+    replace_with::<INDEX>(image, owner, config, work, words)
 }
 
 // Any bytes, numbers and words.
@@ -232,10 +216,7 @@ pub fn replace_file(
         length,
         expansions,
     };
-    if check::is_small(image) {
-        return replace_small(image, Owner::File(file), config, work, words);
-    }
-    replace_large(image, Owner::File(file), config, work, words)
+    replace_for(image, Some(file), config, work, words)
 }
 
 // The alias set: no file is asked.
@@ -256,8 +237,5 @@ pub fn replace_aliases(
         length,
         expansions,
     };
-    if check::is_small(image) {
-        return replace_small(image, Owner::Nobody, config, work, words);
-    }
-    replace_large(image, Owner::Nobody, config, work, words)
+    replace_for(image, None, config, work, words)
 }

@@ -1,27 +1,21 @@
 -- The computation of partial paths on the way, as code holds it: each operation as an equation, what a push and the top of a round answer.
 -- Document 01, "Partial paths" and "Budget and frontier"; 31 and 36 of "Turned back".
-use Rattle.std.specs.Prelude.{ℕ, ◌+◌, ◌≡◌, false, List, leb}
+use Rattle.std.specs.Prelude.{ℕ, ◌+◌, ◌≡◌, false, List, leb, Option, Some, None, Result, Ok, Err}
 use Rattle.semantics.specs.Limits.{max_expansions}
 use Rattle.semantics.specs.declared.search.SearchStats.{SearchStats}
 use Rattle.semantics.specs.declared.search.PartialPathStats.{PartialPathStats}
-use Rattle.semantics.specs.declared.refusal.PartialPathRefusal.TheVariants.{NoWaitingSlot}
+use Rattle.semantics.specs.declared.refusal.PartialPathRefusal.TheVariants.{NoWaitingSlot, TooManyExpansions}
 use Rattle.semantics.specs.Lists.{pick}
 use Rattle.path_budget.specs.declared.budget.Budget.{Budget}
 use Rattle.path_frontier.specs.declared.frontier.Frontier.{Frontier}
-use Rattle.path_frontier.specs.declared.frontier.Pushed.{Pushed}
-use Rattle.path_frontier.specs.declared.frontier.Pushed.TheVariants as Pushed
-use Rattle.path_frontier.specs.declared.frontier.Popped.{Popped}
-use Rattle.path_frontier.specs.declared.frontier.Popped.TheVariants as Popped
 use Rattle.path_budget.specs.Budget.{fresh, with_max_length, with_max_paths, expansion, stats_of}
 use Rattle.path_frontier.specs.Frontier.{short_slot, empty, greatest_in, Pushes, Pops, Widens}
 use Rattle.semantics.specs.declared.refusal.PartialPathRefusal.{PartialPathRefusal}
 use Rattle.partial_state.specs.declared.extraction.Config.{Config}
 use Rattle.partial_state.specs.declared.extraction.ExtractionFrame.{ExtractionFrame}
 use Rattle.partial_state.specs.declared.extraction.Extraction.{Extraction}
-use Rattle.partial_state.specs.declared.extraction.Extracting.{Extracting}
-use Rattle.partial_state.specs.declared.extraction.Extracting.TheVariants.{On, Refused}
 use Rattle.partial_state.specs.declared.extraction.ExtractionTurn.{ExtractionTurn}
-use Rattle.partial_state.specs.declared.extraction.ExtractionTurn.TheVariants.{Over, Expand, TooMany}
+use Rattle.partial_state.specs.declared.extraction.ExtractionTurn.TheVariants.{Over, Expand}
 pub mod Laws
 
 -- ---- what is handed on in code
@@ -72,11 +66,11 @@ pub data Course : Type 0 where
   goes : Computation → Course
   stops : PartialPathRefusal → Course
 
--- at the top of a round: it is over, or a route is to be expanded, or it would be one expansion too many
+-- at the top of a round: it is over, or a route is to be expanded, or it stops with a refusal
 pub data Opening : Type 0 where
   closing : Computation → Opening
   opening : Computation → Opening
-  exceeding : Opening
+  refusing : PartialPathRefusal → Opening
 
 -- what is handed on, in its frame
 abbrev pub at : ExtractionFrame → Extraction → Computation
@@ -87,14 +81,14 @@ at fr p = record {
   found = p.found;
 }
 
-abbrev pub going_at : ExtractionFrame → Extracting → Course
-going_at fr (On p) = goes (at fr p)
-going_at fr (Refused r) = stops r
+abbrev pub going_at : ExtractionFrame → Result Extraction PartialPathRefusal → Course
+going_at fr (Ok p) = goes (at fr p)
+going_at fr (Err r) = stops r
 
-abbrev pub taken_at : ExtractionFrame → ExtractionTurn → Opening
-taken_at fr (Over p) = closing (at fr p)
-taken_at fr (Expand p) = opening (at fr p)
-taken_at fr TooMany = exceeding
+abbrev pub taken_at : ExtractionFrame → Result ExtractionTurn PartialPathRefusal → Opening
+taken_at fr (Ok (Over p)) = closing (at fr p)
+taken_at fr (Ok (Expand p)) = opening (at fr p)
+taken_at fr (Err r) = refusing r
 
 abbrev pub new_computation : Config → ℕ → Computation
 new_computation c capacity = record { frontier = empty c.order short_slot capacity; budget = budget_in (frame_with c capacity); cycles = 0; found = 0 }
@@ -123,13 +117,13 @@ stats_in x = counting x.found (stats_of x.budget 0 x.cycles)
 abbrev pub partial_of : Computation → PartialPathStats
 partial_of x = record { expanded = x.budget.expanded; found = x.found; cycles = x.cycles; length_limited = x.budget.length_limited; count_limited = x.budget.count_limited; waited = greatest_in x.frontier }
 
-abbrev pub course_of : Computation → Pushed → Course
-course_of x (Pushed.Done f) = goes (with_frontier f x)
-course_of x Pushed.Full = stops NoWaitingSlot
+abbrev pub course_of : Computation → Option Frontier → Course
+course_of x (Some f) = goes (with_frontier f x)
+course_of x None = stops NoWaitingSlot
 
 -- a push into the frontier, and the computation with it
 pub record Extends (x : Computation) (ws item : List ℕ) (a : Course) (ws' : List ℕ) : Type 0 where
-  pub pushed : Pushed
+  pub pushed : Option Frontier
   pub pushes : Pushes x.frontier ws item pushed ws'
   pub is : a ≡ course_of x pushed
 
@@ -137,16 +131,16 @@ pub record Extends (x : Computation) (ws item : List ℕ) (a : Course) (ws' : Li
 abbrev pub admitted_of : Computation → Frontier → Opening
 admitted_of x f =
     pick (expansion x.budget).allowed
-    (pick (leb max_expansions x.budget.expanded) exceeding (opening (with_frontier f (with_budget (expansion x.budget).budget x))))
+    (pick (leb max_expansions x.budget.expanded) (refusing TooManyExpansions) (opening (with_frontier f (with_budget (expansion x.budget).budget x))))
     (closing (with_budget (expansion x.budget).budget x))
 
-abbrev pub opening_of : Computation → Popped → Opening
-opening_of x (Popped.Item f) = admitted_of x f
-opening_of x Popped.Empty = closing x
+abbrev pub opening_of : Computation → Option Frontier → Opening
+opening_of x (Some f) = admitted_of x f
+opening_of x None = closing x
 
 -- a pop from the frontier, and the round that it opens
 pub record Taking (x : Computation) (ws : List ℕ) (a : Opening) (item ws' : List ℕ) : Type 0 where
-  pub popped : Popped
+  pub popped : Option Frontier
   pub pops : Pops x.frontier ws popped item ws'
   pub is : a ≡ opening_of x popped
 

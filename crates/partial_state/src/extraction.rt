@@ -11,8 +11,8 @@ use crate::filing;
 use crate::filing::Filing;
 use crate::route::Ends;
 use path_budget::budget::Budget;
-use path_frontier::frontier::{Frontier, Popped, Pushed, SHORT_SLOT};
-use semantics::bounds::{MAX_EXPANSIONS, SLOT_WORDS};
+use path_frontier::frontier::{Frontier, SHORT_SLOT};
+use semantics::bounds::MAX_EXPANSIONS;
 use semantics::refusal::PartialPathRefusal;
 use semantics::search::{Limit, PartialPathStats, SearchOrder};
 
@@ -48,32 +48,22 @@ pub struct Extraction {
     pub count_limited: bool,
 }
 
-// The computation goes on, or ends with a refusal.
-#[derive(Clone, Copy)]
-pub enum Extracting {
-    On(Extraction),
-    Refused(PartialPathRefusal),
-}
-
-// At the top of a round: the computation is over, or the route in the item is to be expanded, or it would be one expansion too many.
+// What the top of a round opens: the computation is over, or the route in the item is to be expanded.
+// Kept: no Result, as neither is a refusal of the other, and no `Round`, which is over with a search's figures.
 #[derive(Clone, Copy)]
 pub enum ExtractionTurn {
     Over(Extraction),
     Expand(Extraction),
-    TooMany,
 }
 
 impl ExtractionFrame {
     pub fn new(config: Config, waiting: usize) -> ExtractionFrame
         ensures { result ≡ frame_with config waiting }
     {
-        let order = config.order;
-        let length = config.length;
-        let expansions = config.expansions;
         ExtractionFrame {
-            order,
-            length,
-            expansions,
+            order: config.order,
+            length: config.length,
+            expansions: config.expansions,
             waiting,
             slot: SHORT_SLOT,
         }
@@ -83,11 +73,9 @@ impl ExtractionFrame {
     fn budget(self) -> Budget
         ensures { result ≡ budget_in self }
     {
-        let length = self.length;
-        let expansions = self.expansions;
         Budget::new()
-            .with_max_path_length(length)
-            .with_max_path_count(expansions)
+            .with_max_path_length(self.length)
+            .with_max_path_count(self.expansions)
     }
 
     // The same with slots of so many words.
@@ -129,9 +117,8 @@ impl Extraction {
     fn frontier(self, frame: ExtractionFrame) -> Frontier
         ensures { result ≡ (at frame self).frontier }
     {
-        let order = frame.order;
         Frontier {
-            order,
+            order: frame.order,
             length: frame.slot,
             first: self.first,
             count: self.count,
@@ -145,11 +132,12 @@ impl Extraction {
     pub fn budget(self, frame: ExtractionFrame) -> Budget
         ensures { result ≡ (at frame self).budget }
     {
-        let mut budget = frame.budget();
-        budget.expanded = self.expanded;
-        budget.length_limited = self.length_limited;
-        budget.count_limited = self.count_limited;
-        budget
+        Budget {
+            expanded: self.expanded,
+            length_limited: self.length_limited,
+            count_limited: self.count_limited,
+            ..frame.budget()
+        }
     }
 
     // The budget is handed back by each question put to it.
@@ -178,7 +166,7 @@ impl Extraction {
         requires { self.cycles + 1 < 2 ^ 64 }
         ensures { result ≡ cut_in self }
     {
-        self.cycles = self.cycles + 1;
+        self.cycles += 1;
         self
     }
 
@@ -187,20 +175,25 @@ impl Extraction {
         requires { self.found + 1 < 2 ^ 64 }
         ensures { result ≡ found_in self }
     {
-        self.found = self.found + 1;
+        self.found += 1;
         self
     }
 
     // The route in the item waits; 31 when all waiting slots are taken.
-    pub fn push(self, work: &mut [u32], item: &[u32], frame: ExtractionFrame) -> Extracting
+    pub fn push(
+        self,
+        work: &mut [u32],
+        item: &[u32],
+        frame: ExtractionFrame,
+    ) -> Result<Extraction, PartialPathRefusal>
         requires { Framed (at frame self).frontier work.old × IsSlot frame.slot item.now }
         ensures { Extends (at frame self) work.old item.now (going_at frame result) work.new }
     {
         let pushed = self.frontier(frame).push(work, item);
-        let Pushed::Done(next) = pushed else {
-            return Extracting::Refused(PartialPathRefusal::NoWaitingSlot);
+        let Some(next) = pushed else {
+            return Err(PartialPathRefusal::NoWaitingSlot);
         };
-        Extracting::On(self.with_frontier(next))
+        Ok(self.with_frontier(next))
     }
 
     // A route was extended: at an endpoint it is found, counted and filed; then it waits.
@@ -213,7 +206,7 @@ impl Extraction {
         work: &mut [u32],
         words: &mut [u32],
         frame: ExtractionFrame,
-    ) -> Extracting
+    ) -> Result<Extraction, PartialPathRefusal>
         requires { Extendable (at frame self) filing item.now work.old words.old }
         ensures { ExtendsTo (at frame self) endpoint ends filing item.now work.old words.old (going_at frame result) work.new words.new }
     {
@@ -225,24 +218,29 @@ impl Extraction {
         self.push(work, item, frame)
     }
 
-    // The next route is taken out of the frontier, and its expansion is put to the budget, then to the bound on expansions.
-    pub fn take(self, work: &mut [u32], item: &mut [u32], frame: ExtractionFrame) -> ExtractionTurn
+    // The next route is taken out of the frontier, and its expansion is put to the budget, then to the bound on expansions: 36 behind it.
+    pub fn take(
+        self,
+        work: &mut [u32],
+        item: &mut [u32],
+        frame: ExtractionFrame,
+    ) -> Result<ExtractionTurn, PartialPathRefusal>
         requires { Framed (at frame self).frontier work.old × IsSlot frame.slot item.old × (self.expanded + 1 < 2 ^ 64) }
         ensures { Taking (at frame self) work.old (taken_at frame result) item.new work.new }
     {
         let popped = self.frontier(frame).pop(work, item);
-        let Popped::Item(next) = popped else {
-            return ExtractionTurn::Over(self);
+        let Some(next) = popped else {
+            return Ok(ExtractionTurn::Over(self));
         };
         let asked = self.budget(frame).admitted_expansion();
         let after = self.with_budget(asked.budget);
         if asked.allowed {
             if MAX_EXPANSIONS <= self.expanded {
-                return ExtractionTurn::TooMany;
+                return Err(PartialPathRefusal::TooManyExpansions);
             }
-            return ExtractionTurn::Expand(after.with_frontier(next));
+            return Ok(ExtractionTurn::Expand(after.with_frontier(next)));
         }
-        ExtractionTurn::Over(after)
+        Ok(ExtractionTurn::Over(after))
     }
 
     // Of a computation that is over: its place is that before the last pop, so that the frontier there tells how many ever waited together.

@@ -6,6 +6,7 @@ ghost use Rattle.partial_state.specs.Filings.{Fits, filed_next};
 
 use crate::route::Ends;
 use database::replace;
+use semantics::bounds::MAX_EDGES;
 
 // Records of the file, from record `first` on, at most `room` of them.
 #[derive(Clone, Copy)]
@@ -23,6 +24,7 @@ pub(crate) fn file_route(words: &mut [u32], filing: Filing, n: u64, ends: Ends, 
     if n < filing.room as u64 {
         replace::put_record(
             words,
+            MAX_EDGES,
             filing.first + n as usize,
             filing.file,
             ends.start,

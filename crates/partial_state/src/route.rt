@@ -31,11 +31,7 @@ fn source_of(edge: Edge) -> u32
 {
     match edge {
         Edge::Removed => 0,
-        Edge::Live {
-            source,
-            target: _,
-            precedence: _,
-        } => source.0,
+        Edge::Live { source, .. } => source.0,
     }
 }
 
@@ -45,11 +41,7 @@ fn target_of(edge: Edge) -> u32
 {
     match edge {
         Edge::Removed => 0,
-        Edge::Live {
-            source: _,
-            target,
-            precedence: _,
-        } => target.0,
+        Edge::Live { target, .. } => target.0,
     }
 }
 

@@ -6,7 +6,7 @@ ghost use Rattle.storage.specs.Index.{BLOCK, Blocks, node_row, target_row};
 ghost use Rattle.partial_state.specs.Extractions.{at, going_at};
 ghost use Rattle.partial_trial.specs.Expansions.{sought_from, leads_to, is_sought, Owning, Trying, Tried, Looked, Lengthened, Expanding, Expanded};
 
-use partial_state::extraction::{Extracting, Extraction, ExtractionFrame};
+use partial_state::extraction::{Extraction, ExtractionFrame};
 use partial_state::filing::Filing;
 use partial_state::route::Ends;
 use search_state::path_slot;
@@ -62,10 +62,7 @@ fn belongs(index: &[u32], owner: u32, own: Sought, edge: u32) -> bool
     requires { Blocks index.now × (BLOCK * edge < length index.now) }
     ensures { result ≡ is_sought owner own (node_row index.now (target_row index.now edge)) }
 {
-    if own.all {
-        return true;
-    }
-    leads_to(index, owner, own, store::target(index, EdgeId(edge)))
+    own.all || leads_to(index, owner, own, store::target(index, EdgeId(edge)))
 }
 
 // The route of k edges in the item gets one more: found at an endpoint, then pushed.
@@ -80,7 +77,7 @@ fn lengthen(
     work: &mut [u32],
     words: &mut [u32],
     frame: ExtractionFrame,
-) -> Extracting
+) -> Result<Extraction, PartialPathRefusal>
     requires { Trying looked_ever index.now filing start k edge item.old (at frame extraction) work.old words.old × (k < max_edges) }
     ensures { (v : Trying looked_ever index.now filing start k edge item.old (at frame extraction) work.old words.old)
         → Lengthened looked_ever index.now filing start k edge item.old (at frame extraction) work.old words.old v
@@ -112,14 +109,14 @@ fn try_edge(
     work: &mut [u32],
     words: &mut [u32],
     frame: ExtractionFrame,
-) -> Extracting
+) -> Result<Extraction, PartialPathRefusal>
     requires { Trying looked_ever index.now filing start k edge item.old (at frame extraction) work.old words.old }
     ensures { (v : Trying looked_ever index.now filing start k edge item.old (at frame extraction) work.old words.old)
         → Tried looked_ever index.now filing start k edge item.old (at frame extraction) work.old words.old v
         (going_at frame result) item.new work.new words.new }
 {
     if path_slot::contains(&item[1..k + 1], edge) {
-        return Extracting::On(extraction.cut());
+        return Ok(extraction.cut());
     }
     let asked = extraction.budget(frame).admitted_length(k as u64 + 1);
     if asked.allowed {
@@ -128,9 +125,9 @@ fn try_edge(
                 index, filing, start, k, edge, item, extraction, work, words, frame,
             );
         }
-        return Extracting::Refused(PartialPathRefusal::TooLong);
+        return Err(PartialPathRefusal::TooLong);
     }
-    Extracting::On(extraction.with_budget(asked.budget))
+    Ok(extraction.with_budget(asked.budget))
 }
 
 // An edge that leaves the route's end is tried if it belongs to the owner; an edge of another one is not looked at.
@@ -146,7 +143,7 @@ fn look_at(
     work: &mut [u32],
     words: &mut [u32],
     frame: ExtractionFrame,
-) -> Extracting
+) -> Result<Extraction, PartialPathRefusal>
     requires { Owning looked_ever index.now filing start k edge item.old (at frame extraction) work.old words.old own }
     ensures { (o : Owning looked_ever index.now filing start k edge item.old (at frame extraction) work.old words.old
         own) → Looked looked_ever index.now filing start k edge item.old (at frame extraction) work.old words.old o.looking
@@ -157,7 +154,7 @@ fn look_at(
             index, filing, start, k, edge, item, extraction, work, words, frame,
         );
     }
-    Extracting::On(extraction)
+    Ok(extraction)
 }
 
 // Each outgoing edge of the route's end, by ascending number.
@@ -171,7 +168,7 @@ pub fn expand(
     work: &mut [u32],
     words: &mut [u32],
     frame: ExtractionFrame,
-) -> Extracting
+) -> Result<Extraction, PartialPathRefusal>
     requires { Expanding looked_before index.now filing ends k item.old (at frame extraction) work.old words.old }
     ensures { (v : Expanding looked_before index.now filing ends k item.old (at frame extraction) work.old words.old)
         → Expanded looked_before index.now filing ends k item.old (at frame extraction) work.old words.old v (going_at frame result)
@@ -185,11 +182,11 @@ pub fn expand(
         let going = look_at(
             index, filing, own, ends.start, k, edge, item, on, work, words, frame,
         );
-        let Extracting::On(next) = going else {
+        let Ok(next) = going else {
             return going;
         };
         on = next;
         link = store::next(index, EdgeId(edge));
     }
-    Extracting::On(on)
+    Ok(on)
 }

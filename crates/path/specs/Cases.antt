@@ -1,12 +1,11 @@
 -- Every number of a replayed path by value, by computation: what no edge reached is zero, and beside a refusal all is.
 -- Document 01, "Path"; "leaves one word .. to choice, refused calls included" of "From the buyer".
-use Rattle.std.specs.Prelude.{ℕ, ◌-◌, ◌*◌, ◌≡◌, refl, Bool, true, false, List, [], ◌∷◌, take, replicate}
+use Rattle.std.specs.Prelude.{ℕ, ◌-◌, ◌*◌, ◌≡◌, refl, Bool, true, false, List, [], ◌∷◌, take, replicate, Err, Ok}
 use Rattle.semantics.specs.Limits.{max_edges, step_length, steps_length}
 use Rattle.semantics.specs.Entries.{graph_in}
 use Rattle.semantics.specs.declared.refusal.ImageRefusal.TheVariants as Image
 use Rattle.semantics.specs.declared.refusal.PathRefusal.TheVariants as P
 use Rattle.semantics.specs.declared.refusal.ReplayRefusal.TheVariants as Replay
-use Rattle.semantics.specs.declared.answer.Replayed.TheVariants as Replayed
 use Rattle.semantics.specs.Graph.{node_id}
 use Rattle.semantics.specs.Image.{check_image}
 use Rattle.semantics.specs.Cases.Graphs.{image_a, image_d}
@@ -15,6 +14,7 @@ use Rattle.stepping.specs.Judged.{begun_of, judged_of}
 use Rattle.semantics.specs.declared.replayed.Path.{Path}
 use Rattle.path.specs.declared.replay.ReplayOutcome.{ReplayOutcome}
 use Rattle.path.specs.Replays.{replay_value}
+use Rattle.semantics.specs.declared.answer.TurnedBack.{TurnedBack}
 
 abbrev zeros : ℕ → List ℕ
 zeros n = replicate n 0
@@ -46,15 +46,15 @@ values =
 -- attached scope, cell below, scope. On A: a refused image; 11; 15 behind an accepted edge; the reference alone; both edges. On D: behind the last
 -- edge stands a jump to node 4. In version 2: a reference that pushes 2^32 + 7
 pub value-cases : values
-    ≡ record { answer = Replayed.Image Image.Length; path = none }
-    ∷ record { answer = Replayed.Refused (Replay.Path (P.NotReference (node_id 3))); path = none }
-    ∷ record { answer = Replayed.Refused (Replay.Path (P.IncorrectPoppedSymbol (node_id 5))); path = none }
+    ≡ record { answer = Err (TurnedBack.Image Image.Length); path = none }
+    ∷ record { answer = Err (TurnedBack.Refused (Replay.Path (P.NotReference (node_id 3)))); path = none }
+    ∷ record { answer = Err (TurnedBack.Refused (Replay.Path (P.IncorrectPoppedSymbol (node_id 5)))); path = none }
     ∷ record {
-      answer = Replayed.Done;
+      answer = Ok tt;
       path = record { start = 2; end = 2; count = 0; edges = zeros max_edges; jumps = unset max_edges; steps = 0 ∷ 2 ∷ 1 ∷ 0 ∷ 7 ∷ 0 ∷ 0 ∷ 0 ∷ 0 ∷ zeros (steps_length - step_length) };
     }
     ∷ record {
-      answer = Replayed.Done;
+      answer = Ok tt;
       path = record {
         start = 2;
         end = 4;
@@ -65,7 +65,7 @@ pub value-cases : values
       };
     }
     ∷ record {
-      answer = Replayed.Done;
+      answer = Ok tt;
       path = record {
         start = 2;
         end = 4;
@@ -82,7 +82,7 @@ pub value-cases : values
       };
     }
     ∷ record {
-      answer = Replayed.Done;
+      answer = Ok tt;
       path = record { start = 2; end = 2; count = 0; edges = zeros max_edges; jumps = unset max_edges; steps = 0 ∷ 2 ∷ 1 ∷ 0 ∷ 7 ∷ 1 ∷ 0 ∷ 0 ∷ 0 ∷ zeros (steps_length - step_length) };
     }
     ∷ []

@@ -8,10 +8,9 @@ use Rattle.semantics.specs.declared.graph.Edge.TheVariants as E
 use Rattle.semantics.specs.Path as Model
 use Rattle.semantics.specs.Calls.{passages}
 use Rattle.semantics.specs.declared.replayed.Step.{Step}
-use Rattle.stepping.specs.declared.step.Effect.{Effect}
-use Rattle.stepping.specs.declared.step.Effect.TheVariants.{Done, Refused}
+use Rattle.stepping.specs.Steps.{Effect}
+use Rattle.std.specs.Prelude.{Ok, Err}
 use Rattle.semantics.specs.declared.replayed.Path.{Path}
-use Rattle.path.specs.declared.path.Grown.{Grown}
 use Rattle.stepping.specs.StepWords.{with_step}
 use Rattle.stepping.specs.Judged.{Ready, Stepped}
 pub mod Laws
@@ -23,10 +22,18 @@ abbrev pub is_jump_edge : Edge → Bool
 is_jump_edge E.Removed = false
 is_jump_edge (E.Live s t p) = eqb t.0 1
 
+-- what became of the reference or an edge, and the path behind it
+pub record Grown : Type 0 where
+  pub effect : Effect
+  pub path : Path
+
+abbrev pub grown : Effect → Path → Grown
+grown e p = record { effect = e; path = p }
+
 -- the reference as step 0
 abbrev pub started_by : ℕ → Effect → Grown
-started_by r (Done s) = record { effect = Done s; path = record { start = r; end = r; count = 0; edges = replicate max_edges 0; jumps = replicate max_edges false; steps = with_step (replicate steps_length 0) 0 s } }
-started_by r (Refused x) = record { effect = Refused x; path = empty_path }
+started_by r (Ok s) = record { effect = Ok s; path = record { start = r; end = r; count = 0; edges = replicate max_edges 0; jumps = replicate max_edges false; steps = with_step (replicate steps_length 0) 0 s } }
+started_by r (Err x) = record { effect = Err x; path = empty_path }
 
 -- the path with an edge and its step
 abbrev pub longer_path : Path → ℕ → Bool → Step → Path
@@ -34,8 +41,8 @@ longer_path p e j s =
     record { start = p.start; end = s.end; count = p.count + 1; edges = set p.edges p.count e; jumps = set p.jumps p.count j; steps = with_step p.steps (p.count + 1) s }
 
 abbrev pub appended_by : Path → ℕ → Bool → Effect → Grown
-appended_by p e j (Done s) = record { effect = Done s; path = longer_path p e j s }
-appended_by p e j (Refused x) = record { effect = Refused x; path = p }
+appended_by p e j (Ok s) = record { effect = Ok s; path = longer_path p e j s }
+appended_by p e j (Err x) = record { effect = Err x; path = p }
 
 -- the lengths of its arrays
 pub record Sized (p : Path) : Type 0 where

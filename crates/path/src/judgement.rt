@@ -13,7 +13,7 @@ ghost use Rattle.path.specs.Replays.{judged_as};
 
 use crate::replay::replay_loaded;
 use crate::shadows;
-use semantics::answer::{Checked, Judgement, Replayed};
+use semantics::answer::{Judgement, Replayed, TurnedBack};
 use semantics::graph::NodeId;
 use stepping::step;
 use stepping::steps::get_step;
@@ -23,11 +23,8 @@ use storage::{blocks, check};
 fn judged(answer: Replayed, holds: bool) -> Judgement
     ensures { result ≡ judged_as answer holds }
 {
-    match answer {
-        Replayed::Done => Judgement::Done { holds },
-        Replayed::Image(r) => Judgement::Image(r),
-        Replayed::Refused(r) => Judgement::Refused(r),
-    }
+    answer?;
+    Ok(holds)
 }
 
 // The left path is replayed before the right one.
@@ -43,7 +40,7 @@ fn shadows_loaded(
         ≡ left_first (Model.replay base (view_of g) left left_edges.now) (Model.replay base (view_of g) right right_edges.now) }
 {
     let first = replay_loaded(index, left, left_edges).answer;
-    let Replayed::Done = first else {
+    let Ok(()) = first else {
         return judged(first, false);
     };
     let second = replay_loaded(index, right, right_edges).answer;
@@ -55,20 +52,11 @@ fn is_complete_in(image: &[u8], index: &mut [u32], reference: u32, edges: &[u32]
     requires { Takes image.now index.old }
     ensures { told_judgement result ≡ told_judgement (complete_of image.now reference edges.now) }
 {
-    match check::load_fresh(image, index) {
-        Checked::Refused(r) => Judgement::Image(r),
-        Checked::Accepted {
-            files: _,
-            nodes: _,
-            edges: _,
-        } => {
-            let replayed = replay_loaded(index, reference, edges);
-            let answer = replayed.answer;
-            let path = replayed.path;
-            let last = get_step(&path.steps, path.count as usize);
-            judged(answer, step::is_complete(index, last))
-        }
-    }
+    check::load_fresh(image, index).map_err(TurnedBack::Image)?;
+    let replayed = replay_loaded(index, reference, edges);
+    let path = &replayed.path;
+    let last = get_step(&path.steps, path.count as usize);
+    judged(replayed.answer, step::is_complete(index, last))
 }
 
 // Does the path of a reference and an edge list end at a definition with both stacks empty?
@@ -95,14 +83,8 @@ fn shadows_in(
     requires { Takes image.now index.old }
     ensures { told_judgement result ≡ told_judgement (shadows_of image.now left left_edges.now right right_edges.now) }
 {
-    match check::load_fresh(image, index) {
-        Checked::Refused(r) => Judgement::Image(r),
-        Checked::Accepted {
-            files: _,
-            nodes: _,
-            edges: _,
-        } => shadows_loaded(index, left, left_edges, right, right_edges),
-    }
+    check::load_fresh(image, index).map_err(TurnedBack::Image)?;
+    shadows_loaded(index, left, left_edges, right, right_edges)
 }
 
 // Does the left path shadow the right one?

@@ -4,21 +4,15 @@ ghost use Rattle.std.specs.Prelude.{◌≡◌, ◌<◌};
 ghost use Rattle.semantics.specs.ReplayedPaths.{step_at};
 ghost use Rattle.storage.specs.Index.{Blocks, node_row, edge_row};
 ghost use Rattle.stepping.specs.Judged.{begun_of, judged_of};
-ghost use Rattle.path.specs.Values.{empty_path, is_jump_edge, started_by, appended_by, Sized, Growing};
+ghost use Rattle.path.specs.Values.{empty_path, is_jump_edge, grown, started_by, appended_by, Sized, Growing};
 
 use semantics::bounds::{MAX_EDGES, STEPS_WORDS};
 use semantics::graph::{Edge, EdgeId, JUMP};
+use semantics::refusal::PathRefusal;
 use semantics::replayed::{Path, Step};
-use stepping::step::{Effect, begin};
+use stepping::step::begin;
 use stepping::steps::{get_step, judge, put_step};
 use storage::store;
-
-// What became of an edge, and the path behind it.
-#[derive(Clone, Copy)]
-pub struct Grown {
-    pub effect: Effect,
-    pub path: Path,
-}
 
 // Step k of a path: what a caller reads the stacks from. Behind the last there is none, and every word is 0.
 pub fn step(path: Path, k: u32) -> Step
@@ -69,46 +63,40 @@ fn is_jump(index: &[u32], edge: u32) -> bool
     }
 }
 
-// The path that starts at a reference.
-pub(crate) fn from_reference(index: &[u32], reference: u32) -> Grown
-    requires { Blocks index.now }
-    ensures { result ≡ started_by reference (begun_of (node_row index.now) reference) }
+// A path that starts at a reference, where there was none; beside a refusal there is none.
+pub(crate) fn from_reference(
+    path: &mut Path,
+    index: &[u32],
+    reference: u32,
+) -> Result<Step, PathRefusal>
+    requires { Blocks index.now × (path.old ≡ empty_path) }
+    ensures { grown result path.new ≡ started_by reference (begun_of (node_row index.now) reference) }
 {
     let effect = begin(index, reference);
-    let Effect::Done(step) = effect else {
-        return Grown {
-            effect,
-            path: empty(),
-        };
+    let Ok(step) = effect else {
+        return effect;
     };
-    let mut path = empty();
-    let mut steps = path.steps;
-    put_step(&mut steps, 0, step);
     path.start = reference;
     path.end = reference;
-    path.steps = steps;
-    Grown { effect, path }
+    put_step(&mut path.steps, 0, step);
+    Ok(step)
 }
 
-// The path with an edge more, or as it was beside the refusal.
-pub(crate) fn append(path: Path, index: &[u32], edge: u32) -> Grown
-    requires { Blocks index.now × Growing path }
-    ensures { result ≡ appended_by path edge (is_jump_edge (edge_row index.now edge))
-        (judged_of (node_row index.now) path.steps path.count edge (edge_row index.now edge)) }
+// An edge more, and its step; beside a refusal the path stays as it was.
+pub(crate) fn append(path: &mut Path, index: &[u32], edge: u32) -> Result<Step, PathRefusal>
+    requires { Blocks index.now × Growing path.old }
+    ensures { grown result path.new ≡ appended_by path.old edge (is_jump_edge (edge_row index.now edge))
+        (judged_of (node_row index.now) path.old.steps path.old.count edge (edge_row index.now edge)) }
 {
-    let count = path.count;
-    let mut steps = path.steps;
-    let effect = judge(index, &steps, count, edge);
-    let Effect::Done(step) = effect else {
-        return Grown { effect, path };
+    let at = path.count as usize;
+    let effect = judge(index, &path.steps, path.count, edge);
+    let Ok(step) = effect else {
+        return effect;
     };
-    let at = count as usize;
-    put_step(&mut steps, at + 1, step);
-    let mut next = path;
-    next.end = step.end;
-    next.count = count + 1;
-    next.edges[at] = edge;
-    next.jumps[at] = is_jump(index, edge);
-    next.steps = steps;
-    Grown { effect, path: next }
+    put_step(&mut path.steps, at + 1, step);
+    path.end = step.end;
+    path.edges[at] = edge;
+    path.jumps[at] = is_jump(index, edge);
+    path.count += 1;
+    Ok(step)
 }

@@ -8,19 +8,20 @@ ghost use Rattle.semantics.specs.Path as Model;
 ghost use Rattle.semantics.specs.Told.{told_replayed};
 ghost use Rattle.storage.specs.Index.{Blocks, node_row, edge_row, Loaded, Takes};
 ghost use Rattle.path.specs.Shadows.Laws.{JumpAt};
-ghost use Rattle.path.specs.Replays.{outcome_of, one_more, value_of, replay_value, Answers};
+ghost use Rattle.path.specs.Replays.{replayed, left_by, one_more, value_of, replay_value, Answers};
 ghost use Rattle.path.specs.Replays.Laws.{Sound};
+ghost use Rattle.path.specs.Values.{empty_path};
 
-use crate::path::{Grown, append, empty, from_reference};
-use semantics::answer::{Checked, Replayed};
+use crate::path::{append, empty, from_reference};
+use semantics::answer::{Replayed, TurnedBack};
 use semantics::bounds::MAX_EDGES;
 use semantics::graph::NodeId;
-use semantics::refusal::ReplayRefusal;
-use semantics::replayed::Path;
-use stepping::step::Effect;
+use semantics::refusal::{PathRefusal, ReplayRefusal};
+use semantics::replayed::{Path, Step};
 use storage::{blocks, check};
 
 // The answer of a replay, and the path beside it; no path where it is refused.
+// Kept: the clause `path_value` of `replay` speaks of the path beside a refusal too.
 #[derive(Clone, Copy)]
 pub struct ReplayOutcome {
     pub answer: Replayed,
@@ -28,63 +29,59 @@ pub struct ReplayOutcome {
 }
 
 // What the start or an edge leaves: the path, or no path beside the refusal.
-fn outcome(grown: Grown) -> ReplayOutcome
-    ensures { result ≡ outcome_of grown }
+fn outcome(effect: Result<Step, PathRefusal>, path: &mut Path) -> Replayed
+    ensures { replayed result path.new ≡ left_by effect path.old }
 {
-    let effect = grown.effect;
-    let path = grown.path;
     match effect {
-        Effect::Done(_) => ReplayOutcome {
-            answer: Replayed::Done,
-            path,
-        },
-        Effect::Refused(r) => ReplayOutcome {
-            answer: Replayed::Refused(ReplayRefusal::Path(r)),
-            path: empty(),
-        },
+        Ok(_) => Ok(()),
+        Err(r) => {
+            *path = empty();
+            Err(TurnedBack::Refused(ReplayRefusal::Path(r)))
+        }
     }
 }
 
 // One edge more: the bound is tested, then the edge is appended.
-fn one_more(path: Path, index: &[u32], edge: u32) -> ReplayOutcome
-    requires { Blocks index.now × Sound path }
-    ensures { result ≡ one_more (node_row index.now) (edge_row index.now) path edge }
+fn one_more(path: &mut Path, index: &[u32], edge: u32) -> Replayed
+    requires { Blocks index.now × Sound path.old }
+    ensures { replayed result path.new ≡ one_more (node_row index.now) (edge_row index.now) path.old edge }
 {
     if MAX_EDGES <= path.count as usize {
-        return ReplayOutcome {
-            answer: Replayed::Refused(ReplayRefusal::TooLong),
-            path: empty(),
-        };
+        *path = empty();
+        return Err(TurnedBack::Refused(ReplayRefusal::TooLong));
     }
-    outcome(append(path, index, edge))
+    let effect = append(path, index, edge);
+    outcome(effect, path)
 }
 
 // Edge after edge from the reference on, until one is refused.
+fn replay_onto(path: &mut Path, index: &[u32], reference: u32, edges: &[u32]) -> Replayed
+    requires { Blocks index.now × (path.old ≡ empty_path) }
+    ensures { replayed result path.new ≡ value_of (node_row index.now) (edge_row index.now) reference edges.now }
+{
+    let effect = from_reference(path, index, reference);
+    let begun = outcome(effect, path);
+    let Ok(()) = begun else {
+        return begun;
+    };
+    for edge in edges {
+        let grown = one_more(path, index, *edge);
+        let Ok(()) = grown else {
+            return grown;
+        };
+    }
+    Ok(())
+}
+
+// The answer, and the path beside it.
 pub(crate) fn replay_loaded(index: &[u32], reference: u32, edges: &[u32]) -> ReplayOutcome
     requires { Blocks index.now }
     ensures value { result ≡ value_of (node_row index.now) (edge_row index.now) reference edges.now }
     ensures answers { (g : Graph) → Loaded g index.now → JumpAt (view_of g) → Answers result (Model.replay base (view_of g) reference edges.now) }
 {
-    let begun = outcome(from_reference(index, reference));
-    let started = begun.answer;
-    let Replayed::Done = started else {
-        return begun;
-    };
-    let mut path = begun.path;
-    let mut i: usize = 0;
-    while i < edges.len() {
-        let next = one_more(path, index, edges[i]);
-        let answer = next.answer;
-        let Replayed::Done = answer else {
-            return next;
-        };
-        path = next.path;
-        i += 1;
-    }
-    ReplayOutcome {
-        answer: Replayed::Done,
-        path,
-    }
+    let mut path = empty();
+    let answer = replay_onto(&mut path, index, reference, edges);
+    ReplayOutcome { answer, path }
 }
 
 // The image is checked into the lent index, then the edge list is replayed.
@@ -95,15 +92,11 @@ fn replay_in(image: &[u8], index: &mut [u32], reference: u32, edges: &[u32]) -> 
     ensures value { result ≡ replay_value (graph_in image.now) reference edges.now }
 {
     match check::load_fresh(image, index) {
-        Checked::Refused(r) => ReplayOutcome {
-            answer: Replayed::Image(r),
+        Err(r) => ReplayOutcome {
+            answer: Err(TurnedBack::Image(r)),
             path: empty(),
         },
-        Checked::Accepted {
-            files: _,
-            nodes: _,
-            edges: _,
-        } => replay_loaded(index, reference, edges),
+        Ok(_) => replay_loaded(index, reference, edges),
     }
 }
 

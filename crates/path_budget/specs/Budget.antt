@@ -1,18 +1,16 @@
 -- A search's budget: its limits, counts and flags, and what each question put to it answers and leaves.
 -- Document 01, "Budget and frontier": "A length is refused only above its limit. Expansion is refused when the count has reached its limit. A complete path is counted even when not kept."
-use Rattle.std.specs.Prelude.{ℕ, ◌+◌, Bool, true, false}
-use Rattle.semantics.specs.declared.search.Limit.{Limit}
-use Rattle.semantics.specs.declared.search.Limit.TheVariants.{Absent}
+use Rattle.std.specs.Prelude.{ℕ, ◌+◌, Bool, true, false, None}
 use Rattle.semantics.specs.declared.search.SearchLimits.{SearchLimits}
 use Rattle.semantics.specs.declared.search.SearchStats.{SearchStats}
-use Rattle.semantics.specs.Limits.{within, below}
+use Rattle.semantics.specs.Limits.{within, below, Limit}
 use Rattle.path_budget.specs.declared.budget.Budget.{Budget}
 use Rattle.path_budget.specs.declared.budget.Admitted.{Admitted}
 pub mod Laws
 
 -- no limits, and nothing counted
 abbrev pub fresh : Budget
-fresh = record { max_length = Absent; max_paths = Absent; max_complete = Absent; expanded = 0; complete = 0; length_limited = false; count_limited = false; complete_limited = false }
+fresh = record { max_length = None; max_paths = None; max_complete = None; expanded = 0; complete = 0; length_limited = false; count_limited = false; complete_limited = false }
 
 -- the limit on the length of a path; the last one set holds
 abbrev pub with_max_length : Limit → Budget → Budget

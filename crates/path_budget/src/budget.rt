@@ -23,6 +23,7 @@ pub struct Budget {
 }
 
 // Whether the work is allowed, and the budget after the question.
+// Kept: no Option in place of the flag, as the budget is there after a refusal too, with the refusal noted in it.
 #[derive(Clone, Copy)]
 pub struct Admitted {
     pub allowed: bool,
@@ -33,8 +34,8 @@ fn is_within(n: u64, limit: Limit) -> bool
     ensures { result ≡ within n limit }
 {
     match limit {
-        Limit::Absent => true,
-        Limit::AtMost(most) => n <= most,
+        None => true,
+        Some(most) => n <= most,
     }
 }
 
@@ -42,8 +43,8 @@ fn is_below(n: u64, limit: Limit) -> bool
     ensures { result ≡ below n limit }
 {
     match limit {
-        Limit::Absent => true,
-        Limit::AtMost(most) => n < most,
+        None => true,
+        Some(most) => n < most,
     }
 }
 
@@ -53,9 +54,9 @@ impl Budget {
         ensures { result ≡ fresh }
     {
         Budget {
-            max_length: Limit::Absent,
-            max_paths: Limit::Absent,
-            max_complete: Limit::Absent,
+            max_length: None,
+            max_paths: None,
+            max_complete: None,
             expanded: 0,
             complete: 0,
             length_limited: false,
@@ -64,62 +65,25 @@ impl Budget {
         }
     }
 
-    // In these three the budget is made anew, since a field that is an enum is not stored to by itself.
     // A limit set twice is the last one set.
     pub fn with_max_path_length(mut self, limit: Limit) -> Budget
         ensures { result ≡ with_max_length limit self }
     {
-        let before = self;
-        let max_paths = before.max_paths;
-        let max_complete = before.max_complete;
-        self = Budget {
-            max_length: limit,
-            max_paths,
-            max_complete,
-            expanded: before.expanded,
-            complete: before.complete,
-            length_limited: before.length_limited,
-            count_limited: before.count_limited,
-            complete_limited: before.complete_limited,
-        };
+        self.max_length = limit;
         self
     }
 
     pub fn with_max_path_count(mut self, limit: Limit) -> Budget
         ensures { result ≡ with_max_paths limit self }
     {
-        let before = self;
-        let max_length = before.max_length;
-        let max_complete = before.max_complete;
-        self = Budget {
-            max_length,
-            max_paths: limit,
-            max_complete,
-            expanded: before.expanded,
-            complete: before.complete,
-            length_limited: before.length_limited,
-            count_limited: before.count_limited,
-            complete_limited: before.complete_limited,
-        };
+        self.max_paths = limit;
         self
     }
 
     pub fn with_max_complete_path_count(mut self, limit: Limit) -> Budget
         ensures { result ≡ with_max_complete limit self }
     {
-        let before = self;
-        let max_length = before.max_length;
-        let max_paths = before.max_paths;
-        self = Budget {
-            max_length,
-            max_paths,
-            max_complete: limit,
-            expanded: before.expanded,
-            complete: before.complete,
-            length_limited: before.length_limited,
-            count_limited: before.count_limited,
-            complete_limited: before.complete_limited,
-        };
+        self.max_complete = limit;
         self
     }
 
@@ -128,38 +92,23 @@ impl Budget {
         requires { self.expanded + 1 < 2 ^ 64 }
         ensures { result ≡ expansion self }
     {
-        let limit = self.max_paths;
-        let expanded = self.expanded;
-        if is_below(expanded, limit) {
-            self.expanded = expanded + 1;
-            return Admitted {
-                allowed: true,
-                budget: self,
-            };
+        if is_below(self.expanded, self.max_paths) {
+            self.expanded += 1;
+            return Admitted::new(true, self);
         }
         self.count_limited = true;
-        Admitted {
-            allowed: false,
-            budget: self,
-        }
+        Admitted::new(false, self)
     }
 
     // A path of this length is refused only above the limit.
     fn length_answer(mut self, length: u64) -> Admitted
         ensures { result ≡ lengthening length self }
     {
-        let limit = self.max_length;
-        if is_within(length, limit) {
-            return Admitted {
-                allowed: true,
-                budget: self,
-            };
+        if is_within(length, self.max_length) {
+            return Admitted::new(true, self);
         }
         self.length_limited = true;
-        Admitted {
-            allowed: false,
-            budget: self,
-        }
+        Admitted::new(false, self)
     }
 
     // One more complete path is counted, and kept unless as many as the limit are kept already.
@@ -167,19 +116,12 @@ impl Budget {
         requires { self.complete + 1 < 2 ^ 64 }
         ensures { result ≡ completion kept self }
     {
-        let limit = self.max_complete;
-        self.complete = self.complete + 1;
-        if is_below(kept, limit) {
-            return Admitted {
-                allowed: true,
-                budget: self,
-            };
+        self.complete += 1;
+        if is_below(kept, self.max_complete) {
+            return Admitted::new(true, self);
         }
         self.complete_limited = true;
-        Admitted {
-            allowed: false,
-            budget: self,
-        }
+        Admitted::new(false, self)
     }
 
     // The same three questions on a budget that the caller lends: the answer is returned, and the budget after the question stays behind

@@ -11,10 +11,7 @@ use Rattle.words.specs.Ring.{ring}
 use Rattle.words.specs.Reversal.{rev_range}
 use Rattle.words.specs.Slots.{IsSlot, SlotsIn, padded}
 use Rattle.path_frontier.specs.declared.frontier.Frontier.{Frontier}
-use Rattle.path_frontier.specs.declared.frontier.Pushed.{Pushed}
-use Rattle.path_frontier.specs.declared.frontier.Pushed.TheVariants.{Done, Full}
-use Rattle.path_frontier.specs.declared.frontier.Popped.{Popped}
-use Rattle.path_frontier.specs.declared.frontier.Popped.TheVariants.{Item, Empty}
+use Rattle.std.specs.Prelude.{Option, Some, None}
 pub mod Held
 pub mod Laws
 pub mod Stands
@@ -107,18 +104,18 @@ pub record Waits (f : Frontier) (ws : List ℕ) (rest pending : List (List ℕ))
 -- ---- what a push answers
 
 -- the frontier after it: full exactly when every slot is taken, and then no word is changed
-abbrev pub PushFrame : Frontier → List ℕ → Pushed → List ℕ → Type 0
-PushFrame f ws (Done r) ws' = (f.count < f.capacity) × (r ≡ pushed f) × Framed r ws'
-PushFrame f ws Full ws' = (f.count ≡ f.capacity) × (ws' ≡ ws)
+abbrev pub PushFrame : Frontier → List ℕ → Option Frontier → List ℕ → Type 0
+PushFrame f ws (Some r) ws' = (f.count < f.capacity) × (r ≡ pushed f) × Framed r ws'
+PushFrame f ws None ws' = (f.count ≡ f.capacity) × (ws' ≡ ws)
 
 -- the items after it, by whether a slot is free
-abbrev pub Puts : Pushed → Bool → List ℕ → List (List ℕ) → List (List ℕ) → Type 0
-Puts (Done r) true ws rest pending = Waits r ws rest pending
-Puts (Done r) false ws rest pending = ⊥
-Puts Full true ws rest pending = ⊥
-Puts Full false ws rest pending = Unit {0}
+abbrev pub Puts : Option Frontier → Bool → List ℕ → List (List ℕ) → List (List ℕ) → Type 0
+Puts (Some r) true ws rest pending = Waits r ws rest pending
+Puts (Some r) false ws rest pending = ⊥
+Puts None true ws rest pending = ⊥
+Puts None false ws rest pending = Unit {0}
 
-pub record Pushes (f : Frontier) (ws s : List ℕ) (a : Pushed) (ws' : List ℕ) : Type 0 where
+pub record Pushes (f : Frontier) (ws s : List ℕ) (a : Option Frontier) (ws' : List ℕ) : Type 0 where
   pub frame : PushFrame f ws a ws'
   pub same_length : length ws' ≡ length ws
   pub waits : (rest pending : List (List ℕ)) → Waits f ws rest pending → Puts a (ltb (length rest + length pending) f.capacity) ws' rest (pending ++ (s ∷ []))
@@ -126,18 +123,18 @@ pub record Pushes (f : Frontier) (ws s : List ℕ) (a : Pushed) (ws' : List ℕ)
 -- ---- what a pop answers
 
 -- the frontier after it: empty exactly when nothing waits, and then no word of the area is changed
-abbrev pub PopFrame : Frontier → List ℕ → Popped → List ℕ → Type 0
-PopFrame f ws (Item r) ws' = Shrunk f r × Framed r ws'
-PopFrame f ws Empty ws' = (f.count ≡ 0) × (ws' ≡ ws)
+abbrev pub PopFrame : Frontier → List ℕ → Option Frontier → List ℕ → Type 0
+PopFrame f ws (Some r) ws' = Shrunk f r × Framed r ws'
+PopFrame f ws None ws' = (f.count ≡ 0) × (ws' ≡ ws)
 
 -- the item s that is taken and the items after it, by what waited in the order of taking
-abbrev pub Takes : Popped → List ℕ → List ℕ → List (List ℕ) → Type 0
-Takes (Item r) s ws [] = ⊥
-Takes (Item r) s ws (x ∷ xs) = (s ≡ x) × Waits r ws xs []
-Takes Empty s ws [] = Unit {0}
-Takes Empty s ws (x ∷ xs) = ⊥
+abbrev pub Takes : Option Frontier → List ℕ → List ℕ → List (List ℕ) → Type 0
+Takes (Some r) s ws [] = ⊥
+Takes (Some r) s ws (x ∷ xs) = (s ≡ x) × Waits r ws xs []
+Takes None s ws [] = Unit {0}
+Takes None s ws (x ∷ xs) = ⊥
 
-pub record Pops (f : Frontier) (ws : List ℕ) (a : Popped) (s ws' : List ℕ) : Type 0 where
+pub record Pops (f : Frontier) (ws : List ℕ) (a : Option Frontier) (s ws' : List ℕ) : Type 0 where
   pub frame : PopFrame f ws a ws'
   pub same_length : length ws' ≡ length ws
   pub waits : (rest pending : List (List ℕ)) → Waits f ws rest pending → Takes a s ws' (merged f.order rest pending)

@@ -2,7 +2,6 @@
 // Document 01, "Budget and frontier": "Breadth-first is a queue; depth-first takes the first pushed of the newest successors"; 31 of "Turned back".
 ghost use Rattle.std.specs.Prelude.{◌≡◌, ◌⊎◌, ◌+◌, ◌≤◌, ◌<◌, length};
 ghost use Rattle.semantics.specs.Limits.{slot_length};
-ghost use Rattle.semantics.specs.Enumeration.{greater};
 ghost use Rattle.semantics.specs.Words.{zeros};
 ghost use Rattle.words.specs.Slots.{IsSlot};
 ghost use Rattle.path_frontier.specs.Frontier.{empty, greatest_in, taken, Framed, Front, Back, Pushes, Pops, Wider, Widens, MakesRoom};
@@ -25,18 +24,6 @@ pub struct Frontier {
     pub pending: usize,
     pub capacity: usize,
     pub most: usize,
-}
-
-#[derive(Clone, Copy)]
-pub enum Pushed {
-    Done(Frontier),
-    Full,
-}
-
-#[derive(Clone, Copy)]
-pub enum Popped {
-    Item(Frontier),
-    Empty,
 }
 
 // The slot that is n behind the first, going round at the end. The sum is taken only where it stays inside.
@@ -65,16 +52,6 @@ pub fn longer(slot: usize, words: usize) -> usize
     SLOT_WORDS
 }
 
-// The greater of two.
-fn greater(m: usize, n: usize) -> usize
-    ensures { result ≡ greater m n }
-{
-    if m < n {
-        return n;
-    }
-    m
-}
-
 impl Frontier {
     // Nothing waits.
     pub fn new(order: SearchOrder, length: usize, capacity: usize) -> Frontier
@@ -91,42 +68,44 @@ impl Frontier {
         }
     }
 
-    // One more waits, behind the others, unless all slots are taken.
-    pub fn push(self, work: &mut [u32], words: &[u32]) -> Pushed
+    // One more waits, behind the others; `None` when all slots are taken.
+    pub fn push(self, work: &mut [u32], words: &[u32]) -> Option<Frontier>
         requires { Framed self work.old × IsSlot self.length words.now }
         ensures { Pushes self work.old words.now result work.new }
     {
         if self.count < self.capacity {
             let at = around(self.first, self.count, self.capacity);
             slots::write_slot(work, self.length, at, words);
-            let mut next = self;
-            next.count = self.count + 1;
-            next.pending = self.pending + 1;
-            return Pushed::Done(next);
+            return Some(Frontier {
+                count: self.count + 1,
+                pending: self.pending + 1,
+                ..self
+            });
         }
-        Pushed::Full
+        None
     }
 
-    // The next one is copied out and waits no more: its slot serves again.
-    pub fn pop(self, work: &mut [u32], into: &mut [u32]) -> Popped
+    // The next one is copied out and waits no more: its slot serves again. `None` when nothing waits. It is compiled into the searches, as `Search::push` is: as a call
+    // it hands the frontier over in memory, and a direct search takes up to half as many instructions more.
+    #[inline(always)]
+    pub fn pop(self, work: &mut [u32], into: &mut [u32]) -> Option<Frontier>
         requires { Framed self work.old × IsSlot self.length into.old }
         ensures { Pops self work.old result into.new work.new }
     {
         if 0 < self.count {
-            let order = self.order;
-            return match order {
-                SearchOrder::BreadthFirst => Popped::Item(self.pop_front(work, into)),
-                SearchOrder::DepthFirst => Popped::Item(self.pop_back(work, into)),
-            };
+            return Some(match self.order {
+                SearchOrder::BreadthFirst => self.pop_front(work, into),
+                SearchOrder::DepthFirst => self.pop_back(work, into),
+            });
         }
-        Popped::Empty
+        None
     }
 
     // How many ever waited together: more may wait now than at any pop.
     pub fn greatest(self) -> usize
         ensures { result ≡ greatest_in self }
     {
-        greater(self.most, self.count)
+        self.most.max(self.count)
     }
 
     // One was taken, and slot `first` is the first now. How many waited with it is noted.
@@ -134,13 +113,13 @@ impl Frontier {
         requires { 0 < self.count }
         ensures { result ≡ taken self first }
     {
-        let mut next = self;
-        next.first = first;
-        next.count = self.count - 1;
-        next.pending = 0;
-        let most = self.greatest();
-        next.most = most;
-        next
+        Frontier {
+            first,
+            count: self.count - 1,
+            pending: 0,
+            most: self.greatest(),
+            ..self
+        }
     }
 
     // The first slot of the ring is taken. What is left is told before the slot is copied: the counts need not be kept over the copy.
@@ -185,9 +164,10 @@ impl Frontier {
     {
         let used = self.in_use();
         slots::widen_slots(work, self.length, words, used, &mut slot[0..words]);
-        let mut next = self;
-        next.length = words;
-        next
+        Frontier {
+            length: words,
+            ..self
+        }
     }
 
     pub fn widen(self, work: &mut [u32], words: usize) -> Frontier
@@ -200,6 +180,7 @@ impl Frontier {
 
     // Slots in which so many words have a place. Copies take longer then, and few items are as long as any may be: so they get more words only
     // when one is too long for them.
+    #[inline(always)]
     pub fn make_room(self, work: &mut [u32], words: usize) -> Frontier
         requires { Framed self work.old × Wider self work.old slot_length × (words ≤ slot_length) }
         ensures { MakesRoom self work.old words result work.new }

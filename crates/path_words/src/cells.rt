@@ -26,7 +26,7 @@ pub const SCOPE: u32 = layout::SCOPE as u32;
 pub(crate) fn word(words: &[u32], at: usize) -> u32
     ensures { result ≡ get_or words.now at 0 }
 {
-    if at < words.len() { words[at] } else { 0 }
+    words.get(at).copied().unwrap_or(0)
 }
 
 // One number of step k.

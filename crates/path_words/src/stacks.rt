@@ -21,14 +21,12 @@ pub(crate) fn write_scopes(steps: &[u32], top: u32, area: &mut [u32], from: usiz
 {
     let mut at = from;
     let mut cell = top;
-    let mut left = top;
-    while 0 < left {
+    for _ in 0..top {
         if cell < 1 {
             return put(area, at, NONE);
         }
         at = put_item(area, at, SCOPE, part(steps, cell - 1, cells::SCOPE));
         cell = part(steps, cell - 1, cells::SCOPES);
-        left -= 1;
     }
     put(area, at, NONE)
 }
@@ -54,14 +52,12 @@ pub(crate) fn write_symbols(steps: &[u32], top: u32, area: &mut [u32], from: usi
 {
     let mut at = from;
     let mut cell = top;
-    let mut left = top;
-    while 0 < left {
+    for _ in 0..top {
         if cell < 1 {
             return put(area, at, NONE);
         }
         at = write_symbol(steps, cell - 1, area, at);
         cell = part(steps, cell - 1, cells::BELOW);
-        left -= 1;
     }
     put(area, at, NONE)
 }

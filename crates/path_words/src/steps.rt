@@ -20,7 +20,7 @@ const JUMP: u32 = 2;
 fn flag(flags: &[bool], at: usize) -> bool
     ensures { result ≡ get_or flags.now at false }
 {
-    if at < flags.len() { flags[at] } else { false }
+    flags.get(at).copied().unwrap_or(false)
 }
 
 // A jump leads to where the path stands behind its edge.
@@ -41,12 +41,10 @@ pub(crate) fn write_steps(path: Path, area: &mut [u32], from: usize) -> usize
     let jumps = path.jumps;
     let steps = path.steps;
     let mut at = from;
-    let mut i: u32 = 0;
-    while i < path.count {
+    for i in 0..path.count {
         at = put_item(area, at, EDGE, word(&edges, i as usize));
         let to = part(&steps, i + 1, cells::END);
         at = write_jump(flag(&jumps, i as usize), to, area, at);
-        i += 1;
     }
     put(area, at, NONE)
 }

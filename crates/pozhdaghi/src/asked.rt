@@ -1,25 +1,19 @@
 // What a call is asked, read from the caller's numbers: specs/Asked.antt.
-ghost use Rattle.std.specs.Prelude.{◌≡◌, get_or};
+ghost use Rattle.std.specs.Prelude.{◌≡◌};
 ghost use Rattle.semantics.specs.Asked.{order_asked, limit_of, length_asked, expansions_asked, complete_asked, limits_asked};
 ghost use Rattle.pozhdaghi.specs.Asked.{config_asked};
 
+use crate::numbers::number;
 use partial_state::extraction::Config;
 use semantics::search::{Limit, SearchLimits, SearchOrder};
-
-// The number at a place; 0 behind the last.
-fn number(asked: &[u64], at: usize) -> u64
-    ensures { result ≡ get_or asked.now at 0 }
-{
-    if at < asked.len() { asked[at] } else { 0 }
-}
 
 fn limit(given: u64, value: u64) -> Limit
     ensures { result ≡ limit_of given value }
 {
     if 0 < given {
-        return Limit::AtMost(value);
+        return Some(value);
     }
-    Limit::Absent
+    None
 }
 
 pub(crate) fn order(asked: &[u64]) -> SearchOrder

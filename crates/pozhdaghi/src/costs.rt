@@ -5,7 +5,7 @@ ghost use Rattle.semantics.specs.Written.{written};
 ghost use Rattle.semantics.specs.Told.{told_entered, told_trend};
 ghost use Rattle.semantics.specs.Entries.{begin_window, enter_window, report_window};
 
-use crate::numbers;
+use crate::numbers::Tell;
 use window::counts;
 
 // Empty; no answer, as nothing is refused.
@@ -21,7 +21,7 @@ pub fn pozhdaghi_window_enter(words: &mut [u32], count: u64, answer: &mut [u64])
     ensures words_after { words.new ≡ (enter_window words.old count).window }
 {
     let entered = counts::enter(words, count);
-    numbers::write(numbers::of_entered(entered), answer);
+    entered.tell(answer);
 }
 
 // The sum and the greatest.
@@ -29,5 +29,5 @@ pub fn pozhdaghi_window_report(words: &[u32], answer: &mut [u64])
     ensures { answer.new ≡ written (length answer.old) (told_trend (report_window words.now)) }
 {
     let trend = counts::report(words);
-    numbers::write(numbers::pair(trend.sum, trend.greatest as u64), answer);
+    trend.tell(answer);
 }

@@ -4,7 +4,8 @@ ghost use Rattle.semantics.specs.Entries.{key_of, flow_asked};
 ghost use Rattle.semantics.specs.Written.{written};
 ghost use Rattle.semantics.specs.Told.{told_flow};
 
-use crate::{asked, numbers};
+use crate::asked;
+use crate::numbers::Tell;
 use flow_directory::directory;
 
 pub fn pozhdaghi_resolve_flow(
@@ -29,5 +30,5 @@ pub fn pozhdaghi_resolve_flow(
     let found = directory::resolve(
         image, visible, rows, isin, tranche, leg, order, limits, work, res,
     );
-    numbers::write(numbers::of_flow(found), answer);
+    found.tell(answer);
 }

@@ -40,9 +40,11 @@ pub use window::counts::{begin as begin_window, enter as enter_window, report as
 // What they take and answer.
 pub use path::replay::ReplayOutcome;
 pub use semantics::answer::{
-    Checked, Compaction, Conversion, Creation, Definitions, EdgeReading, Entered, Finding, Flow,
-    Judgement, LinearResolution, Listing, NodeReading, Replacement, Replayed, Resolution,
-    Rewriting, Tallying, Trend,
+    Checked, Compaction, CompactionRefusal, Conversion, ConversionRefusal, Counts, Creation,
+    CreationRefusal, Definitions, EdgeReading, Entered, EntryRefusal, Finding, FindingRefusal,
+    Flow, FlowRefusal, Flowed, Judgement, LinearResolution, Listing, ListingRefusal, LiveEdge,
+    NodeReading, ReadingRefusal, Replacement, ReplacementRefusal, Replayed, Resolution,
+    ResolutionRefusal, Resolved, Rewriting, RewritingRefusal, Tallying, Trend, TurnedBack,
 };
 pub use semantics::graph::{EdgeId, FileId, Node, NodeId, PartialPathId};
 pub use semantics::refusal::{

@@ -4,7 +4,8 @@ ghost use Rattle.semantics.specs.Entries.{name_asked};
 ghost use Rattle.semantics.specs.Written.{written};
 ghost use Rattle.semantics.specs.Told.{told_finding};
 
-use crate::{asked, numbers};
+use crate::asked;
+use crate::numbers::Tell;
 use finding::name;
 use semantics::graph::NodeId;
 
@@ -25,5 +26,5 @@ pub fn pozhdaghi_find_name(
 {
     let limit = asked::length(asked);
     let found = name::find_name(image, visible, NodeId(node), limit, work, res);
-    numbers::write(numbers::of_finding(found), answer);
+    found.tell(answer);
 }

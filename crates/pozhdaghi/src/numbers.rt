@@ -1,16 +1,17 @@
-// An answer as numbers, and written into the caller's area: specs/Written.antt here and in path_words.
-ghost use Rattle.std.specs.Prelude.{◌≡◌, [], ◌∷◌, ◌++◌, length, get_or};
+// An answer as numbers, written into the caller's area. What each case of an answer is told by: semantics/specs/Told.antt.
+ghost use Rattle.std.specs.Prelude.{ℕ, ◌≡◌, List, [], ◌∷◌, ◌++◌, length, get_or};
 ghost use Rattle.semantics.specs.Written.{written};
-ghost use Rattle.semantics.specs.Told.{told_flag, told_stats, told_partial_stats};
+ghost use Rattle.semantics.specs.Told.{told_flag, told_stats, told_partial_stats, told_node, many_definitions, one_definition};
 ghost use Rattle.semantics.specs.Told.{told_checked, told_replayed, told_judgement, told_resolution, told_linear_resolution, told_compaction, told_conversion, told_creation, told_replacement, told_finding, told_rewriting};
-ghost use Rattle.semantics.specs.Told.{told_entered, told_flow, many_definitions, one_definition, told_node, told_node_reading, told_edge_reading, told_listing};
+ghost use Rattle.semantics.specs.Told.{told_entered, told_trend, told_flow, told_node_reading, told_edge_reading, told_listing};
 ghost use Rattle.told.specs.Numbers.{numbers_of};
-ghost use Rattle.pozhdaghi.specs.Written.{numbers_in};
 
 use semantics::answer::{
-    Checked, Compaction, Conversion, Creation, Definitions, EdgeReading, Entered, Finding, Flow,
-    Judgement, LinearResolution, Listing, NodeReading, Replacement, Replayed, Resolution,
-    Rewriting,
+    Checked, Compaction, CompactionRefusal, Conversion, ConversionRefusal, Creation,
+    CreationRefusal, Definitions, EdgeReading, Entered, EntryRefusal, Finding, FindingRefusal,
+    Flow, FlowRefusal, Flowed, Judgement, LinearResolution, Listing, ListingRefusal, LiveEdge,
+    NodeReading, ReadingRefusal, Replacement, ReplacementRefusal, Replayed, Resolution,
+    ResolutionRefusal, Resolved, Rewriting, RewritingRefusal, Trend, TurnedBack,
 };
 use semantics::graph::Node;
 use semantics::kinds;
@@ -25,383 +26,401 @@ const SEARCH: usize = 10;
 // The longest answer but a tally's: what a search tells, whether a cash flow has one definition, and that definition. Nothing else names this number.
 const MOST: usize = SEARCH + 2;
 
-// As many of the items as are counted.
-#[derive(Clone, Copy)]
-pub struct Numbers {
-    pub count: usize,
-    pub items: [u64; MOST],
+// A node's record: 0, its kind, file, symbol, attached scope and flag.
+const RECORD: usize = 6;
+
+// What a replacement tells: 0, three counts, two flags and the waiting figure.
+const REPLACED: usize = 7;
+
+// The number at a place; 0 behind the last.
+pub(crate) fn number(numbers: &[u64], at: usize) -> u64
+    ensures { result ≡ get_or numbers.now at 0 }
+{
+    numbers.get(at).copied().unwrap_or(0)
 }
 
-// A refusal has a number and at most two values.
-const TOLD: u32 = 3;
+// As many as fit, and zeros behind them.
+pub(crate) fn write(numbers: &[u64], answer: &mut [u64])
+    ensures { answer.new ≡ written (length answer.old) numbers.now }
+{
+    for (i, word) in answer.iter_mut().enumerate() {
+        *word = number(numbers, i);
+    }
+}
+
+// One number alone.
+fn bare(number: u64, answer: &mut [u64])
+    ensures { answer.new ≡ written (length answer.old) (number ∷ []) }
+{
+    write(&[number], answer);
+}
+
+// An answer that is told by numbers.
+pub(crate) trait Tell {
+    ghost told: { Self → List ℕ };
+
+    fn tell(self, answer: &mut [u64])
+        ensures { answer.new ≡ written (length answer.old) (told self) };
+}
 
 fn flag(set: bool) -> u64
     ensures { result ≡ told_flag set }
 {
-    if set { 1 } else { 0 }
+    u64::from(set)
 }
 
-pub(crate) fn of_told(told: Told) -> Numbers
-    ensures { numbers_in result ≡ numbers_of told }
-{
-    let mut items = [0; MOST];
-    items[0] = told.number as u64;
-    items[1] = told.first as u64;
-    items[2] = told.second as u64;
-    if told.count < TOLD {
-        return Numbers {
-            count: told.count as usize,
-            items,
-        };
-    }
-    Numbers {
-        count: TOLD as usize,
-        items,
+// A refusal has a number and at most two values.
+impl Tell for Told {
+    ghost told = { numbers_of };
+
+    fn tell(self, answer: &mut [u64]) {
+        let numbers = [
+            u64::from(self.number),
+            u64::from(self.first),
+            u64::from(self.second),
+        ];
+        match numbers.get(..self.count as usize) {
+            Some(counted) => write(counted, answer),
+            None => write(&numbers, answer),
+        }
     }
 }
 
-fn bare(number: u64) -> Numbers
-    ensures { numbers_in result ≡ number ∷ [] }
+fn record(kind: u32, file: u32, symbol: u64, scope: u32, marked: bool) -> [u64; RECORD]
+    ensures { result ≡ 0 ∷ kind ∷ file ∷ symbol ∷ scope ∷ told_flag marked ∷ [] }
 {
-    let mut items = [0; MOST];
-    items[0] = number;
-    Numbers { count: 1, items }
+    [
+        0,
+        u64::from(kind),
+        u64::from(file),
+        symbol,
+        u64::from(scope),
+        flag(marked),
+    ]
 }
 
-pub(crate) fn pair(first: u64, second: u64) -> Numbers
-    ensures { numbers_in result ≡ first ∷ second ∷ [] }
-{
-    let mut items = [0; MOST];
-    items[0] = first;
-    items[1] = second;
-    Numbers { count: 2, items }
-}
-
-// 0 and three numbers: the counts of an image, or an edge.
-fn three(first: u32, second: u32, third: u32) -> Numbers
-    ensures { numbers_in result ≡ 0 ∷ first ∷ second ∷ third ∷ [] }
-{
-    let mut items = [0; MOST];
-    items[1] = first as u64;
-    items[2] = second as u64;
-    items[3] = third as u64;
-    Numbers { count: 4, items }
-}
-
-fn name(reference: u32) -> Numbers
-    ensures { numbers_in result ≡ 0 ∷ 1 ∷ reference ∷ [] }
-{
-    let mut items = [0; MOST];
-    items[1] = 1;
-    items[2] = reference as u64;
-    Numbers { count: 3, items }
-}
-
-// A node's record: its kind, file, symbol, attached scope and flag.
-fn of_record(kind: u32, file: u32, symbol: u64, scope: u32, marked: bool) -> Numbers
-    ensures { numbers_in result ≡ 0 ∷ kind ∷ file ∷ symbol ∷ scope ∷ told_flag marked ∷ [] }
-{
-    let mut items = [0; MOST];
-    items[1] = kind as u64;
-    items[2] = file as u64;
-    items[3] = symbol;
-    items[4] = scope as u64;
-    items[5] = flag(marked);
-    Numbers { count: 6, items }
-}
-
-// What a search tells, and behind it what is told of the definitions.
-fn searched(paths: u64, stats: SearchStats, many: u64, one: u64) -> [u64; MOST]
-    ensures { result ≡ 0 ∷ paths ∷ (told_stats stats ++ many ∷ one ∷ []) }
-{
-    let mut items = [0; MOST];
-    items[1] = paths;
-    items[2] = stats.expanded;
-    items[3] = stats.complete;
-    items[4] = stats.rejected;
-    items[5] = stats.cycles;
-    items[6] = flag(stats.length_limited);
-    items[7] = flag(stats.count_limited);
-    items[8] = flag(stats.complete_limited);
-    items[9] = stats.waited;
-    items[10] = many;
-    items[11] = one;
-    items
-}
-
-fn found(paths: u64, stats: SearchStats) -> Numbers
-    ensures { numbers_in result ≡ 0 ∷ paths ∷ told_stats stats }
-{
-    Numbers {
-        count: SEARCH,
-        items: searched(paths, stats, 0, 0),
-    }
-}
-
-fn resolved(paths: u64, stats: SearchStats, many: u64, one: u64) -> Numbers
-    ensures { numbers_in result ≡ 0 ∷ paths ∷ (told_stats stats ++ many ∷ one ∷ []) }
-{
-    Numbers {
-        count: MOST,
-        items: searched(paths, stats, many, one),
-    }
-}
-
-fn replaced(stats: PartialPathStats) -> Numbers
-    ensures { numbers_in result ≡ 0 ∷ told_partial_stats stats }
-{
-    let mut items = [0; MOST];
-    items[1] = stats.expanded;
-    items[2] = stats.found;
-    items[3] = stats.cycles;
-    items[4] = flag(stats.length_limited);
-    items[5] = flag(stats.count_limited);
-    items[6] = stats.waited;
-    Numbers { count: 7, items }
-}
-
-pub(crate) fn of_checked(answer: Checked) -> Numbers
-    ensures { numbers_in result ≡ told_checked answer }
-{
-    match answer {
-        Checked::Accepted {
-            files,
-            nodes,
-            edges,
-        } => three(files, nodes, edges),
-        Checked::Refused(r) => of_told(refusal::image(r)),
-    }
-}
-
-pub(crate) fn of_replayed(answer: Replayed) -> Numbers
-    ensures { numbers_in result ≡ told_replayed answer }
-{
-    match answer {
-        Replayed::Done => bare(0),
-        Replayed::Image(r) => of_told(refusal::image(r)),
-        Replayed::Refused(r) => of_told(refusal::replay(r)),
-    }
-}
-
-pub(crate) fn of_judgement(answer: Judgement) -> Numbers
-    ensures { numbers_in result ≡ told_judgement answer }
-{
-    match answer {
-        Judgement::Done { holds } => pair(0, flag(holds)),
-        Judgement::Image(r) => of_told(refusal::image(r)),
-        Judgement::Refused(r) => of_told(refusal::replay(r)),
-    }
-}
-
-pub(crate) fn of_resolution(answer: Resolution) -> Numbers
-    ensures { numbers_in result ≡ told_resolution answer }
-{
-    match answer {
-        Resolution::Done { paths, stats } => found(paths, stats),
-        Resolution::Image(r) => of_told(refusal::image(r)),
-        Resolution::Database(r) => of_told(refusal::database(r)),
-        Resolution::Refused(r) => of_told(refusal::search(r)),
-    }
-}
-
-pub(crate) fn of_linear(answer: LinearResolution) -> Numbers
-    ensures { numbers_in result ≡ told_linear_resolution answer }
-{
-    match answer {
-        LinearResolution::Done { paths, stats } => found(paths, stats),
-        LinearResolution::Image(r) => of_told(refusal::image(r)),
-        LinearResolution::Refused(r) => of_told(refusal::linear(r)),
-    }
-}
-
-fn of_definitions(definitions: Definitions, paths: u64, stats: SearchStats) -> Numbers
-    ensures { numbers_in result ≡ 0 ∷ paths ∷ (told_stats stats ++ many_definitions definitions ∷ one_definition definitions ∷ []) }
-{
-    match definitions {
-        Definitions::Nothing => resolved(paths, stats, 0, 0),
-        Definitions::One(node) => resolved(paths, stats, 1, node.0 as u64),
-        Definitions::Several => resolved(paths, stats, 2, 0),
-    }
-}
-
-pub(crate) fn of_flow(answer: Flow) -> Numbers
-    ensures { numbers_in result ≡ told_flow answer }
-{
-    match answer {
-        Flow::Done {
-            definitions,
-            paths,
-            stats,
-        } => of_definitions(definitions, paths, stats),
-        Flow::Image(r) => of_told(refusal::image(r)),
-        Flow::MalformedIsin => bare(41),
-        Flow::Disordered => bare(42),
-        Flow::UnknownKey => bare(43),
-        Flow::Refused(r) => of_told(refusal::search(r)),
-    }
-}
-
-pub(crate) fn of_finding(answer: Finding) -> Numbers
-    ensures { numbers_in result ≡ told_finding answer }
-{
-    match answer {
-        Finding::Found { reference } => name(reference.0),
-        Finding::Nothing => pair(0, 0),
-        Finding::Image(r) => of_told(refusal::image(r)),
-        Finding::NotDefinition(node) => of_told(refusal::not_definition(node)),
-        Finding::Refused(r) => of_told(refusal::search(r)),
-    }
-}
-
-pub(crate) fn of_rewriting(answer: Rewriting) -> Numbers
-    ensures { numbers_in result ≡ told_rewriting answer }
-{
-    match answer {
-        Rewriting::Done { length } => pair(0, length as u64),
-        Rewriting::Image(r) => of_told(refusal::image(r)),
-        Rewriting::WideSymbol { place } => of_told(refusal::wide_symbol(place)),
-        Rewriting::NoRoom => of_told(refusal::no_room()),
-    }
-}
-
-fn of_node(node: Node) -> Numbers
-    ensures { numbers_in result ≡ 0 ∷ told_node node }
+fn node_record(node: Node) -> [u64; RECORD]
+    ensures { result ≡ 0 ∷ told_node node }
 {
     match node {
-        Node::Removed => of_record(kinds::REMOVED, 0, 0, 0, false),
-        Node::Root => of_record(kinds::ROOT, 0, 0, 0, false),
-        Node::JumpToScope => of_record(kinds::JUMP_TO_SCOPE, 0, 0, 0, false),
-        Node::Scope { file, exported } => of_record(kinds::SCOPE, file.0, 0, 0, exported),
+        Node::Removed => record(kinds::REMOVED, 0, 0, 0, false),
+        Node::Root => record(kinds::ROOT, 0, 0, 0, false),
+        Node::JumpToScope => record(kinds::JUMP_TO_SCOPE, 0, 0, 0, false),
+        Node::Scope { file, exported } => record(kinds::SCOPE, file.0, 0, 0, exported),
         Node::Push {
             file,
             symbol,
             reference,
-        } => of_record(kinds::PUSH, file.0, symbol, 0, reference),
+        } => record(kinds::PUSH, file.0, symbol, 0, reference),
         Node::Pop {
             file,
             symbol,
             definition,
-        } => of_record(kinds::POP, file.0, symbol, 0, definition),
+        } => record(kinds::POP, file.0, symbol, 0, definition),
         Node::PushScoped {
             file,
             symbol,
             scope,
             reference,
-        } => of_record(kinds::PUSH_SCOPED, file.0, symbol, scope.0, reference),
+        } => record(kinds::PUSH_SCOPED, file.0, symbol, scope.0, reference),
         Node::PopScoped {
             file,
             symbol,
             definition,
-        } => of_record(kinds::POP_SCOPED, file.0, symbol, 0, definition),
-        Node::DropScopes { file } => of_record(kinds::DROP_SCOPES, file.0, 0, 0, false),
+        } => record(kinds::POP_SCOPED, file.0, symbol, 0, definition),
+        Node::DropScopes { file } => record(kinds::DROP_SCOPES, file.0, 0, 0, false),
     }
 }
 
-pub(crate) fn of_node_reading(answer: NodeReading) -> Numbers
-    ensures { numbers_in result ≡ told_node_reading answer }
+fn replaced(stats: PartialPathStats) -> [u64; REPLACED]
+    ensures { result ≡ 0 ∷ told_partial_stats stats }
 {
-    match answer {
-        NodeReading::Read(node) => of_node(node),
-        NodeReading::Image(r) => of_told(refusal::image(r)),
-        NodeReading::Unknown(n) => pair(10, n.0 as u64),
+    [
+        0,
+        stats.expanded,
+        stats.found,
+        stats.cycles,
+        flag(stats.length_limited),
+        flag(stats.count_limited),
+        stats.waited,
+    ]
+}
+
+// What a search tells, and behind it what is told of the definitions.
+fn resolved(paths: u64, stats: SearchStats, many: u64, one: u64) -> [u64; MOST]
+    ensures { result ≡ 0 ∷ paths ∷ (told_stats stats ++ many ∷ one ∷ []) }
+{
+    [
+        0,
+        paths,
+        stats.expanded,
+        stats.complete,
+        stats.rejected,
+        stats.cycles,
+        flag(stats.length_limited),
+        flag(stats.count_limited),
+        flag(stats.complete_limited),
+        stats.waited,
+        many,
+        one,
+    ]
+}
+
+fn tell_found(paths: u64, stats: SearchStats, answer: &mut [u64])
+    ensures { answer.new ≡ written (length answer.old) (0 ∷ paths ∷ told_stats stats) }
+{
+    let numbers = resolved(paths, stats, 0, 0);
+    write(&numbers[..SEARCH], answer);
+}
+
+fn tell_definitions(definitions: Definitions, paths: u64, stats: SearchStats, answer: &mut [u64])
+    ensures { answer.new ≡ written (length answer.old) (0 ∷ paths ∷ (told_stats stats ++ many_definitions definitions ∷ one_definition definitions ∷ [])) }
+{
+    match definitions {
+        Definitions::Nothing => write(&resolved(paths, stats, 0, 0), answer),
+        Definitions::One(node) => write(&resolved(paths, stats, 1, u64::from(node.0)), answer),
+        Definitions::Several => write(&resolved(paths, stats, 2, 0), answer),
     }
 }
 
-pub(crate) fn of_edge_reading(answer: EdgeReading) -> Numbers
-    ensures { numbers_in result ≡ told_edge_reading answer }
-{
-    match answer {
-        EdgeReading::Read {
-            source,
-            target,
-            precedence,
-        } => three(source.0, target.0, bytes::unsigned(precedence)),
-        EdgeReading::Image(r) => of_told(refusal::image(r)),
-        EdgeReading::Unknown(e) => pair(12, e.0 as u64),
+impl Tell for Checked {
+    ghost told = { told_checked };
+
+    fn tell(self, answer: &mut [u64]) {
+        match self {
+            Ok(counts) => {
+                write(
+                    &[
+                        0,
+                        u64::from(counts.files),
+                        u64::from(counts.nodes),
+                        u64::from(counts.edges),
+                    ],
+                    answer,
+                )
+            },
+            Err(r) => Told::from(r).tell(answer),
+        }
     }
 }
 
-pub(crate) fn of_listing(answer: Listing) -> Numbers
-    ensures { numbers_in result ≡ told_listing answer }
-{
-    match answer {
-        Listing::Done { count } => pair(0, count as u64),
-        Listing::Image(r) => of_told(refusal::image(r)),
-        Listing::Unknown(n) => pair(10, n.0 as u64),
-        Listing::NoRoom => of_told(refusal::no_room()),
+impl Tell for Replayed {
+    ghost told = { told_replayed };
+
+    fn tell(self, answer: &mut [u64]) {
+        match self {
+            Ok(()) => bare(0, answer),
+            Err(TurnedBack::Image(r)) => Told::from(r).tell(answer),
+            Err(TurnedBack::Refused(r)) => Told::from(r).tell(answer),
+        }
     }
 }
 
-pub(crate) fn of_conversion(answer: Conversion) -> Numbers
-    ensures { numbers_in result ≡ told_conversion answer }
-{
-    match answer {
-        Conversion::Done => bare(0),
-        Conversion::Malformed => bare(35),
-        Conversion::Full => bare(33),
-        Conversion::TooLong => bare(39),
+impl Tell for Judgement {
+    ghost told = { told_judgement };
+
+    fn tell(self, answer: &mut [u64]) {
+        match self {
+            Ok(holds) => write(&[0, flag(holds)], answer),
+            Err(TurnedBack::Image(r)) => Told::from(r).tell(answer),
+            Err(TurnedBack::Refused(r)) => Told::from(r).tell(answer),
+        }
     }
 }
 
-pub(crate) fn of_compaction(answer: Compaction) -> Numbers
-    ensures { numbers_in result ≡ told_compaction answer }
-{
-    match answer {
-        Compaction::Done { live } => pair(0, live as u64),
-        Compaction::Malformed => bare(35),
-        Compaction::ListTooShort => bare(32),
+impl Tell for Resolution {
+    ghost told = { told_resolution };
+
+    fn tell(self, answer: &mut [u64]) {
+        match self {
+            Ok(Resolved { paths, stats }) => tell_found(paths, stats, answer),
+            Err(ResolutionRefusal::Image(r)) => Told::from(r).tell(answer),
+            Err(ResolutionRefusal::Database(r)) => Told::from(r).tell(answer),
+            Err(ResolutionRefusal::Refused(r)) => Told::from(r).tell(answer),
+        }
     }
 }
 
-pub(crate) fn of_entered(answer: Entered) -> Numbers
-    ensures { numbers_in result ≡ told_entered answer }
-{
-    match answer {
-        Entered::Done => bare(0),
-        Entered::TooGreat => bare(40),
+impl Tell for LinearResolution {
+    ghost told = { told_linear_resolution };
+
+    fn tell(self, answer: &mut [u64]) {
+        match self {
+            Ok(Resolved { paths, stats }) => tell_found(paths, stats, answer),
+            Err(TurnedBack::Image(r)) => Told::from(r).tell(answer),
+            Err(TurnedBack::Refused(r)) => Told::from(r).tell(answer),
+        }
     }
 }
 
-pub(crate) fn of_creation(answer: Creation) -> Numbers
-    ensures { numbers_in result ≡ told_creation answer }
-{
-    match answer {
-        Creation::Done => bare(0),
-        Creation::Image(r) => of_told(refusal::image(r)),
-        Creation::Malformed => bare(35),
+impl Tell for Flow {
+    ghost told = { told_flow };
+
+    fn tell(self, answer: &mut [u64]) {
+        match self {
+            Ok(
+                Flowed {
+                    definitions,
+                    paths,
+                    stats,
+                },
+            ) => tell_definitions(definitions, paths, stats, answer),
+            Err(FlowRefusal::Image(r)) => Told::from(r).tell(answer),
+            Err(FlowRefusal::MalformedIsin) => bare(41, answer),
+            Err(FlowRefusal::Disordered) => bare(42, answer),
+            Err(FlowRefusal::UnknownKey) => bare(43, answer),
+            Err(FlowRefusal::Refused(r)) => Told::from(r).tell(answer),
+        }
     }
 }
 
-pub(crate) fn of_replacement(answer: Replacement) -> Numbers
-    ensures { numbers_in result ≡ told_replacement answer }
-{
-    match answer {
-        Replacement::Done { stats } => replaced(stats),
-        Replacement::Image(r) => of_told(refusal::image(r)),
-        Replacement::Database(r) => of_told(refusal::database(r)),
-        Replacement::Refused(r) => of_told(refusal::partial(r)),
-        Replacement::Full => bare(33),
+impl Tell for Finding {
+    ghost told = { told_finding };
+
+    fn tell(self, answer: &mut [u64]) {
+        match self {
+            Ok(Some(reference)) => write(&[0, 1, u64::from(reference.0)], answer),
+            Ok(None) => write(&[0, 0], answer),
+            Err(FindingRefusal::Image(r)) => Told::from(r).tell(answer),
+            Err(FindingRefusal::NotDefinition(node)) => refusal::not_definition(node).tell(answer),
+            Err(FindingRefusal::Refused(r)) => Told::from(r).tell(answer),
+        }
     }
 }
 
-// The number at a place; 0 behind the last.
-fn at(numbers: Numbers, i: usize) -> u64
-    ensures { result ≡ get_or (numbers_in numbers) i 0 }
-{
-    if MOST <= i {
-        return 0;
+impl Tell for Rewriting {
+    ghost told = { told_rewriting };
+
+    fn tell(self, answer: &mut [u64]) {
+        match self {
+            Ok(length) => write(&[0, u64::from(length)], answer),
+            Err(RewritingRefusal::Image(r)) => Told::from(r).tell(answer),
+            Err(RewritingRefusal::WideSymbol { place }) => refusal::wide_symbol(place).tell(answer),
+            Err(RewritingRefusal::NoRoom) => refusal::no_room().tell(answer),
+        }
     }
-    if numbers.count <= i {
-        return 0;
-    }
-    numbers.items[i]
 }
 
-// As many as fit, and zeros behind them.
-pub(crate) fn write(numbers: Numbers, answer: &mut [u64])
-    ensures { answer.new ≡ written (length answer.old) (numbers_in numbers) }
-{
-    for i in 0..answer.len() {
-        answer[i] = at(numbers, i);
+impl Tell for NodeReading {
+    ghost told = { told_node_reading };
+
+    fn tell(self, answer: &mut [u64]) {
+        match self {
+            Ok(node) => write(&node_record(node), answer),
+            Err(ReadingRefusal::Image(r)) => Told::from(r).tell(answer),
+            Err(ReadingRefusal::Unknown(n)) => write(&[10, u64::from(n.0)], answer),
+        }
+    }
+}
+
+impl Tell for EdgeReading {
+    ghost told = { told_edge_reading };
+
+    fn tell(self, answer: &mut [u64]) {
+        match self {
+            Ok(
+                LiveEdge {
+                    source,
+                    target,
+                    precedence,
+                },
+            ) => {
+                let number = bytes::unsigned(precedence);
+                write(
+                    &[
+                        0,
+                        u64::from(source.0),
+                        u64::from(target.0),
+                        u64::from(number),
+                    ],
+                    answer,
+                )
+            },
+            Err(ReadingRefusal::Image(r)) => Told::from(r).tell(answer),
+            Err(ReadingRefusal::Unknown(e)) => write(&[12, u64::from(e.0)], answer),
+        }
+    }
+}
+
+impl Tell for Listing {
+    ghost told = { told_listing };
+
+    fn tell(self, answer: &mut [u64]) {
+        match self {
+            Ok(count) => write(&[0, u64::from(count)], answer),
+            Err(ListingRefusal::Image(r)) => Told::from(r).tell(answer),
+            Err(ListingRefusal::Unknown(n)) => write(&[10, u64::from(n.0)], answer),
+            Err(ListingRefusal::NoRoom) => refusal::no_room().tell(answer),
+        }
+    }
+}
+
+impl Tell for Conversion {
+    ghost told = { told_conversion };
+
+    fn tell(self, answer: &mut [u64]) {
+        match self {
+            Ok(()) => bare(0, answer),
+            Err(ConversionRefusal::Malformed) => bare(35, answer),
+            Err(ConversionRefusal::Full) => bare(33, answer),
+            Err(ConversionRefusal::TooLong) => bare(39, answer),
+        }
+    }
+}
+
+impl Tell for Compaction {
+    ghost told = { told_compaction };
+
+    fn tell(self, answer: &mut [u64]) {
+        match self {
+            Ok(live) => write(&[0, u64::from(live)], answer),
+            Err(CompactionRefusal::Malformed) => bare(35, answer),
+            Err(CompactionRefusal::ListTooShort) => bare(32, answer),
+        }
+    }
+}
+
+impl Tell for Entered {
+    ghost told = { told_entered };
+
+    fn tell(self, answer: &mut [u64]) {
+        match self {
+            Ok(()) => bare(0, answer),
+            Err(EntryRefusal::TooGreat) => bare(40, answer),
+        }
+    }
+}
+
+impl Tell for Creation {
+    ghost told = { told_creation };
+
+    fn tell(self, answer: &mut [u64]) {
+        match self {
+            Ok(()) => bare(0, answer),
+            Err(CreationRefusal::Image(r)) => Told::from(r).tell(answer),
+            Err(CreationRefusal::Malformed) => bare(35, answer),
+        }
+    }
+}
+
+impl Tell for Replacement {
+    ghost told = { told_replacement };
+
+    fn tell(self, answer: &mut [u64]) {
+        match self {
+            Ok(stats) => write(&replaced(stats), answer),
+            Err(ReplacementRefusal::Image(r)) => Told::from(r).tell(answer),
+            Err(ReplacementRefusal::Database(r)) => Told::from(r).tell(answer),
+            Err(ReplacementRefusal::Refused(r)) => Told::from(r).tell(answer),
+            Err(ReplacementRefusal::Full) => bare(33, answer),
+        }
+    }
+}
+
+impl Tell for Trend {
+    ghost told = { told_trend };
+
+    fn tell(self, answer: &mut [u64]) {
+        write(&[self.sum, u64::from(self.greatest)], answer);
     }
 }

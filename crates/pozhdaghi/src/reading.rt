@@ -5,7 +5,7 @@ ghost use Rattle.semantics.specs.Written.{written};
 ghost use Rattle.semantics.specs.Told.{told_checked, told_replayed, told_judgement};
 ghost use Rattle.semantics.specs.PathWords.{path_words};
 
-use crate::numbers;
+use crate::numbers::Tell;
 use path::{judgement, replay};
 use path_words::write;
 use semantics::graph::NodeId;
@@ -16,7 +16,7 @@ pub fn pozhdaghi_check(image: &[u8], answer: &mut [u64])
     ensures { answer.new ≡ written (length answer.old) (told_checked (check_of image.now)) }
 {
     let checked = check::check(image);
-    numbers::write(numbers::of_checked(checked), answer);
+    checked.tell(answer);
 }
 
 // 0, and the path of a reference and an edge list; or the refusal, and zeros in the place of the path.
@@ -33,7 +33,7 @@ pub fn pozhdaghi_replay(
     let outcome = replay::replay(image, NodeId(reference), edges);
     let replayed = outcome.answer;
     write::write(outcome.path, path);
-    numbers::write(numbers::of_replayed(replayed), answer);
+    replayed.tell(answer);
 }
 
 // 0, then 1 if the path of a reference and an edge list is complete; or the refusal.
@@ -41,7 +41,7 @@ pub fn pozhdaghi_is_complete(image: &[u8], reference: u32, edges: &[u32], answer
     ensures { answer.new ≡ written (length answer.old) (told_judgement (complete_of image.now reference edges.now)) }
 {
     let judged = judgement::is_complete(image, NodeId(reference), edges);
-    numbers::write(numbers::of_judgement(judged), answer);
+    judged.tell(answer);
 }
 
 // 0, then 1 if the left path shadows the right one; or the refusal.
@@ -57,5 +57,5 @@ pub fn pozhdaghi_shadows(
         (told_judgement (shadows_of image.now left left_edges.now right right_edges.now)) }
 {
     let judged = judgement::shadows(image, NodeId(left), left_edges, NodeId(right), right_edges);
-    numbers::write(numbers::of_judgement(judged), answer);
+    judged.tell(answer);
 }

@@ -4,7 +4,7 @@ ghost use Rattle.semantics.specs.Entries.{node_of, edge_of, references_of, outgo
 ghost use Rattle.semantics.specs.Written.{written};
 ghost use Rattle.semantics.specs.Told.{told_node_reading, told_edge_reading, told_listing};
 
-use crate::numbers;
+use crate::numbers::Tell;
 use readers::{listing, records};
 use semantics::graph::{EdgeId, NodeId};
 
@@ -13,7 +13,7 @@ pub fn pozhdaghi_node(image: &[u8], visible: &[u8], node: u32, answer: &mut [u64
     ensures { answer.new ≡ written (length answer.old) (told_node_reading (node_of image.now visible.now node)) }
 {
     let read = records::node(image, visible, NodeId(node));
-    numbers::write(numbers::of_node_reading(read), answer);
+    read.tell(answer);
 }
 
 // 0, the source and target of an edge, and its precedence as 32 bits in two's complement.
@@ -21,7 +21,7 @@ pub fn pozhdaghi_edge(image: &[u8], visible: &[u8], edge: u32, answer: &mut [u64
     ensures { answer.new ≡ written (length answer.old) (told_edge_reading (edge_of image.now visible.now edge)) }
 {
     let read = records::edge(image, visible, EdgeId(edge));
-    numbers::write(numbers::of_edge_reading(read), answer);
+    read.tell(answer);
 }
 
 // 0, and how many references stand in the result area.
@@ -31,7 +31,7 @@ pub fn pozhdaghi_references(image: &[u8], visible: &[u8], res: &mut [u32], answe
     ensures res_after { res.new ≡ (references_of image.now visible.now res.old).result }
 {
     let listed = listing::references(image, visible, res);
-    numbers::write(numbers::of_listing(listed), answer);
+    listed.tell(answer);
 }
 
 // 0, and how many edges that leave the node stand in the result area.
@@ -47,5 +47,5 @@ pub fn pozhdaghi_outgoing(
     ensures res_after { res.new ≡ (outgoing_of image.now visible.now node res.old).result }
 {
     let listed = listing::outgoing(image, visible, NodeId(node), res);
-    numbers::write(numbers::of_listing(listed), answer);
+    listed.tell(answer);
 }

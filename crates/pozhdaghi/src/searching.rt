@@ -1,22 +1,21 @@
 // On numbers and slices: the searches. Each takes the set of visible files behind the image, and answers 0, the number of paths in the result slots, four counts and three flags; or the refusal.
-ghost use Rattle.std.specs.Prelude.{◌≡◌, ◌≤◌, length};
+ghost use Rattle.std.specs.Prelude.{◌≡◌, length};
 ghost use Rattle.semantics.specs.Entries.{direct_asked, linear_asked, stitched_asked};
 ghost use Rattle.semantics.specs.Written.{written};
-ghost use Rattle.semantics.specs.Image.{nodes_of, edges_of};
 ghost use Rattle.semantics.specs.Recorded.{recorded, returned};
 ghost use Rattle.semantics.specs.Told.{told_resolution, told_linear_resolution};
-ghost use Rattle.storage.specs.Index.{FEW};
 ghost use Rattle.reply.specs.Replies.{reply_of};
 
-use crate::{asked, numbers};
+use crate::asked;
+use crate::numbers::Tell;
 use direct_search::direct;
 use linear_search::linear;
 use reply::finish::Reply;
 use semantics::graph::NodeId;
 use stitching::stitched;
-use storage::check;
 
 // Direct search: the returned paths.
+// Kept: a function for each reply, here and of linear and stitched search, as each is the exported call of its name, and the C interface has both.
 pub fn pozhdaghi_direct(
     image: &[u8],
     visible: &[u8],
@@ -34,7 +33,7 @@ pub fn pozhdaghi_direct(
     let order = asked::order(asked);
     let limits = asked::limits(asked);
     let found = direct::search(image, visible, NodeId(reference), order, limits, work, res);
-    numbers::write(numbers::of_resolution(found), answer);
+    found.tell(answer);
 }
 
 // Direct search: the recorded paths.
@@ -63,32 +62,11 @@ pub fn pozhdaghi_direct_recorded(
         work,
         res,
     );
-    numbers::write(numbers::of_resolution(found), answer);
+    found.tell(answer);
 }
 
-// A linear search with a small index, for both replies. Like the next, it is called twice, and so compiled as a function of its own: a stack frame
-// with a large index has forty pages, and to touch them takes a third of the time of a call on a small image.
-fn linear_small(
-    image: &[u8],
-    visible: &[u8],
-    reference: u32,
-    asked: &[u64],
-    reply: Reply,
-    res: &mut [u32],
-    answer: &mut [u64],
-)
-    requires { (nodes_of image.now ≤ FEW) × (edges_of image.now ≤ FEW) }
-    ensures answer_after { answer.new ≡ written (length answer.old)
-        (told_linear_resolution (linear_asked (reply_of reply) image.now visible.now reference asked.now res.old).answer) }
-    ensures res_after { res.new ≡ (linear_asked (reply_of reply) image.now visible.now reference asked.now res.old).result }
-{
-    let limits = asked::limits(asked);
-    let found = linear::search_small(image, visible, reference, limits, reply, res);
-    numbers::write(numbers::of_linear(found), answer);
-}
-
-// And with a large one, which takes any image.
-fn linear_large(
+// A linear search for either reply.
+fn linear_for(
     image: &[u8],
     visible: &[u8],
     reference: u32,
@@ -102,8 +80,8 @@ fn linear_large(
     ensures res_after { res.new ≡ (linear_asked (reply_of reply) image.now visible.now reference asked.now res.old).result }
 {
     let limits = asked::limits(asked);
-    let found = linear::search_large(image, visible, reference, limits, reply, res);
-    numbers::write(numbers::of_linear(found), answer);
+    let found = linear::search_image(image, visible, reference, limits, reply, res);
+    found.tell(answer);
 }
 
 // Linear search: the returned paths. It has no order and takes no work area.
@@ -119,19 +97,7 @@ pub fn pozhdaghi_linear(
         (told_linear_resolution (linear_asked returned image.now visible.now reference asked.now res.old).answer) }
     ensures res_after { res.new ≡ (linear_asked returned image.now visible.now reference asked.now res.old).result }
 {
-    if check::is_small(image) {
-        linear_small(
-            image,
-            visible,
-            reference,
-            asked,
-            Reply::Returned,
-            res,
-            answer,
-        );
-        return;
-    }
-    linear_large(
+    linear_for(
         image,
         visible,
         reference,
@@ -155,19 +121,7 @@ pub fn pozhdaghi_linear_recorded(
         (told_linear_resolution (linear_asked recorded image.now visible.now reference asked.now res.old).answer) }
     ensures res_after { res.new ≡ (linear_asked recorded image.now visible.now reference asked.now res.old).result }
 {
-    if check::is_small(image) {
-        linear_small(
-            image,
-            visible,
-            reference,
-            asked,
-            Reply::Recorded,
-            res,
-            answer,
-        );
-        return;
-    }
-    linear_large(
+    linear_for(
         image,
         visible,
         reference,
@@ -207,7 +161,7 @@ pub fn pozhdaghi_stitched(
         work,
         res,
     );
-    numbers::write(numbers::of_resolution(found), answer);
+    found.tell(answer);
 }
 
 // Stitched search over the database in the words: the recorded paths.
@@ -239,5 +193,5 @@ pub fn pozhdaghi_stitched_recorded(
         work,
         res,
     );
-    numbers::write(numbers::of_resolution(found), answer);
+    found.tell(answer);
 }

@@ -1,34 +1,23 @@
 // On numbers and slices: a tally by length. It answers 0 and the numbers for the lengths 0 to 63, or the refusal. Nothing else has an answer of so many numbers.
-ghost use Rattle.std.specs.Prelude.{◌≡◌, ◌∷◌, length, get_or};
+ghost use Rattle.std.specs.Prelude.{◌≡◌, ◌∷◌, length};
 ghost use Rattle.semantics.specs.Entries.{tally_lengths};
 ghost use Rattle.semantics.specs.Written.{written};
 ghost use Rattle.semantics.specs.Told.{told_tally};
 
 use crate::numbers;
-use semantics::answer::Tallying;
+use crate::numbers::Tell;
+use semantics::answer::{Tallying, TurnedBack};
 use semantics::graph::NodeId;
 use tally::lengths;
-use told::refusal;
+use told::refusal::Told;
 
-// What stands at a place behind a first 0; 0 behind the last.
-fn at(counts: &[u64], i: usize) -> u64
-    ensures { result ≡ get_or (0 ∷ counts.now) i 0 }
-{
-    if 0 < i {
-        if counts.len() < i {
-            return 0;
-        }
-        return counts[i - 1];
-    }
-    0
-}
-
-// As many as fit, and zeros behind them.
+// A 0, and the numbers behind it.
 fn write(counts: &[u64], answer: &mut [u64])
     ensures { answer.new ≡ written (length answer.old) (0 ∷ counts.now) }
 {
-    for i in 0..answer.len() {
-        answer[i] = at(counts, i);
+    if let Some((first, rest)) = answer.split_first_mut() {
+        *first = 0;
+        numbers::write(counts, rest);
     }
 }
 
@@ -37,9 +26,9 @@ fn tell(told: Tallying, counts: &[u64], answer: &mut [u64])
     ensures { answer.new ≡ written (length answer.old) (told_tally told counts.now) }
 {
     match told {
-        Tallying::Done => write(counts, answer),
-        Tallying::Image(r) => numbers::write(numbers::of_told(refusal::image(r)), answer),
-        Tallying::Refused(r) => numbers::write(numbers::of_told(refusal::search(r)), answer),
+        Ok(()) => write(counts, answer),
+        Err(TurnedBack::Image(r)) => Told::from(r).tell(answer),
+        Err(TurnedBack::Refused(r)) => Told::from(r).tell(answer),
     }
 }
 

@@ -4,7 +4,7 @@ ghost use Rattle.semantics.specs.Entries.{widen_image, narrow_image};
 ghost use Rattle.semantics.specs.Written.{written};
 ghost use Rattle.semantics.specs.Told.{told_rewriting};
 
-use crate::numbers;
+use crate::numbers::Tell;
 use rewriting::rewrite;
 
 // From version 1 to version 2.
@@ -13,14 +13,15 @@ pub fn pozhdaghi_widen(image: &[u8], area: &mut [u8], answer: &mut [u64])
     ensures area_after { area.new ≡ (widen_image image.now area.old).bytes }
 {
     let rewritten = rewrite::widen(image, area);
-    numbers::write(numbers::of_rewriting(rewritten), answer);
+    rewritten.tell(answer);
 }
 
 // From version 2 to version 1.
+// Kept: a function for each direction, as each is the exported call of its name.
 pub fn pozhdaghi_narrow(image: &[u8], area: &mut [u8], answer: &mut [u64])
     ensures answer_after { answer.new ≡ written (length answer.old) (told_rewriting (narrow_image image.now area.old).answer) }
     ensures area_after { area.new ≡ (narrow_image image.now area.old).bytes }
 {
     let rewritten = rewrite::narrow(image, area);
-    numbers::write(numbers::of_rewriting(rewritten), answer);
+    rewritten.tell(answer);
 }

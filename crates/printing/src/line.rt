@@ -18,17 +18,11 @@ pub fn print_named<W: Write>(out: &mut W, name: &[u8], number: u64) -> io::Resul
     write!(out, "{number}")
 }
 
-pub(crate) fn wide(word: u32) -> u64
-    ensures { result ≡ word }
-{
-    word as u64
-}
-
 // The same of a number of 32 bits.
 pub fn print_word<W: Write>(out: &mut W, name: &[u8], word: u32) -> io::Result<()>
     ensures { OnOk result (Appends (W.contents out.old) (W.contents out.new) (name.now ++ decimal word)) }
 {
-    print_named(out, name, wide(word))
+    print_named(out, name, u64::from(word))
 }
 
 pub fn end_line<W: Write>(out: &mut W) -> io::Result<()>

@@ -20,11 +20,7 @@ fn at_most(number: u64, bound: usize) -> usize
     ensures upper_bound { result ≤ bound }
     ensures value { result ≡ min number bound }
 {
-    if number < bound as u64 {
-        number as usize
-    } else {
-        bound
-    }
+    number.min(bound as u64) as usize
 }
 
 // The edges of a slot, behind their count.
@@ -32,10 +28,11 @@ fn print_path<W: Write>(out: &mut W, name: &[u8], slot: &[u32]) -> io::Result<()
     requires { length slot.now ≡ slot_length }
     ensures { OnOk result (Appends (W.contents out.old) (W.contents out.new) (path_line name.now slot.now)) }
 {
-    let count = at_most(line::wide(slot[0]), MAX_EDGES);
+    let count = at_most(u64::from(slot[0]), MAX_EDGES);
     line::print(out, name)?;
-    for j in 0..count {
-        line::print_word(out, b" ", slot[1 + j])?;
+    let edges = &slot[1..1 + count];
+    for edge in edges {
+        line::print_word(out, b" ", *edge)?;
     }
     line::end_line(out)
 }
@@ -45,9 +42,8 @@ pub fn print_paths<W: Write>(out: &mut W, name: &[u8], res: &[u32], paths: u64) 
     requires { length res.now ≡ area_words }
     ensures { OnOk result (Appends (W.contents out.old) (W.contents out.new) (path_lines name.now res.now (min paths slots))) }
 {
-    for i in 0..at_most(paths, SLOTS) {
-        let at = SLOT_WORDS * i;
-        print_path(out, name, &res[at..at + SLOT_WORDS])?;
+    for slot in res.chunks_exact(SLOT_WORDS).take(at_most(paths, SLOTS)) {
+        print_path(out, name, slot)?;
     }
     Ok(())
 }

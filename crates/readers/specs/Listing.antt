@@ -1,10 +1,10 @@
 -- How far a list of numbers stands in a lent area, which grows at its end: semantics/specs/Reading.antt has the whole.
 use Rattle.std.specs.Prelude.{ℕ, ◌≡◌, List, ◌++◌, length}
-use Rattle.semantics.specs.declared.answer.Listing.{Listing}
 use Rattle.semantics.specs.Answer.{ok}
 use Rattle.semantics.specs.Graph.{Graph}
 use Rattle.semantics.specs.Written.{written}
 use Rattle.semantics.specs.Reading.{Listed, outgoing_call}
+use Rattle.semantics.specs.PublicAnswers.{Listing}
 pub mod Laws
 
 -- the area holds the numbers, as many as fit, and so many they are

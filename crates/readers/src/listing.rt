@@ -1,5 +1,5 @@
 // The references of an image, and the edges that leave a node, as numbers in a lent area: 32 where they do not fit, and then the area is zero.
-ghost use Rattle.std.specs.Prelude.{◌≡◌, true, List, [], ℕ, ◌<◌, ◌≤◌, length};
+ghost use Rattle.std.specs.Prelude.{◌≡◌, true, List, [], ℕ, ◌<◌, ◌≤◌, length, replicate};
 ghost use Rattle.semantics.specs.Lists.{cons_if};
 ghost use Rattle.semantics.specs.Words.{zeros};
 ghost use Rattle.semantics.specs.Graph.{Graph, view_of, is_reference};
@@ -7,13 +7,14 @@ ghost use Rattle.semantics.specs.Finding.{references_from};
 ghost use Rattle.semantics.specs.Reading.{listed};
 ghost use Rattle.semantics.specs.Entries.{references_of, outgoing_of};
 ghost use Rattle.semantics.specs.Told.{told_listing};
-ghost use Rattle.storage.specs.Index.{EDGES, Blocks, node_row, Loaded, Takes, HoldsGraph, HoldsNodes, is_small};
+ghost use Rattle.storage.specs.Index.{INDEX, EDGES, Blocks, node_row, Loaded, Takes, HoldsGraph, HoldsNodes};
 ghost use Rattle.readers.specs.Listing.{Holds, Adds, Lists, outgoing_loaded};
 
-use semantics::answer::{Checked, Listing};
+use semantics::answer::{Listing, ListingRefusal};
 use semantics::graph::{EdgeId, NodeId};
 use stepping::node::is_removed;
-use storage::{blocks, check, store};
+use storage::blocks::{INDEX, SMALL};
+use storage::{check, store};
 use words::slots;
 
 // A number behind those that the area holds. Where there is no room it is only counted.
@@ -24,7 +25,6 @@ fn put(res: &mut [u32], count: u32, number: u32) -> u32
     let at = count as usize;
     if at < res.len() {
         res[at] = number;
-        return count + 1;
     }
     count + 1
 }
@@ -46,10 +46,8 @@ fn put_references(index: &[u32], nodes: u32, res: &mut [u32]) -> u32
     ensures { (g : Graph) → Loaded g index.now → nodes ≡ length g.nodes → Holds res.new result (references_from 0 g.nodes) }
 {
     let mut count = 0;
-    let mut n = 0;
-    while n < nodes {
+    for n in 0..nodes {
         count = put_reference(index, res, count, n);
-        n += 1;
     }
     count
 }
@@ -74,9 +72,9 @@ fn conclude(res: &mut [u32], count: u32) -> Listing
 {
     if res.len() < count as usize {
         slots::zero(res);
-        return Listing::NoRoom;
+        return Err(ListingRefusal::NoRoom);
     }
-    Listing::Done { count }
+    Ok(count)
 }
 
 // The image is checked into the lent index.
@@ -85,36 +83,19 @@ fn references_in(image: &[u8], visible: &[u8], index: &mut [u32], res: &mut [u32
     ensures { Lists (references_of image.now visible.now res.old) result res.new }
 {
     slots::zero(res);
-    match check::load_seen(image, visible, index) {
-        Checked::Refused(r) => Listing::Image(r),
-        Checked::Accepted {
-            files: _,
-            nodes,
-            edges: _,
-        } => {
-            let count = put_references(index, nodes, res);
-            conclude(res, count)
-        }
-    }
+    let counts = check::load_seen(image, visible, index).map_err(ListingRefusal::Image)?;
+    let count = put_references(index, counts.nodes, res);
+    conclude(res, count)
 }
 
-// Each index stands in a function that is not compiled into its caller, so that a call needs room for one of them alone.
+// An index of so many words stands in a function that is not compiled into its caller, so that a call needs room for one index alone.
 #[inline(never)]
-fn references_small(image: &[u8], visible: &[u8], res: &mut [u32]) -> Listing
-    requires { is_small image.now ≡ true }
+fn references_with<const WORDS: usize>(image: &[u8], visible: &[u8], res: &mut [u32]) -> Listing
+    requires { Takes image.now (replicate WORDS 0) × (WORDS ≤ INDEX) }
     ensures result_value { told_listing result ≡ told_listing (references_of image.now visible.now res.old).answer }
     ensures res_after { res.new ≡ (references_of image.now visible.now res.old).result }
 {
-    let mut index = [0u32; blocks::SMALL];
-    references_in(image, visible, &mut index, res)
-}
-
-#[inline(never)]
-fn references_large(image: &[u8], visible: &[u8], res: &mut [u32]) -> Listing
-    ensures result_value { told_listing result ≡ told_listing (references_of image.now visible.now res.old).answer }
-    ensures res_after { res.new ≡ (references_of image.now visible.now res.old).result }
-{
-    let mut index = [0u32; blocks::INDEX];
+    let mut index = [0u32; WORDS];
     references_in(image, visible, &mut index, res)
 }
 
@@ -124,9 +105,9 @@ pub fn references(image: &[u8], visible: &[u8], res: &mut [u32]) -> Listing
     ensures res_after { res.new ≡ (references_of image.now visible.now res.old).result }
 {
     if check::is_small(image) {
-        return references_small(image, visible, res);
+        return references_with::<SMALL>(image, visible, res);
     }
-    references_large(image, visible, res)
+    references_with::<INDEX>(image, visible, res)
 }
 
 // 10 for a node that is not known, else its edges, in an area that is zero.
@@ -135,7 +116,7 @@ fn known_outgoing(index: &[u32], n: u32, res: &mut [u32]) -> Listing
     ensures { (g : Graph) → Loaded g index.now → Lists (outgoing_loaded g n (length res.old)) result res.new }
 {
     if is_removed(store::node(index, NodeId(n))) {
-        return Listing::Unknown(NodeId(n));
+        return Err(ListingRefusal::Unknown(NodeId(n)));
     }
     let count = put_outgoing(index, n, res);
     conclude(res, count)
@@ -146,14 +127,8 @@ fn outgoing_in(image: &[u8], visible: &[u8], index: &mut [u32], n: u32, res: &mu
     ensures { Lists (outgoing_of image.now visible.now n res.old) result res.new }
 {
     slots::zero(res);
-    match check::load_seen(image, visible, index) {
-        Checked::Refused(r) => Listing::Image(r),
-        Checked::Accepted {
-            files: _,
-            nodes: _,
-            edges: _,
-        } => known_outgoing(index, n, res),
-    }
+    check::load_seen(image, visible, index).map_err(ListingRefusal::Image)?;
+    known_outgoing(index, n, res)
 }
 
 // The visible edges that leave a node, on any bytes and numbers, in the order in which searches try them.
@@ -162,9 +137,9 @@ pub fn outgoing(image: &[u8], visible: &[u8], node: NodeId, res: &mut [u32]) -> 
     ensures res_after { res.new ≡ (outgoing_of image.now visible.now node.0 res.old).result }
 {
     if check::is_small(image) {
-        let mut index = [0u32; blocks::SMALL];
+        let mut index = [0u32; SMALL];
         return outgoing_in(image, visible, &mut index, node.0, res);
     }
-    let mut index = [0u32; blocks::INDEX];
+    let mut index = [0u32; INDEX];
     outgoing_in(image, visible, &mut index, node.0, res)
 }

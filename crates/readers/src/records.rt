@@ -5,7 +5,7 @@ ghost use Rattle.semantics.specs.Reading.{node_read, edge_read};
 ghost use Rattle.semantics.specs.Told.{told_node_reading};
 ghost use Rattle.storage.specs.Index.{Blocks, node_row, edge_row, Takes};
 
-use semantics::answer::{Checked, EdgeReading, NodeReading};
+use semantics::answer::{EdgeReading, LiveEdge, NodeReading, ReadingRefusal};
 use semantics::graph::{Edge, EdgeId, NodeId};
 use stepping::node::is_removed;
 use storage::{blocks, check, store};
@@ -17,9 +17,9 @@ fn known_node(index: &[u32], n: u32) -> NodeReading
 {
     let node = store::node(index, NodeId(n));
     if is_removed(node) {
-        return NodeReading::Unknown(NodeId(n));
+        return Err(ReadingRefusal::Unknown(NodeId(n)));
     }
-    NodeReading::Read(node)
+    Ok(node)
 }
 
 // The image is checked into the lent index.
@@ -27,14 +27,8 @@ fn node_in(image: &[u8], visible: &[u8], index: &mut [u32], n: u32) -> NodeReadi
     requires { Takes image.now index.old }
     ensures { result ≡ node_of image.now visible.now n }
 {
-    match check::load_seen(image, visible, index) {
-        Checked::Refused(r) => NodeReading::Image(r),
-        Checked::Accepted {
-            files: _,
-            nodes: _,
-            edges: _,
-        } => known_node(index, n),
-    }
+    check::load_seen(image, visible, index).map_err(ReadingRefusal::Image)?;
+    known_node(index, n)
 }
 
 // A node of an image, on any bytes and numbers. A small image gets a small index, as in every call.
@@ -55,16 +49,16 @@ fn known_edge(index: &[u32], e: u32) -> EdgeReading
     ensures { result ≡ edge_read e (edge_row index.now e) }
 {
     match store::edge(index, EdgeId(e)) {
-        Edge::Removed => EdgeReading::Unknown(EdgeId(e)),
+        Edge::Removed => Err(ReadingRefusal::Unknown(EdgeId(e))),
         Edge::Live {
             source,
             target,
             precedence,
-        } => EdgeReading::Read {
+        } => Ok(LiveEdge {
             source,
             target,
             precedence,
-        },
+        }),
     }
 }
 
@@ -72,14 +66,8 @@ fn edge_in(image: &[u8], visible: &[u8], index: &mut [u32], e: u32) -> EdgeReadi
     requires { Takes image.now index.old }
     ensures { result ≡ edge_of image.now visible.now e }
 {
-    match check::load_seen(image, visible, index) {
-        Checked::Refused(r) => EdgeReading::Image(r),
-        Checked::Accepted {
-            files: _,
-            nodes: _,
-            edges: _,
-        } => known_edge(index, e),
-    }
+    check::load_seen(image, visible, index).map_err(ReadingRefusal::Image)?;
+    known_edge(index, e)
 }
 
 // An edge of an image, likewise. The answer itself is said, as its precedence is told by 32 bits.

@@ -2,6 +2,7 @@
 -- Serves document 01, "Answer": "`from_complete` drops copies"; where each slot comes before the next one, there are none.
 use Rattle.std.specs.Prelude.{ℕ, ◌+◌, ◌<◌, ◌≡◌, ◌⊎◌, List, [], ◌∷◌}
 use Rattle.words.specs.Slots.{slot_at}
+pub mod ByPlace
 pub mod Laws
 
 -- the first word in which they differ is less

@@ -2,6 +2,7 @@
 -- Document 01, "Answer": "`from_complete` drops copies, then every path shadowed by another recorded one".
 use Rattle.std.specs.Prelude.{ℕ, Bool, false, not, List, [], ◌∷◌, ◌++◌, get_or}
 use Rattle.semantics.specs.Lists.{or, and, same, pick}
+pub mod ByPlace
 pub mod Laws
 pub mod Paths
 pub mod Shadowed

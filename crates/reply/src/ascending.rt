@@ -12,11 +12,11 @@ fn is_ahead(left: &[u32], right: &[u32]) -> bool
     requires { length left.now ≡ length right.now }
     ensures { result ≡ true → Ahead left.now right.now }
 {
-    for k in 0..left.len() {
-        if left[k] < right[k] {
+    for (x, y) in left.iter().zip(right) {
+        if *x < *y {
             return true;
         }
-        if right[k] < left[k] {
+        if *y < *x {
             return false;
         }
     }

@@ -8,7 +8,7 @@ ghost use Rattle.reply.specs.Replies.{Replied};
 use crate::copies::drop_copies;
 use crate::shadowed::drop_shadowed;
 
-#[derive(Clone, Copy)]
+#[derive(Clone, Copy, Debug, PartialEq, Eq)]
 pub enum Reply {
     Returned,
     Recorded,

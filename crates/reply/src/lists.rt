@@ -31,12 +31,7 @@ fn starts_apart(left: &[u32], right: &[u32]) -> bool
     requires { length left.now ≡ length right.now }
     ensures { result ≡ true → same left.now right.now ≡ false }
 {
-    if 0 < left.len() {
-        if left[0] != right[0] {
-            return true;
-        }
-    }
-    false
+    0 < left.len() && left[0] != right[0]
 }
 
 // Are the lists equal? Paths from one reference differ at their ends most often, so the lists are compared from there. Many ways into one
@@ -50,10 +45,8 @@ fn is_same(left: &[u32], right: &[u32]) -> bool
     if starts_apart(left, right) {
         return false;
     }
-    let mut k = left.len();
-    while 0 < k {
-        k -= 1;
-        if left[k] != right[k] {
+    for (x, y) in left.iter().rev().zip(right.iter().rev()) {
+        if *x != *y {
             return false;
         }
     }

@@ -2,6 +2,7 @@
 // `best` has a word for each node: 0 at first, then the place in the result area of the edge of the greatest precedence of those that leave the
 // node on a recorded path. Place 0 is a count word, never an edge. Only a no is relied on: a path that has a rival is compared.
 // Document 01, "Path": "Different sources: no. Left precedence greater: yes."
+// Kept: one struct of the index, the result area and `best` is no plainer: the area is marked between two questions, so it would be made anew, and its fact proved anew, at each.
 ghost use Rattle.std.specs.Prelude.{◌≡◌, ℕ, ◌+◌, ◌*◌, ◌≤◌, ◌<◌, length, get_or};
 ghost use Rattle.semantics.specs.Limits.{slot_length};
 ghost use Rattle.storage.specs.Index.{Blocks, edge_row};

@@ -72,7 +72,7 @@ fn mark_if(res: &mut [u32], i: usize, test: bool)
 {
     if test {
         let at = SLOT_WORDS * i;
-        res[at] = res[at] + lists::MARK;
+        res[at] += lists::MARK;
     }
 }
 
@@ -89,6 +89,7 @@ fn mark_few(index: &[u32], res: &mut [u32], n: usize)
 }
 
 // The same. The edges of all paths are looked at before any path is judged.
+// Kept: one loop for both with the test as a closure is no plainer: it needs a clause on each area that the test may be asked of, as marks change it from slot to slot.
 fn mark_many(index: &[u32], res: &mut [u32], best: &mut [usize], n: usize)
     requires holds_graph { HoldsGraph index.now }
     requires lists { Lists slot_length n res.old }

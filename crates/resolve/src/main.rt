@@ -4,9 +4,7 @@
 // no exit status to tell it by.
 #![tactic(auto)]
 
-ghost use Rattle.std.specs.Prelude.{◌≡◌, length};
-ghost use Rattle.storage.specs.Index.{INDEX};
-ghost use Rattle.printing.specs.Areas.{area_words};
+ghost use Rattle.std.specs.Prelude.{◌≤◌, length, IfSome};
 
 mod failure;
 mod report;
@@ -15,21 +13,20 @@ mod usage;
 use direct_search::direct;
 use printing::input;
 use printing::paths::AREA_WORDS;
-use semantics::answer::{Checked, Resolution};
+use semantics::answer::{ResolutionRefusal, Resolved};
 use semantics::graph::NodeId;
-use semantics::search::{Limit, SearchLimits, SearchOrder};
+use semantics::refusal::ImageRefusal;
+use semantics::search::{SearchLimits, SearchOrder};
 use std::env::{Env, FillError};
 use std::fs::{File, Files};
 use std::io::{Read, Write};
 use std::{io, str};
 use stepping::node::is_reference;
 use storage::{blocks, check, store};
-use told::refusal;
+use told::refusal::Told;
 
-// More bytes than these are 2, whatever they are; no accepted image has so many.
+// More bytes than these have a wrong length, whatever they are; no accepted image has so many.
 const MOST_BYTES: usize = 65_536;
-
-const TOO_MANY_BYTES: u32 = 2;
 
 // An image has at most so many files, and each is visible here.
 const MOST_FILES: usize = 256;
@@ -47,41 +44,45 @@ fn resolve<W: Write>(
     image: &[u8],
     reference: u32,
     work: &mut [u32],
-    res: &mut [u32],
+    res: &mut [u32; AREA_WORDS],
     out: &mut W,
-) -> io::Result<()>
-    requires { length res.old ≡ area_words }
-{
+) -> io::Result<()> {
     let limits = SearchLimits {
-        length: Limit::Absent,
-        expansions: Limit::Absent,
-        complete: Limit::Absent,
+        length: None,
+        expansions: None,
+        complete: None,
     };
     let order = SearchOrder::BreadthFirst;
     let visible = [VISIBLE; MOST_FILES];
     match direct::search(image, &visible, NodeId(reference), order, limits, work, res) {
-        Resolution::Done { paths, stats } => report::tell_found(out, reference, paths, stats, res),
-        Resolution::Image(r) => report::tell_refused(out, reference, refusal::image(r).number),
-        Resolution::Database(r) => report::tell_refused(
+        Ok(Resolved { paths, stats }) => report::tell_found(out, reference, paths, stats, res),
+        Err(ResolutionRefusal::Image(r)) => report::tell_refused(
             out,
             reference,
-            refusal::database(r).number,
+            Told::from(r).number,
         ),
-        Resolution::Refused(r) => report::tell_refused(out, reference, refusal::search(r).number),
+        Err(ResolutionRefusal::Database(r)) => report::tell_refused(
+            out,
+            reference,
+            Told::from(r).number,
+        ),
+        Err(ResolutionRefusal::Refused(r)) => report::tell_refused(
+            out,
+            reference,
+            Told::from(r).number,
+        ),
     }
 }
 
 // A node that is no reference is passed over.
 fn resolve_node<W: Write>(
     image: &[u8],
-    index: &[u32],
+    index: &[u32; blocks::INDEX],
     n: u32,
     work: &mut [u32],
-    res: &mut [u32],
+    res: &mut [u32; AREA_WORDS],
     out: &mut W,
-) -> io::Result<()>
-    requires { (length index.now ≡ INDEX) × (length res.old ≡ area_words) }
-{
+) -> io::Result<()> {
     if is_reference(store::node(index, NodeId(n))) {
         return resolve(image, n, work, res, out);
     }
@@ -91,14 +92,12 @@ fn resolve_node<W: Write>(
 // Every reference of the loaded graph, by ascending number.
 fn resolve_all<W: Write>(
     image: &[u8],
-    index: &[u32],
+    index: &[u32; blocks::INDEX],
     nodes: u32,
     work: &mut [u32],
-    res: &mut [u32],
+    res: &mut [u32; AREA_WORDS],
     out: &mut W,
-) -> io::Result<()>
-    requires { (length index.now ≡ INDEX) × (length res.old ≡ area_words) }
-{
+) -> io::Result<()> {
     for n in 0..nodes {
         resolve_node(image, index, n, work, res, out)?;
     }
@@ -109,32 +108,24 @@ fn resolve_all<W: Write>(
 fn resolve_image<W: Write>(
     image: &[u8],
     work: &mut [u32],
-    res: &mut [u32],
+    res: &mut [u32; AREA_WORDS],
     out: &mut W,
-) -> io::Result<()>
-    requires { length res.old ≡ area_words }
-{
+) -> io::Result<()> {
     let mut index = [0u32; blocks::INDEX];
     match check::load(image, &mut index) {
-        Checked::Refused(r) => report::tell_image_refused(out, refusal::image(r).number),
-        Checked::Accepted {
-            files: _,
-            nodes,
-            edges: _,
-        } => resolve_all(image, &index, nodes, work, res, out),
+        Err(r) => report::tell_image_refused(out, r),
+        Ok(counts) => resolve_all(image, &index, counts.nodes, work, res, out),
     }
 }
 
 fn resolve_bytes<W: Write>(
     image: &[u8],
     work: &mut [u32],
-    res: &mut [u32],
+    res: &mut [u32; AREA_WORDS],
     out: &mut W,
-) -> io::Result<()>
-    requires { length res.old ≡ area_words }
-{
+) -> io::Result<()> {
     if MOST_BYTES < image.len() {
-        return report::tell_image_refused(out, TOO_MANY_BYTES);
+        return report::tell_image_refused(out, ImageRefusal::Length);
     }
     resolve_image(image, work, res, out)
 }
@@ -146,80 +137,50 @@ fn tell_lost<E: Write>(written: io::Result<()>, err: &mut E) {
     }
 }
 
-// What is open is read under its name.
-fn resolve_open<I: Read, W: Write, E: Write>(
+// How many bytes what is open has, which is read under its name; none if it cannot be read, which is told.
+fn read_open<I: Read, E: Write>(
     reader: &mut I,
     name: &[u8],
     bytes: &mut [u8],
-    work: &mut [u32],
-    res: &mut [u32],
-    out: &mut W,
     err: &mut E,
-) -> io::Result<()>
-    requires { length res.old ≡ area_words }
+) -> Option<usize>
+    ensures { IfSome result (λ n. n ≤ length bytes.old) }
 {
     match input::read_full(reader, bytes) {
-        Ok(n) => resolve_bytes(&bytes[0..n], work, res, out),
+        Ok(n) => Some(n),
         Err(error) => {
             failure::tell(err, name, &error);
-            Ok(())
+            None
         }
     }
 }
 
-fn resolve_input<R: Input, W: Write, E: Write>(
-    rt: &R,
-    bytes: &mut [u8],
-    work: &mut [u32],
-    res: &mut [u32],
-    out: &mut W,
-    err: &mut E,
-) -> io::Result<()>
-    requires { length res.old ≡ area_words }
+fn read_input<R: Input, E: Write>(rt: &R, bytes: &mut [u8], err: &mut E) -> Option<usize>
+    ensures { IfSome result (λ n. n ≤ length bytes.old) }
 {
     let mut reader = rt.reader();
-    resolve_open(&mut reader, b"standard input", bytes, work, res, out, err)
+    read_open(&mut reader, b"standard input", bytes, err)
 }
 
-fn resolve_file<R: Files, W: Write, E: Write>(
+fn read_file<R: Files, E: Write>(
     rt: &R,
     path: &[u8],
     bytes: &mut [u8],
-    work: &mut [u32],
-    res: &mut [u32],
-    out: &mut W,
     err: &mut E,
-) -> io::Result<()>
-    requires { length res.old ≡ area_words }
+) -> Option<usize>
+    ensures { IfSome result (λ n. n ≤ length bytes.old) }
 {
     let Ok(name) = str::from_utf8(path) else {
         failure::tell_cause(err, path, b"the name is not UTF-8");
-        return Ok(());
+        return None;
     };
     match File::open(rt, name) {
-        Ok(mut file) => resolve_open(&mut file, path, bytes, work, res, out, err),
+        Ok(mut file) => read_open(&mut file, path, bytes, err),
         Err(error) => {
             failure::tell(err, path, &error);
-            Ok(())
+            None
         }
     }
-}
-
-fn resolve_named<R: Files, W: Write, E: Write>(
-    rt: &R,
-    argument: &[u8],
-    bytes: &mut [u8],
-    work: &mut [u32],
-    res: &mut [u32],
-    out: &mut W,
-    err: &mut E,
-) -> io::Result<()>
-    requires { length res.old ≡ area_words }
-{
-    if usage::asks_help(argument) {
-        return usage::tell_help(out);
-    }
-    resolve_file(rt, argument, bytes, work, res, out, err)
 }
 
 // With no argument standard input is read.
@@ -227,21 +188,28 @@ fn resolve_argument<R: Env + Input + Files, W: Write, E: Write>(
     rt: &R,
     bytes: &mut [u8],
     work: &mut [u32],
-    res: &mut [u32],
+    res: &mut [u32; AREA_WORDS],
     out: &mut W,
     err: &mut E,
-) -> io::Result<()>
-    requires { length res.old ≡ area_words }
-{
+) -> io::Result<()> {
     let mut argument = [0u8; MOST_ARGUMENT];
-    match rt.arg(ARGUMENT, &mut argument) {
-        Ok(n) => resolve_named(rt, &argument[..n], bytes, work, res, out, err),
-        Err(FillError::NotPresent) => resolve_input(rt, bytes, work, res, out, err),
+    let read = match rt.arg(ARGUMENT, &mut argument) {
+        Ok(n) => {
+            if usage::asks_help(&argument[..n]) {
+                return usage::tell_help(out);
+            }
+            read_file(rt, &argument[..n], bytes, err)
+        }
+        Err(FillError::NotPresent) => read_input(rt, bytes, err),
         Err(FillError::TooLong) => {
             failure::tell_cause(err, b"the argument", b"File name too long");
-            Ok(())
+            None
         }
-    }
+    };
+    let Some(n) = read else {
+        return Ok(());
+    };
+    resolve_bytes(&bytes[..n], work, res, out)
 }
 
 // Whether an argument stands at a place, however long it is.
@@ -253,12 +221,10 @@ fn resolve_asked<R: Env + Input + Files, W: Write, E: Write>(
     rt: &R,
     bytes: &mut [u8],
     work: &mut [u32],
-    res: &mut [u32],
+    res: &mut [u32; AREA_WORDS],
     out: &mut W,
     err: &mut E,
-) -> io::Result<()>
-    requires { length res.old ≡ area_words }
-{
+) -> io::Result<()> {
     if is_given(rt, ARGUMENT + 1) {
         usage::tell_misuse(err);
         return Ok(());

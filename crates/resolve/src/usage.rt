@@ -3,46 +3,22 @@ use printing::line::print;
 use std::io;
 use std::io::Write;
 
-const HELP_BYTES: usize = 6;
+const HELP: &str = "\
+resolve [FILE]: resolves every reference of a graph image.
+The image is read from FILE, or from standard input where none is named.
+A reference has a line with the paths returned and what was counted, then a
+line for each path; or a line with the number of its refusal. An image that
+is refused has one line, with the number: docs/FORMAT.md, \"Refusals\".
+What cannot be read is told on standard error. The exit status is always 0.
+";
 
 // Whether the argument is --help.
 pub(crate) fn asks_help(argument: &[u8]) -> bool {
-    if argument.len() != HELP_BYTES {
-        return false;
-    }
-    argument[0] == b'-'
-        && argument[1] == b'-'
-        && argument[2] == b'h'
-        && argument[3] == b'e'
-        && argument[4] == b'l'
-        && argument[5] == b'p'
+    argument == b"--help".as_slice()
 }
 
 pub(crate) fn tell_help<W: Write>(out: &mut W) -> io::Result<()> {
-    print(
-        out,
-        b"resolve [FILE]: resolves every reference of a graph image.\n",
-    )?;
-    print(
-        out,
-        b"The image is read from FILE, or from standard input where none is named.\n",
-    )?;
-    print(
-        out,
-        b"A reference has a line with the paths returned and what was counted, then a\n",
-    )?;
-    print(
-        out,
-        b"line for each path; or a line with the number of its refusal. An image that\n",
-    )?;
-    print(
-        out,
-        b"is refused has one line, with the number: docs/FORMAT.md, \"Refusals\".\n",
-    )?;
-    print(
-        out,
-        b"What cannot be read is told on standard error. The exit status is always 0.\n",
-    )
+    print(out, HELP.as_bytes())
 }
 
 pub(crate) fn tell_misuse<W: Write>(err: &mut W) {

@@ -7,6 +7,7 @@ use Rattle.std.proofs.Math.Path.{refl, ap, ap₂}
 use Rattle.std.proofs.Math.Option.{Option, none, some}
 use mathlib.Core.List.{List, [], ◌∷◌, ◌++◌, append-nil}
 use Rattle.std.proofs.Math.ListN.{length-append}
+use Rattle.semantics.specs.declared.answer.Counts.{Counts}
 use Rattle.semantics.specs.declared.graph.Node.{Node}
 use Rattle.semantics.specs.declared.graph.Node.TheVariants as N
 use Rattle.semantics.specs.declared.graph.Edge.{Edge}
@@ -29,8 +30,9 @@ nodes_in index k = first_of (node_row index) k
 abbrev pub edges_in : List ℕ → ℕ → List Edge
 edges_in index k = first_of (edge_row index) k
 
-abbrev pub graph_held : List ℕ → ℕ → ℕ → ℕ → Graph
-graph_held index files nodes edges = record { files = files; nodes = nodes_in index nodes; edges = edges_in index edges }
+-- the graph of an index of which the counts are known
+abbrev pub graph_held : List ℕ → Counts → Graph
+graph_held index counts = record { files = counts.files; nodes = nodes_in index counts.nodes; edges = edges_in index counts.edges }
 
 module _ {A : Type 0} where
   pub first-length : (f : ℕ → A) (k : ℕ) → length (first_of f k) ≡ k
@@ -57,10 +59,10 @@ pub loaded-edges : {g : Graph} {index : List ℕ} → Loaded g index → edges_i
 unfolding view_of
 loaded-edges {g} {index} k = first-all g.edges E.Removed (edge_row index) k.edge
 
-pub held : {g : Graph} {index : List ℕ} → Loaded g index → (files nodes edges : ℕ) → files ≡ g.files → nodes ≡ length g.nodes → edges ≡ length g.edges → graph_held index files nodes edges ≡ g
-held {g} {index} k files nodes edges f n e =
-    let p : nodes_in index nodes ≡ g.nodes = ap (nodes_in index) n ∙ loaded-nodes k in
-    let q : edges_in index edges ≡ g.edges = ap (edges_in index) e ∙ loaded-edges k in
+pub held : {g : Graph} {index : List ℕ} → Loaded g index → (counts : Counts) → counts.files ≡ g.files → counts.nodes ≡ length g.nodes → counts.edges ≡ length g.edges → graph_held index counts ≡ g
+held {g} {index} k counts f n e =
+    let p : nodes_in index counts.nodes ≡ g.nodes = ap (nodes_in index) n ∙ loaded-nodes k in
+    let q : edges_in index counts.edges ≡ g.edges = ap (edges_in index) e ∙ loaded-edges k in
     λ i. record { files = f i; nodes = p i; edges = q i }
 
 -- NOTHING is written nowhere

@@ -1,3 +1,4 @@
+pub mod Versions
 pub mod Records
 pub mod Held
 pub mod Whole

@@ -1,13 +1,11 @@
 -- What the code of the two rewrites finds out, one law for each outcome.
 -- Serves document 02, order 3: the image's refusals, 38, 2, 32, and else the length of the result.
-use Rattle.std.specs.Prelude.{ℕ, zero, suc, ◌+◌, ◌-◌, ◌*◌, ◌≤◌, ◌<◌, ◌≡◌, refl, Bool, true, false, not, List, [], ◌∷◌, ◌++◌, eqb, ltb, length, get_or}
+use Rattle.std.specs.Prelude.{ℕ, zero, suc, ◌+◌, ◌-◌, ◌*◌, ◌≤◌, ◌<◌, ◌≡◌, refl, Bool, true, false, not, List, [], ◌∷◌, ◌++◌, eqb, ltb, length, get_or, Err, Ok}
 use Rattle.std.proofs.Common.{arith, ap, ap₂, ◌∙◌, subst, eq-eqb, ne_eqb}
 use Rattle.std.proofs.Math.Path.{sym}
 use Rattle.std.proofs.Math.Option.{Option, some}
 use Rattle.semantics.specs.declared.graph.Node.{Node}
 use Rattle.semantics.specs.declared.graph.Node.TheVariants as N
-use Rattle.semantics.specs.declared.answer.Checked.{Checked}
-use Rattle.semantics.specs.declared.answer.Rewriting.{Rewriting}
 use Rattle.semantics.specs.declared.refusal.ImageRefusal.{ImageRefusal}
 use Rattle.semantics.specs.declared.refusal.ImageRefusal.TheVariants as Image
 use Rattle.semantics.specs.Lists.{pick, and}
@@ -31,19 +29,22 @@ use Rattle.storage.specs.Index.{node_row, Loaded}
 use Rattle.storage.specs.Index.Use.{answer-accepted}
 use Rattle.storage.specs.References.{First}
 use Rattle.rewriting.specs.Held.{nodes_in, graph_held, loaded-nodes, held}
+use Rattle.semantics.specs.declared.answer.Counts.{Counts}
+use Rattle.semantics.specs.PublicAnswers.{Checked, Rewriting}
+use Rattle.semantics.specs.declared.answer.RewritingRefusal.{RewritingRefusal}
 
 -- the graph of an image of one version
 abbrev pub graph_as : ℕ → List ℕ → Answer ImageRefusal Graph
 graph_as version im = check_image (only symbol_bytes version) im
 
 -- an accepted image of the version, its graph in the index, and its counts
-pub record Given (version : ℕ) (im index : List ℕ) (files nodes edges : ℕ) : Type 0 where
+pub record Given (version : ℕ) (im index : List ℕ) (counts : Counts) : Type 0 where
   pub graph : Graph
   pub is : graph_as version im ≡ ok graph
   pub loaded : Loaded graph index
-  pub file-count : files ≡ graph.files
-  pub node-count : nodes ≡ length graph.nodes
-  pub edge_count : edges ≡ length graph.edges
+  pub file-count : counts.files ≡ graph.files
+  pub node-count : counts.nodes ≡ length graph.nodes
+  pub edge_count : counts.edges ≡ length graph.edges
 
 -- the answer, and every byte of the lent area
 abbrev pub Does : Rewritten → Rewriting → List ℕ → Type 0
@@ -94,60 +95,60 @@ module _ (v w : ℕ) {x : Answer ImageRefusal Graph} {g : Graph} (e : x ≡ ok g
   refuses : (a : Rewriting) → rewrite_call v w (ok g) im len ≡ refused_bytes len a → Does (rewrite_call v w x im len) a area
   refuses a h = does (rewrite_call v w x im len) a area (at-graph _ h ∙ ap (λ (l : List ℕ). record { answer = a; bytes = l }) (sym clear))
 
-  pub does-wide : (place : ℕ) → first_wide w im first_record g.nodes ≡ some place → Does (rewrite_call v w x im len) (Rewriting.WideSymbol place) area
+  pub does-wide : (place : ℕ) → first_wide w im first_record g.nodes ≡ some place → Does (rewrite_call v w x im len) (Err (RewritingRefusal.WideSymbol place)) area
   unfolding rewrite_call written_unless
-  does-wide place h = refuses (Rewriting.WideSymbol place) (ap (λ (o : Option ℕ). written_unless o (most_bytes v) (encode_image v w g) len) h)
+  does-wide place h = refuses (Err (RewritingRefusal.WideSymbol place)) (ap (λ (o : Option ℕ). written_unless o (most_bytes v) (encode_image v w g) len) h)
 
   module _ (fit : symbols_fit w g.nodes ≡ true) {size : ℕ} (known : size ≡ length (encode_image v w g)) where
-    pub does-long : most_bytes v < size → Does (rewrite_call v w x im len) (Rewriting.Image Image.Length) area
-    does-long h = refuses (Rewriting.Image Image.Length) (rewrite-long v w g im len fit (omega arith))
+    pub does-long : most_bytes v < size → Does (rewrite_call v w x im len) (Err (RewritingRefusal.Image Image.Length)) area
+    does-long h = refuses (Err (RewritingRefusal.Image Image.Length)) (rewrite-long v w g im len fit (omega arith))
 
     module _ (short : size ≤ most_bytes v) where
-      pub does-cramped : len < size → Does (rewrite_call v w x im len) Rewriting.NoRoom area
-      does-cramped h = refuses Rewriting.NoRoom (rewrite-cramped v w g im len fit (omega arith) (omega arith))
+      pub does-cramped : len < size → Does (rewrite_call v w x im len) (Err RewritingRefusal.NoRoom) area
+      does-cramped h = refuses (Err RewritingRefusal.NoRoom) (rewrite-cramped v w g im len fit (omega arith) (omega arith))
 
-      pub does-write : {bytes : List ℕ} → size ≤ len → bytes ≡ front (encode_image v w g) area → Does (rewrite_call v w x im len) (Rewriting.Done size) bytes
+      pub does-write : {bytes : List ℕ} → size ≤ len → bytes ≡ front (encode_image v w g) area → Does (rewrite_call v w x im len) (Ok size) bytes
       does-write {bytes} h q =
           let b : bytes ≡ encode_image v w g ++ zeros (len - length (encode_image v w g)) = q ∙ ap (front (encode_image v w g)) clear ∙ front-zeros (encode_image v w g) len in
-          does (rewrite_call v w x im len) (Rewriting.Done size) bytes (at-graph _ (rewrite-does v w g im len fit (omega arith) (omega arith)) ∙ ap₂ (λ (i : ℕ) (l : List ℕ). record { answer = Rewriting.Done i; bytes = l }) (sym known) (sym b))
+          does (rewrite_call v w x im len) (Ok size) bytes (at-graph _ (rewrite-does v w g im len fit (omega arith) (omega arith)) ∙ ap₂ (λ (i : ℕ) (l : List ℕ). record { answer = Ok i; bytes = l }) (sym known) (sym b))
 
 -- an image that is refused
-pub does-refuse : (v w : ℕ) (x : Answer ImageRefusal Graph) (r : ImageRefusal) (im : List ℕ) (len : ℕ) (area : List ℕ) → x ≡ refuse r → area ≡ zeros len → Does (rewrite_call v w x im len) (Rewriting.Image r) area
+pub does-refuse : (v w : ℕ) (x : Answer ImageRefusal Graph) (r : ImageRefusal) (im : List ℕ) (len : ℕ) (area : List ℕ) → x ≡ refuse r → area ≡ zeros len → Does (rewrite_call v w x im len) (Err (RewritingRefusal.Image r)) area
 unfolding rewrite_call
 does-refuse v w x r im len area e clear =
-    does (rewrite_call v w x im len) (Rewriting.Image r) area (ap (λ (y : Answer ImageRefusal Graph). rewrite_call v w y im len) e ∙ ap (λ (l : List ℕ). record { answer = Rewriting.Image r; bytes = l }) (sym clear))
+    does (rewrite_call v w x im len) (Err (RewritingRefusal.Image r)) area (ap (λ (y : Answer ImageRefusal Graph). rewrite_call v w y im len) e ∙ ap (λ (l : List ℕ). record { answer = Err (RewritingRefusal.Image r); bytes = l }) (sym clear))
 
 -- WHAT AN ANSWER OF THE CHECK GIVES
-pub given : (version : ℕ) (im index : List ℕ) {c : Checked} (files nodes edges : ℕ) → c ≡ check_call (graph_as version im) → c ≡ Checked.Accepted files nodes edges → ((g : Graph) → graph_as version im ≡ ok g → Loaded g index) → Given version im index files nodes edges
-given version im index files nodes edges e q load =
-    let a = answer-accepted (graph_as version im) files nodes edges e q in
+pub given : (version : ℕ) (im index : List ℕ) {c : Checked} (counts : Counts) → c ≡ check_call (graph_as version im) → c ≡ Ok counts → ((g : Graph) → graph_as version im ≡ ok g → Loaded g index) → Given version im index counts
+given version im index counts e q load =
+    let a = answer-accepted (graph_as version im) counts e q in
     record { graph = a.graph; is = a.is; loaded = load a.graph a.is; file-count = a.file-count; node-count = a.node-count; edge_count = a.edge_count }
 
-module _ {version : ℕ} {im index : List ℕ} {files nodes edges : ℕ} (d : Given version im index files nodes edges) where
-  pub given-held : graph_held index files nodes edges ≡ d.graph
-  given-held = held d.loaded files nodes edges d.file-count d.node-count d.edge_count
+module _ {version : ℕ} {im index : List ℕ} {counts : Counts} (d : Given version im index counts) where
+  pub given-held : graph_held index counts ≡ d.graph
+  given-held = held d.loaded counts d.file-count d.node-count d.edge_count
 
-  given-nodes : nodes_in index nodes ≡ d.graph.nodes
+  given-nodes : nodes_in index counts.nodes ≡ d.graph.nodes
   given-nodes = ap (nodes_in index) d.node-count ∙ loaded-nodes d.loaded
 
   -- the size that is known of the graph is that of the graph held
-  pub size-held : (v w : ℕ) {size : ℕ} → size ≡ length (encode_image v w d.graph) → size ≡ length (encode_image v w (graph_held index files nodes edges))
+  pub size-held : (v w : ℕ) {size : ℕ} → size ≡ length (encode_image v w d.graph) → size ≡ length (encode_image v w (graph_held index counts))
   size-held v w e = e ∙ ap (λ (g : Graph). length (encode_image v w g)) (sym given-held)
 
-  pub front-held : (v w : ℕ) (area : List ℕ) {bytes : List ℕ} → bytes ≡ front (encode_image v w (graph_held index files nodes edges)) area → bytes ≡ front (encode_image v w d.graph) area
+  pub front-held : (v w : ℕ) (area : List ℕ) {bytes : List ℕ} → bytes ≡ front (encode_image v w (graph_held index counts)) area → bytes ≡ front (encode_image v w d.graph) area
   front-held v w area e = e ∙ ap (λ (g : Graph). front (encode_image v w g) area) given-held
 
 -- FORWARD: every symbol fits, and each has four bytes more
-module _ {im index : List ℕ} {files nodes edges : ℕ} (b : AllBytes im) (d : Given 1 im index files nodes edges) where
+module _ {im index : List ℕ} {counts : Counts} (b : AllBytes im) (d : Given 1 im index counts) where
   pub widen-fits : symbols_fit 8 d.graph.nodes ≡ true
   widen-fits = symbols-more 4 4 d.graph.nodes (subst (λ (k : ℕ). symbols_fit k d.graph.nodes ≡ true) (ap (only symbol_bytes 1) (image-version symbol_bytes 1 im d.graph d.is)) (image-writable (only symbol_bytes 1) im d.graph b d.is).symbols)
 
-  pub widen-size : {count : ℕ} → count ≡ symbols_in (nodes_in index nodes) → length im + 4 * count ≡ length (encode_image 2 8 d.graph)
+  pub widen-size : {count : ℕ} → count ≡ symbols_in (nodes_in index counts.nodes) → length im + 4 * count ≡ length (encode_image 2 8 d.graph)
   widen-size {count} e = let z : count ≡ symbols_in d.graph.nodes = e ∙ ap symbols_in (given-nodes d) in omega (arith, z, forward-length im d.graph b d.is)
 
 -- BACK: each symbol has four bytes less, and the result is never too long
-module _ {im index : List ℕ} {files nodes edges : ℕ} (b : AllBytes im) (d : Given 2 im index files nodes edges) where
-  pub narrow_size : {count : ℕ} → count ≡ symbols_in (nodes_in index nodes) → length im ≡ length (encode_image 1 4 d.graph) + 4 * count
+module _ {im index : List ℕ} {counts : Counts} (b : AllBytes im) (d : Given 2 im index counts) where
+  pub narrow_size : {count : ℕ} → count ≡ symbols_in (nodes_in index counts.nodes) → length im ≡ length (encode_image 1 4 d.graph) + 4 * count
   narrow_size {count} e =
       let z : count ≡ symbols_in d.graph.nodes = e ∙ ap symbols_in (given-nodes d) in
       let v = image-version symbol_bytes 2 im d.graph d.is in
@@ -169,13 +170,13 @@ all_fit : (w : ℕ) (ns : List Node) → ((j : ℕ) → j < length ns → symbol
 all_fit w [] f = refl
 all_fit w (n ∷ ns) f = ap₂ (λ (x : Bool) (y : Bool). and x y) (f 0 (omega arith)) (all_fit w ns (λ j m. f (suc j) (omega (arith, m))))
 
-module _ {version : ℕ} {im index : List ℕ} {files nodes edges : ℕ} (d : Given version im index files nodes edges) (w : ℕ) {k : ℕ} (first : First (λ n. symbol_fits w (node_row index n)) nodes k) where
+module _ {version : ℕ} {im index : List ℕ} {counts : Counts} (d : Given version im index counts) (w : ℕ) {k : ℕ} (first : First (λ n. symbol_fits w (node_row index n)) counts.nodes k) where
   told : (j : ℕ) (b : Bool) → symbol_fits w (node_row index j) ≡ b → symbol_fits w (get_or d.graph.nodes j N.Removed) ≡ b
   unfolding view_of
   told j b h = sym (ap (symbol_fits w) (d.loaded.node j)) ∙ h
 
-  pub first-place : k < nodes → first_wide w im first_record d.graph.nodes ≡ some (place_of im first_record k)
+  pub first-place : k < counts.nodes → first_wide w im first_record d.graph.nodes ≡ some (place_of im first_record k)
   first-place h = wide_at w im first_record d.graph.nodes k (omega (arith, d.node-count)) (told k false (first.here h)) (λ j m. told j true (first.before j m))
 
-  pub first-none : nodes ≤ k → symbols_fit w d.graph.nodes ≡ true
+  pub first-none : counts.nodes ≤ k → symbols_fit w d.graph.nodes ≡ true
   first-none h = all_fit w d.graph.nodes (λ j m. told j true (first.before j (omega (arith, m, d.node-count))))

@@ -5,43 +5,28 @@ ghost use Rattle.semantics.specs.Words.{zeros};
 ghost use Rattle.rewriting.specs.Rewrites.{Given, Does};
 
 use crate::{symbols, write};
-use image::header;
-use semantics::answer::Rewriting;
+use image::version;
+use image::version::Version;
+use semantics::answer::{Counts, Rewriting, RewritingRefusal};
 use semantics::refusal::ImageRefusal;
 
 // A symbol has so many bytes more in version 2.
 const MORE: usize = 4;
 
 // A loaded graph of version 1 in version 2: each of its symbols fits, but the result may be too long.
-pub(crate) fn widen_graph(
-    image: &[u8],
-    index: &[u32],
-    files: u32,
-    nodes: u32,
-    edges: u32,
-    area: &mut [u8],
-) -> Rewriting
-    requires given { Given 1 image.now index.now files nodes edges }
+pub(crate) fn widen_graph(image: &[u8], index: &[u32], counts: Counts, area: &mut [u8]) -> Rewriting
+    requires given { Given 1 image.now index.now counts }
     requires area_value { area.old ≡ zeros (length area.old) }
     ensures { Does (widen image.now (length area.old)) result area.new }
 {
-    let size = image.len() + MORE * symbols::count_symbols(index, nodes) as usize;
-    if header::MOST_BYTES < size {
-        return Rewriting::Image(ImageRefusal::Length);
+    let size = image.len() + MORE * symbols::count_symbols(index, counts.nodes) as usize;
+    if version::MOST_BYTES < size {
+        return Err(RewritingRefusal::Image(ImageRefusal::Length));
     }
     if area.len() < size {
-        return Rewriting::NoRoom;
+        return Err(RewritingRefusal::NoRoom);
     }
     let length = size as u32;
-    write::write_image(
-        index,
-        header::WIDE,
-        header::WIDE_SYMBOL,
-        files,
-        nodes,
-        edges,
-        length,
-        area,
-    );
-    Rewriting::Done { length }
+    write::write_image(index, Version::Wide, counts, length, area);
+    Ok(length)
 }

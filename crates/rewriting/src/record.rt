@@ -3,10 +3,10 @@ ghost use Rattle.std.specs.Prelude.{◌≡◌, [], ◌∷◌, ◌++◌, ◌+◌,
 ghost use Rattle.semantics.specs.Bytes.Placed.{put};
 ghost use Rattle.semantics.specs.Bytes.Written.{be, unsigned};
 ghost use Rattle.semantics.specs.Image.Encoding.{bit, encode_node, encode_edge};
-ghost use Rattle.image.specs.Records.{KnownWidth};
 ghost use Rattle.rewriting.specs.Records.{begun};
+ghost use Rattle.image.specs.Versions.{width_of};
 
-use image::header::NARROW_SYMBOL;
+use image::version::Version;
 use semantics::graph::{Edge, Node};
 use semantics::kinds;
 use words::{bytes, halves, writing};
@@ -43,7 +43,7 @@ const LIVE: u32 = 9;
 fn flag(set: bool) -> u32
     ensures { result ≡ bit set }
 {
-    if set { 1 } else { 0 }
+    u32::from(set)
 }
 
 // The count and the kind: all of a record that has no fields.
@@ -67,17 +67,17 @@ fn begin(area: &mut [u8], at: usize, count: u32, kind: u32, file: u32)
 }
 
 // Four bytes hold the low word; eight the high word and behind it the low one.
-fn write_symbol(area: &mut [u8], at: usize, width: u32, symbol: u64)
-    requires known_width { KnownWidth width }
-    requires width_in_bounds { at + width ≤ length area.old }
-    ensures { area.new ≡ put at (be width symbol) area.old }
+fn write_symbol(area: &mut [u8], at: usize, version: Version, symbol: u64)
+    requires { at + width_of version ≤ length area.old }
+    ensures { area.new ≡ put at (be (width_of version) symbol) area.old }
 {
-    if width == NARROW_SYMBOL {
-        writing::put_long(area, at, halves::low(symbol));
-        return;
+    match version {
+        Version::Narrow => writing::put_long(area, at, halves::low(symbol)),
+        Version::Wide => {
+            writing::put_long(area, at, halves::high(symbol));
+            writing::put_long(area, at + WORD, halves::low(symbol));
+        }
     }
-    writing::put_long(area, at, halves::high(symbol));
-    writing::put_long(area, at + WORD, halves::low(symbol));
 }
 
 // A record without fields.
@@ -106,19 +106,20 @@ fn write_scope(area: &mut [u8], at: usize, file: u32, exported: bool) -> usize
 fn write_named(
     area: &mut [u8],
     at: usize,
-    width: u32,
+    version: Version,
     kind: u32,
     file: u32,
     symbol: u64,
     marked: bool,
 ) -> usize
-    requires known_width { KnownWidth width × (kind < 256) }
-    requires width_in_bounds { at + (5 + width) ≤ length area.old }
-    ensures value { result ≡ at + (5 + width) }
-    ensures area_after { area.new ≡ put at (begun (4 + width) kind file ++ (be width symbol ++ (bit marked ∷ []))) area.old }
+    requires kind_bound { kind < 256 }
+    requires version_in_bounds { at + (5 + width_of version) ≤ length area.old }
+    ensures value { result ≡ at + (5 + width_of version) }
+    ensures area_after { area.new ≡ put at (begun (4 + width_of version) kind file ++ (be (width_of version) symbol ++ (bit marked ∷ []))) area.old }
 {
+    let width = version.symbol_bytes();
     begin(area, at, NAMED + width, kind, file);
-    write_symbol(area, at + SYMBOL_AT, width, symbol);
+    write_symbol(area, at + SYMBOL_AT, version, symbol);
     let behind = at + SYMBOL_AT + width as usize;
     writing::put_byte(area, behind, flag(marked));
     behind + 1
@@ -128,22 +129,22 @@ fn write_named(
 fn write_attached(
     area: &mut [u8],
     at: usize,
-    width: u32,
+    version: Version,
     file: u32,
     symbol: u64,
     scope: u32,
     marked: bool,
 ) -> usize
-    requires known_width { KnownWidth width }
-    requires width_in_bounds { at + (7 + width) ≤ length area.old }
-    ensures value { result ≡ at + (7 + width) }
-    ensures area_after { area.new ≡ put at (begun (6 + width) 6 file ++ (be width symbol ++ (be 2 scope ++ (bit marked ∷ [])))) area.old }
+    requires { at + (7 + width_of version) ≤ length area.old }
+    ensures value { result ≡ at + (7 + width_of version) }
+    ensures area_after { area.new ≡ put at (begun (6 + width_of version) 6 file ++ (be (width_of version) symbol ++ (be 2 scope ++ (bit marked ∷ [])))) area.old }
 {
+    let width = version.symbol_bytes();
     let first = at + SYMBOL_AT;
     let second = first + width as usize;
     let last = second + SHORT;
     begin(area, at, ATTACHED + width, kinds::PUSH_SCOPED, file);
-    write_symbol(area, first, width, symbol);
+    write_symbol(area, first, version, symbol);
     writing::put_short(area, second, scope);
     writing::put_byte(area, last, flag(marked));
     last + 1
@@ -159,11 +160,10 @@ fn write_drop(area: &mut [u8], at: usize, file: u32) -> usize
 }
 
 // The record of a node; the place behind it.
-pub fn write_node(area: &mut [u8], at: usize, width: u32, node: Node) -> usize
-    requires known_width { KnownWidth width }
-    requires node_in_bounds { at + length (encode_node width node) ≤ length area.old }
-    ensures value { result ≡ at + length (encode_node width node) }
-    ensures area_after { area.new ≡ put at (encode_node width node) area.old }
+pub(crate) fn write_node(area: &mut [u8], at: usize, version: Version, node: Node) -> usize
+    requires { at + length (encode_node (width_of version) node) ≤ length area.old }
+    ensures value { result ≡ at + length (encode_node (width_of version) node) }
+    ensures area_after { area.new ≡ put at (encode_node (width_of version) node) area.old }
 {
     match node {
         Node::Removed => write_bare(area, at, kinds::REMOVED),
@@ -174,18 +174,18 @@ pub fn write_node(area: &mut [u8], at: usize, width: u32, node: Node) -> usize
             file,
             symbol,
             reference,
-        } => write_named(area, at, width, kinds::PUSH, file.0, symbol, reference),
+        } => write_named(area, at, version, kinds::PUSH, file.0, symbol, reference),
         Node::Pop {
             file,
             symbol,
             definition,
-        } => write_named(area, at, width, kinds::POP, file.0, symbol, definition),
+        } => write_named(area, at, version, kinds::POP, file.0, symbol, definition),
         Node::PushScoped {
             file,
             symbol,
             scope,
             reference,
-        } => write_attached(area, at, width, file.0, symbol, scope.0, reference),
+        } => write_attached(area, at, version, file.0, symbol, scope.0, reference),
         Node::PopScoped {
             file,
             symbol,
@@ -193,7 +193,7 @@ pub fn write_node(area: &mut [u8], at: usize, width: u32, node: Node) -> usize
         } => write_named(
             area,
             at,
-            width,
+            version,
             kinds::POP_SCOPED,
             file.0,
             symbol,
@@ -216,7 +216,7 @@ fn write_live(area: &mut [u8], at: usize, source: u32, target: u32, precedence: 
 }
 
 // The record of an edge; the place behind it.
-pub fn write_edge(area: &mut [u8], at: usize, edge: Edge) -> usize
+pub(crate) fn write_edge(area: &mut [u8], at: usize, edge: Edge) -> usize
     requires { at + length (encode_edge edge) ≤ length area.old }
     ensures value { result ≡ at + length (encode_edge edge) }
     ensures area_after { area.new ≡ put at (encode_edge edge) area.old }

@@ -1,8 +1,7 @@
 -- The rounds of a search from a reference, in code against the enumeration, for every choice of what is tried on a path.
 -- Document 01, "Answer" and "Budget and frontier".
-use Rattle.std.specs.Prelude.{ℕ, ◌-◌, ◌*◌, ◌<◌, ◌≤◌, ◌≡◌, List, length}
-use Rattle.semantics.specs.Limits.{steps_length, slot_length, max_expansions}
-use Rattle.semantics.specs.declared.search.Limit.{Limit}
+use Rattle.std.specs.Prelude.{Result, ℕ, ◌-◌, ◌*◌, ◌<◌, ◌≤◌, ◌≡◌, List, length, Ok, Err}
+use Rattle.semantics.specs.Limits.{steps_length, slot_length, max_expansions, Limit}
 use Rattle.semantics.specs.declared.refusal.SearchRefusal.{SearchRefusal}
 use Rattle.semantics.specs.Answer.{Answer, ok, refuse}
 use Rattle.semantics.specs.Graph.{Graph, View, view_of}
@@ -12,14 +11,13 @@ use Rattle.words.specs.Slots.{IsSlot}
 use Rattle.storage.specs.Index.{Loaded}
 use Rattle.stepping.specs.Judged.{Stepped}
 use Rattle.search_state.specs.declared.search.Search as S
-use Rattle.search_state.specs.declared.search.Going.{Going}
+use Rattle.search_state.specs.declared.search.Finished.{Finished}
+use Rattle.search_state.specs.Searches.{Going}
 use Rattle.search_state.specs.Items.{Clear}
 use Rattle.search_state.specs.Retraces.{Laid}
 use Rattle.search_state.specs.declared.progress.Frame.{Frame}
 use Rattle.search_state.specs.Progresses.{frame_of}
 use Rattle.search_state.specs.Reps.{slot_of, Counts, setting_of, Replayed, Rep, Tells}
-use Rattle.search_rounds.specs.declared.conclusion.SearchEnd.{SearchEnd}
-use Rattle.search_rounds.specs.declared.conclusion.SearchEnd.TheVariants.{Over, Refused}
 pub mod Laws
 
 -- what is tried on a path, under a limit on its length
@@ -65,12 +63,16 @@ pub record Driving (index steps item : List ℕ) (s : S.Search) (ws rs : List �
   pub looked : model.tally.looked ≤ 4096 * s.state.budget.expanded
   pub expanded : s.state.budget.expanded ≤ max_expansions
 
+-- how the rounds end: the search is over, or refused
+abbrev pub SearchEnd : Type 0
+SearchEnd = Result Finished SearchRefusal
+
 -- the search is over with this state and waiting figure, or refused alike
 abbrev pub Ends : SearchEnd → List ℕ → Answer SearchRefusal (State Path) → Type 0
-Ends (Over f) rs (ok u) = Counts f.state rs u × (f.waited ≡ u.tally.waited)
-Ends (Over f) rs (refuse y) = ⊥
-Ends (Refused x) rs (ok u) = ⊥
-Ends (Refused x) rs (refuse y) = x ≡ y
+Ends (Ok f) rs (ok u) = Counts f.state rs u × (f.waited ≡ u.tally.waited)
+Ends (Ok f) rs (refuse y) = ⊥
+Ends (Err x) rs (ok u) = ⊥
+Ends (Err x) rs (refuse y) = x ≡ y
 
 -- the run from a state on, in a frame
 abbrev pub run_from : Tries → View → Frame → ℕ → State Path → Answer SearchRefusal (State Path)

@@ -1,6 +1,6 @@
 -- The start of a search from a reference: 10 and 11, the first push, and the state from which it is driven. For every choice of what is tried.
 -- Serves document 01, "Answer"; 10, 11 and 31 of "Turned back".
-use Rattle.std.specs.Prelude.{ℕ, ◌-◌, ◌*◌, ◌/◌, ◌≤◌, ◌≡◌, ◌⊎◌, length, drop, get_or}
+use Rattle.std.specs.Prelude.{ℕ, ◌-◌, ◌*◌, ◌/◌, ◌≤◌, ◌≡◌, ◌⊎◌, length, drop, get_or, Ok, Err}
 use Rattle.std.proofs.Common.{arith, ◌∙◌, ⊎_elim}
 use Rattle.std.proofs.Math.Path.{refl, sym, ap, subst}
 use mathlib.Core.List.Memᴰ
@@ -26,7 +26,8 @@ use Rattle.semantics.specs.Words.Laws.{area-none, whole-fits}
 use Rattle.semantics.specs.Calls.{setting_of}
 use Rattle.storage.specs.Index.{node_row, Loaded}
 use Rattle.semantics.specs.declared.replayed.Step.{Step}
-use Rattle.stepping.specs.declared.step.Effect.{Effect}
+use Rattle.stepping.specs.Steps.{Effect}
+use Rattle.std.specs.Prelude.{Ok, Err}
 use Rattle.stepping.specs.StepWords.{with_step}
 use Rattle.stepping.specs.Judged.{Stepped, begun_of}
 use Rattle.stepping.specs.Judged.Laws.{Begun, begun-done, begun-refused}
@@ -39,7 +40,7 @@ use Rattle.path_frontier.specs.Frontier.Laws.{framed-empty}
 use Rattle.path_frontier.specs.Frontier.Stands.{stands-blank}
 use Rattle.search_state.specs.declared.state.SearchState.{SearchState}
 use Rattle.search_state.specs.declared.search.Search as S
-use Rattle.search_state.specs.declared.search.Going.{Going}
+use Rattle.search_state.specs.Searches.{Going}
 use Rattle.search_state.specs.States.{new_state}
 use Rattle.search_state.specs.Searches.{Pushable, Extends}
 use Rattle.search_state.specs.Reps as R
@@ -47,7 +48,7 @@ use Rattle.search_state.specs.declared.progress.Frame.{Frame}
 use Rattle.search_state.specs.Progresses.{frame_of}
 use Rattle.search_state.specs.Reps.{slot_in, slot_of, Rep, Tells}
 use Rattle.search_state.specs.Reps.Laws.{push-tells, tells-on, tells-refused}
-use Rattle.search_rounds.specs.declared.conclusion.SearchEnd.{SearchEnd}
+use Rattle.search_rounds.specs.Drives.{SearchEnd}
 use Rattle.search_rounds.specs.Drives.{Tries, Driving, Ends, run_from, DrivenTo}
 
 -- ---- the definition, from the first push on
@@ -74,9 +75,9 @@ pub record Begins (g : Graph) (o : SearchOrder) (l : SearchLimits) (ws rs : List
 
 -- the search goes on from a state of the enumeration, and where it is driven from there, it ends as the definition says; or it is refused alike
 abbrev pub StartedBy : Tries → List ℕ → Graph → SearchOrder → SearchLimits → List ℕ → List ℕ → ℕ → List ℕ → Going → List ℕ → List ℕ → List ℕ → Type 0
-StartedBy tries index g o l ws rs n item (Going.On t) steps ws' rs' =
+StartedBy tries index g o l ws rs n item (Ok t) steps ws' rs' =
     (v : Driving index steps item t ws' rs') × ((r : SearchEnd) (rs'' : List ℕ) → DrivenTo tries index steps item t ws' rs' v r rs'' → Ends r rs'' (answer_to tries g o l ws rs n))
-StartedBy tries index g o l ws rs n item (Going.Refused z) steps ws' rs' = (rs'' : List ℕ) → Ends (SearchEnd.Refused z) rs'' (answer_to tries g o l ws rs n)
+StartedBy tries index g o l ws rs n item (Err z) steps ws' rs' = (rs'' : List ℕ) → Ends (Err z) rs'' (answer_to tries g o l ws rs n)
 
 -- for every choice of what is tried
 abbrev pub Started : List ℕ → SearchOrder → SearchLimits → List ℕ → List ℕ → ℕ → List ℕ → Going → List ℕ → List ℕ → List ℕ → Type 0
@@ -84,10 +85,10 @@ Started index o l ws rs n item a steps ws' rs' = (tries : Tries) (g : Graph) →
 
 -- the same, and that state is the first one: the path of the reference was pushed, and nothing else was done
 abbrev pub FirstStartedBy : Tries → List ℕ → Graph → SearchOrder → SearchLimits → List ℕ → List ℕ → ℕ → List ℕ → Going → List ℕ → List ℕ → List ℕ → Type 0
-FirstStartedBy tries index g o l ws rs n item (Going.On t) steps ws' rs' =
+FirstStartedBy tries index g o l ws rs n item (Ok t) steps ws' rs' =
     (v : Driving index steps item t ws' rs') × ((r : SearchEnd) (rs'' : List ℕ) → DrivenTo tries index steps item t ws' rs' v r rs'' → Ends r rs'' (answer_to tries g o l ws rs n))
     × Begins g o l ws rs n index steps item t ws' rs' v
-FirstStartedBy tries index g o l ws rs n item (Going.Refused z) steps ws' rs' = (rs'' : List ℕ) → Ends (SearchEnd.Refused z) rs'' (answer_to tries g o l ws rs n)
+FirstStartedBy tries index g o l ws rs n item (Err z) steps ws' rs' = (rs'' : List ℕ) → Ends (Err z) rs'' (answer_to tries g o l ws rs n)
 
 -- for every choice of what is tried
 abbrev pub FirstStarted : List ℕ → SearchOrder → SearchLimits → List ℕ → List ℕ → ℕ → List ℕ → Going → List ℕ → List ℕ → List ℕ → Type 0
@@ -96,8 +97,8 @@ FirstStarted index o l ws rs n item a steps ws' rs' = (tries : Tries) (g : Graph
 -- what goes on from the first state goes on from a state
 pub begun-started : (tries : Tries) (index : List ℕ) (g : Graph) (o : SearchOrder) (l : SearchLimits) (ws rs : List ℕ) (n : ℕ) (item : List ℕ) (a : Going) (steps ws' rs' : List ℕ)
     → FirstStartedBy tries index g o l ws rs n item a steps ws' rs' → StartedBy tries index g o l ws rs n item a steps ws' rs'
-begun-started tries index g o l ws rs n item (Going.On t) steps ws' rs' h = (h.0, h.1)
-begun-started tries index g o l ws rs n item (Going.Refused z) steps ws' rs' h = h
+begun-started tries index g o l ws rs n item (Ok t) steps ws' rs' h = (h.0, h.1)
+begun-started tries index g o l ws rs n item (Err z) steps ws' rs' h = h
 
 -- the first push, for any bound on the expansions
 module _ (c : Setting SearchRefusal) (f : Path → List (Try SearchRefusal Path)) (n : ℕ) (p : Path) where
@@ -147,12 +148,12 @@ module _ (tries : Tries) {index : List ℕ} {g : Graph} (loaded : Loaded g index
   begun-in = sym (is ∙ ap (λ (f : ℕ → Node). begun_of f n) (nodes-are g index loaded))
 
   -- 10 and 11
-  pub begin-refused : (rs' : List ℕ) (z : PathRefusal) → x ≡ Effect.Refused z → Ends (SearchEnd.Refused (Search.Path z)) rs' answer
+  pub begin-refused : (rs' : List ℕ) (z : PathRefusal) → x ≡ Err z → Ends (Err (Search.Path z)) rs' answer
   begin-refused rs' z e =
-      subst (λ (y : Answer SearchRefusal (State Path)). Ends (SearchEnd.Refused (Search.Path z)) rs' y)
+      subst (λ (y : Answer SearchRefusal (State Path)). Ends (Err (Search.Path z)) rs' y)
       (sym (start-refused (setting_of base (request_of o l ws rs n)) (tries l.length (view_of g)) (view_of g) n z (begun-refused (view_of g) (zeros steps_length) empty-room n z (begun-in ∙ e)))) refl
 
-  module _ (s : Step) (e : x ≡ Effect.Done s) where
+  module _ (s : Step) (e : x ≡ Ok s) where
     abbrev start : Begun (view_of g) (zeros steps_length) empty-room n s
     start = begun-done (view_of g) (zeros steps_length) empty-room n s (begun-in ∙ e)
 
@@ -198,13 +199,13 @@ module _ (tries : Tries) {index : List ℕ} {g : Graph} (loaded : Loaded g index
         told = push-tells first-rep start.path good (subst (λ (i : List ℕ). Extends first ws i a ws') item-is y)
 
         -- 31
-        begin-full : (z : SearchRefusal) → a ≡ Going.Refused z → (rs' : List ℕ) → Ends (SearchEnd.Refused z) rs' answer
+        begin-full : (z : SearchRefusal) → a ≡ Err z → (rs' : List ℕ) → Ends (Err z) rs' answer
         unfolding pushed
         begin-full z d rs' =
-            subst (λ (y : Answer SearchRefusal (State Path)). Ends (SearchEnd.Refused z) rs' y)
+            subst (λ (y : Answer SearchRefusal (State Path)). Ends (Err z) rs' y)
             (sym (start-full (setting_of base (request_of o l ws rs n)) (tries l.length (view_of g)) (view_of g) n start.path z start.started (tells-refused (view_of g) n (frame_of first) a ws' rs₀ pushed z told d))) refl
 
-        module _ (t : S.Search) (d : a ≡ Going.On t) where
+        module _ (t : S.Search) (d : a ≡ Ok t) where
           going : (m : State Path) × (pushed ≡ ok m) × (frame_of t ≡ frame_of first) × Rep (view_of g) n t ws' rs₀ m
           going = tells-on (view_of g) n (frame_of first) a ws' rs₀ pushed t told d
 
@@ -256,8 +257,8 @@ module _ (tries : Tries) {index : List ℕ} {g : Graph} (loaded : Loaded g index
         begin-begun {steps} laid = by a refl
           where
             by : (b : Going) → a ≡ b → FirstStartedBy tries index g o l ws rs n item a steps ws' rs₀
-            by (Going.On t) d = on-begun t d laid
-            by (Going.Refused z) d = subst (λ (b : Going). FirstStartedBy tries index g o l ws rs n item b steps ws' rs₀) (sym d) (begin-full z d)
+            by (Ok t) d = on-begun t d laid
+            by (Err z) d = subst (λ (b : Going). FirstStartedBy tries index g o l ws rs n item b steps ws' rs₀) (sym d) (begin-full z d)
 
         pub begin-started : {steps : List ℕ} → steps ≡ with_step (zeros steps_length) 0 s → StartedBy tries index g o l ws rs n item a steps ws' rs₀
         begin-started {steps} laid = begun-started tries index g o l ws rs n item a steps ws' rs₀ (begin-begun laid)
@@ -265,8 +266,8 @@ module _ (tries : Tries) {index : List ℕ} {g : Graph} (loaded : Loaded g index
 -- ---- what a caller draws from the answer
 
 module _ (tries : Tries) (index : List ℕ) (g : Graph) (o : SearchOrder) (l : SearchLimits) (ws rs : List ℕ) (n : ℕ) (item : List ℕ) {a : Going} (steps ws' rs' : List ℕ) (h : StartedBy tries index g o l ws rs n item a steps ws' rs') where
-  module _ (t : S.Search) (d : a ≡ Going.On t) where
-    onward : StartedBy tries index g o l ws rs n item (Going.On t) steps ws' rs'
+  module _ (t : S.Search) (d : a ≡ Ok t) where
+    onward : StartedBy tries index g o l ws rs n item (Ok t) steps ws' rs'
     onward = subst (λ (b : Going). StartedBy tries index g o l ws rs n item b steps ws' rs') d h
 
     pub started-driving : Driving index steps item t ws' rs'
@@ -276,14 +277,14 @@ module _ (tries : Tries) (index : List ℕ) (g : Graph) (o : SearchOrder) (l : S
     unfolding started-driving
     started-driven r rs'' k = onward.1 r rs'' k
 
-  pub started-refused : (z : SearchRefusal) → a ≡ Going.Refused z → (rs'' : List ℕ) → Ends (SearchEnd.Refused z) rs'' (answer_to tries g o l ws rs n)
+  pub started-refused : (z : SearchRefusal) → a ≡ Err z → (rs'' : List ℕ) → Ends (Err z) rs'' (answer_to tries g o l ws rs n)
   started-refused z d rs'' = subst (λ (b : Going). StartedBy tries index g o l ws rs n item b steps ws' rs') d h rs''
 
 -- ---- and from that it begins
 
 module _ (tries : Tries) (index : List ℕ) (g : Graph) (o : SearchOrder) (l : SearchLimits) (ws rs : List ℕ) (n : ℕ) (item : List ℕ) {a : Going} (steps ws' rs' : List ℕ) (h : FirstStartedBy tries index g o l ws rs n item a steps ws' rs') where
-  module _ (t : S.Search) (d : a ≡ Going.On t) where
-    onward_first : FirstStartedBy tries index g o l ws rs n item (Going.On t) steps ws' rs'
+  module _ (t : S.Search) (d : a ≡ Ok t) where
+    onward_first : FirstStartedBy tries index g o l ws rs n item (Ok t) steps ws' rs'
     onward_first = subst (λ (b : Going). FirstStartedBy tries index g o l ws rs n item b steps ws' rs') d h
 
     pub first-driving : Driving index steps item t ws' rs'
@@ -297,5 +298,5 @@ module _ (tries : Tries) (index : List ℕ) (g : Graph) (o : SearchOrder) (l : S
     unfolding first-driving
     first-begins = onward_first.2
 
-  pub first-refused : (z : SearchRefusal) → a ≡ Going.Refused z → (rs'' : List ℕ) → Ends (SearchEnd.Refused z) rs'' (answer_to tries g o l ws rs n)
+  pub first-refused : (z : SearchRefusal) → a ≡ Err z → (rs'' : List ℕ) → Ends (Err z) rs'' (answer_to tries g o l ws rs n)
   first-refused z d rs'' = subst (λ (b : Going). FirstStartedBy tries index g o l ws rs n item b steps ws' rs') d h rs''

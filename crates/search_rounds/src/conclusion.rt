@@ -10,21 +10,14 @@ ghost use Rattle.search_rounds.specs.Finishes.{Concluding};
 
 use reply::finish::{Reply, finish};
 use search_state::search::Finished;
-use semantics::answer::Resolution;
+use semantics::answer::{Resolution, ResolutionRefusal, Resolved};
 use semantics::refusal::SearchRefusal;
 use words::slots;
-
-// The search is over, or refused.
-#[derive(Clone, Copy)]
-pub enum SearchEnd {
-    Over(Finished),
-    Refused(SearchRefusal),
-}
 
 // The paths of the reply, or the refusal; both areas as every call leaves them.
 pub fn conclude(
     index: &[u32],
-    driven: SearchEnd,
+    driven: Result<Finished, SearchRefusal>,
     reply: Reply,
     work: &mut [u32],
     res: &mut [u32],
@@ -35,17 +28,16 @@ pub fn conclude(
 {
     slots::zero(work);
     match driven {
-        SearchEnd::Over(finished) => {
-            let state = finished.state;
-            let paths = finish(index, reply, res, state.kept);
-            Resolution::Done {
+        Ok(finished) => {
+            let paths = finish(index, reply, res, finished.state.kept);
+            Ok(Resolved {
                 paths: paths as u64,
                 stats: finished.stats(),
-            }
+            })
         }
-        SearchEnd::Refused(r) => {
+        Err(r) => {
             slots::zero(res);
-            Resolution::Refused(r)
+            Err(ResolutionRefusal::Refused(r))
         }
     }
 }

@@ -6,12 +6,11 @@ ghost use Rattle.semantics.specs.Words.{zeros};
 ghost use Rattle.search_rounds.specs.Starts.{Started, FirstStarted};
 
 use path_frontier::frontier::{Frontier, SHORT_SLOT};
-use search_state::search::{Going, Search};
+use search_state::search::Search;
 use search_state::state::SearchState;
 use semantics::bounds::SLOT_WORDS;
 use semantics::refusal::SearchRefusal;
 use semantics::search::{SearchLimits, SearchOrder};
-use stepping::step::Effect;
 use stepping::{step, steps};
 
 // The reference's step is laid out, and its path waits; `steps`, `item` and the result area are zero before it, and the result area stays so.
@@ -24,17 +23,16 @@ pub fn start(
     item: &[u32],
     work: &mut [u32],
     res: &[u32],
-) -> Going
+) -> Result<Search, SearchRefusal>
     requires { HoldsGraph index.now × (steps.old ≡ zeros steps_length) × (item.now ≡ zeros slot_length) × (res.now ≡ zeros (length res.now)) }
     ensures started { Started index.now order limits work.old res.now reference item.now result steps.new
         work.new res.now }
     ensures begun { FirstStarted index.now order limits work.old res.now reference item.now result steps.new
         work.new res.now }
 {
-    let begun = step::begin(index, reference);
-    match begun {
-        Effect::Refused(r) => Going::Refused(SearchRefusal::Path(r)),
-        Effect::Done(first) => {
+    match step::begin(index, reference) {
+        Err(r) => Err(SearchRefusal::Path(r)),
+        Ok(first) => {
             steps::put_step(steps, 0, first);
             let search = Search {
                 frontier: Frontier::new(order, SHORT_SLOT, work.len() / SLOT_WORDS),

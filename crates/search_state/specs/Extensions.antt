@@ -8,7 +8,7 @@ use Rattle.semantics.specs.Path.{Path}
 use Rattle.semantics.specs.Enumeration.{State, keep, push_item}
 use Rattle.words.specs.Slots.{SlotsIn}
 use Rattle.search_state.specs.declared.search.Search as S
-use Rattle.search_state.specs.declared.search.Going.{Going}
+use Rattle.search_state.specs.Searches.{Going}
 use Rattle.search_state.specs.Searches.{Pushable}
 use Rattle.search_state.specs.Progresses.{frame_of}
 use Rattle.search_state.specs.Reps.{slot_of, Few, setting_of, Replayed, Rep, Tells}

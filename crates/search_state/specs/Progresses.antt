@@ -1,22 +1,26 @@
 -- A search as its progress in a frame: what goes round its loops in code, and the search that it stands for.
 -- Document 01, "Answer" and "Budget and frontier".
-use Rattle.std.specs.Prelude.{◌+◌, Bool, true}
+use Rattle.std.specs.Prelude.{Result, ◌+◌, Bool, true, Ok, Err}
+use Rattle.semantics.specs.declared.refusal.SearchRefusal.{SearchRefusal}
 use Rattle.semantics.specs.Lists.{pick}
 use Rattle.path_budget.specs.declared.budget.Budget.{Budget}
 use Rattle.path_budget.specs.Budget.{limits_of, budget_of}
 use Rattle.search_state.specs.declared.dead_ends.DeadEnds.{DeadEnds}
 use Rattle.search_state.specs.declared.search.Search as S
-use Rattle.search_state.specs.declared.search.Going.{Going}
-use Rattle.search_state.specs.declared.search.Going.TheVariants as Going
-use Rattle.search_state.specs.declared.search.Taken.{Taken}
-use Rattle.search_state.specs.declared.search.Taken.TheVariants as Taken
+use Rattle.search_state.specs.Searches.{Going, Taken}
+use Rattle.search_state.specs.declared.search.Round.{Round}
+use Rattle.search_state.specs.declared.search.Round.TheVariants.{Over, Expand}
 use Rattle.search_state.specs.declared.progress.Frame.{Frame}
 use Rattle.search_state.specs.declared.progress.Progress.{Progress}
-use Rattle.search_state.specs.declared.progress.Course.{Course}
-use Rattle.search_state.specs.declared.progress.Course.TheVariants as Course
-use Rattle.search_state.specs.declared.progress.Next.{Next}
-use Rattle.search_state.specs.declared.progress.Next.TheVariants as Next
 pub mod Laws
+
+-- a search that goes on in a frame, or its refusal
+abbrev pub Course : Type 0
+Course = Result Progress SearchRefusal
+
+-- the top of a round in a frame
+abbrev pub Next : Type 0
+Next = Result (Round Progress) SearchRefusal
 
 -- what a search never changes: its order, limits, and areas
 abbrev pub frame_of : S.Search → Frame
@@ -58,22 +62,28 @@ at f p = record {
 }
 
 abbrev pub course_of : Going → Course
-course_of (Going.On s) = Course.On (progress_of s)
-course_of (Going.Refused x) = Course.Refused x
+course_of (Ok s) = Ok (progress_of s)
+course_of (Err x) = Err x
 
 abbrev pub course_at : Frame → Course → Going
-course_at f (Course.On p) = Going.On (at f p)
-course_at f (Course.Refused x) = Going.Refused x
+course_at f (Ok p) = Ok (at f p)
+course_at f (Err x) = Err x
+
+abbrev pub round_of : Round S.Search → Round Progress
+round_of (Over f) = Over f
+round_of (Expand s) = Expand (progress_of s)
+
+abbrev pub round_at : Frame → Round Progress → Round S.Search
+round_at f (Over e) = Over e
+round_at f (Expand p) = Expand (at f p)
 
 abbrev pub next_of : Taken → Next
-next_of (Taken.Over f) = Next.Over f
-next_of (Taken.Expand s) = Next.Expand (progress_of s)
-next_of Taken.TooMany = Next.TooMany
+next_of (Ok r) = Ok (round_of r)
+next_of (Err x) = Err x
 
 abbrev pub next_at : Frame → Next → Taken
-next_at f (Next.Over e) = Taken.Over e
-next_at f (Next.Expand p) = Taken.Expand (at f p)
-next_at f Next.TooMany = Taken.TooMany
+next_at f (Ok r) = Ok (round_at f r)
+next_at f (Err x) = Err x
 
 -- behind edges that lead nowhere, with this length flag
 abbrev pub counted_on : Bool → DeadEnds → Progress → Progress

@@ -1,6 +1,6 @@
 -- What it means that a search held in code and lent words stands for a state of the enumeration.
 -- Document 01, "Answer": result slots, waiting slots, statistics and flags.
-use Rattle.std.specs.Prelude.{ℕ, ◌<◌, ◌≤◌, ◌≡◌, ◌⊎◌, length}
+use Rattle.std.specs.Prelude.{ℕ, ◌<◌, ◌≤◌, ◌≡◌, ◌⊎◌, length, Ok, Err}
 use mathlib.Core.List.{List, Memᴰ}
 use Rattle.semantics.specs.declared.search.SearchStats.{SearchStats}
 use Rattle.semantics.specs.declared.refusal.SearchRefusal.{SearchRefusal}
@@ -18,8 +18,7 @@ use Rattle.path_frontier.specs.Frontier.{Wider}
 use Rattle.path_frontier.specs.Frontier.Stands.{Stands}
 use Rattle.search_state.specs.declared.state.SearchState.{SearchState}
 use Rattle.search_state.specs.declared.search.Search as S
-use Rattle.search_state.specs.declared.search.Going.{Going}
-use Rattle.search_state.specs.declared.search.Going.TheVariants.{On, Refused}
+use Rattle.search_state.specs.Searches.{Going}
 use Rattle.search_state.specs.declared.progress.Frame.{Frame}
 use Rattle.search_state.specs.States.{stats_in}
 use Rattle.search_state.specs.Progresses.{frame_of}
@@ -70,7 +69,7 @@ pub record Rep (g : View) (r : ℕ) (s : S.Search) (ws rs : List ℕ) (m : State
 
 -- the search that goes on stands for the state answered, or it is refused alike
 abbrev pub Tells : View → ℕ → Frame → Going → List ℕ → List ℕ → Answer SearchRefusal (State Path) → Type 0
-Tells g r f (On s) ws rs (ok m) = (frame_of s ≡ f) × Rep g r s ws rs m
-Tells g r f (On s) ws rs (refuse y) = ⊥
-Tells g r f (Refused x) ws rs (ok m) = ⊥
-Tells g r f (Refused x) ws rs (refuse y) = x ≡ y
+Tells g r f (Ok s) ws rs (ok m) = (frame_of s ≡ f) × Rep g r s ws rs m
+Tells g r f (Ok s) ws rs (refuse y) = ⊥
+Tells g r f (Err x) ws rs (ok m) = ⊥
+Tells g r f (Err x) ws rs (refuse y) = x ≡ y

@@ -1,6 +1,6 @@
 -- What a search counts and keeps: the budget, cycle cuts, rejections, and result slots. Each operation as an equation.
 -- Document 01, "Answer" and "Budget and frontier"; 32 of "Turned back".
-use Rattle.std.specs.Prelude.{ℕ, ◌+◌, List, ltb}
+use Rattle.std.specs.Prelude.{ℕ, ◌+◌, List, ltb, Option, Some, None}
 use Rattle.semantics.specs.Limits.{slot_length}
 use Rattle.semantics.specs.declared.search.SearchLimits.{SearchLimits}
 use Rattle.semantics.specs.declared.search.SearchStats.{SearchStats}
@@ -9,8 +9,6 @@ use Rattle.words.specs.Slots.{put_slot}
 use Rattle.path_budget.specs.declared.budget.Budget.{Budget}
 use Rattle.path_budget.specs.Budget.{budget_of, lengthening, completion, stats_of}
 use Rattle.search_state.specs.declared.state.SearchState.{SearchState}
-use Rattle.search_state.specs.declared.state.Recorded.{Recorded}
-use Rattle.search_state.specs.declared.state.Recorded.TheVariants.{Done, Full}
 pub mod Laws
 
 abbrev pub new_state : SearchLimits → ℕ → SearchState
@@ -38,8 +36,8 @@ abbrev pub asked : SearchState → SearchState
 asked s = with_budget (completion s.kept s.budget).budget s
 
 -- a complete path: not kept by the limit, else 32 when all result slots are taken
-unfoldable pub recorded_by : SearchState → Recorded
-recorded_by s = pick (completion s.kept s.budget).allowed (pick (ltb s.kept s.results) (Done (kept_one (asked s))) Full) (Done (asked s))
+unfoldable pub recorded_by : SearchState → Option SearchState
+recorded_by s = pick (completion s.kept s.budget).allowed (pick (ltb s.kept s.results) (Some (kept_one (asked s))) None) (Some (asked s))
 
 -- its words stand in the next slot where it is kept
 unfoldable pub result_after : SearchState → List ℕ → List ℕ → List ℕ

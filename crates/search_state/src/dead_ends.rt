@@ -10,6 +10,7 @@ pub struct DeadEnds {
     pub overlong: bool,
 }
 
+// Kept: `cut` and `reject` stand here and in `SearchState`, and `cut` in `Extraction`: one addition each, for which a trait would ask both types to hand out a count and to take it back.
 impl DeadEnds {
     pub fn nothing() -> DeadEnds
         ensures { result ≡ nothing_passed }
@@ -26,7 +27,7 @@ impl DeadEnds {
         requires { self.cycles + 1 < 2 ^ 64 }
         ensures { result ≡ passed_cut self }
     {
-        self.cycles = self.cycles + 1;
+        self.cycles += 1;
         self
     }
 
@@ -35,7 +36,7 @@ impl DeadEnds {
         requires { self.rejected + 1 < 2 ^ 64 }
         ensures { result ≡ passed_rejection self }
     {
-        self.rejected = self.rejected + 1;
+        self.rejected += 1;
         self
     }
 

@@ -4,24 +4,14 @@ ghost use Rattle.std.specs.Prelude.{◌≡◌, ◌+◌, ◌<◌, ◌≤◌, eqb,
 ghost use Rattle.semantics.specs.Lists.{or, has};
 ghost use Rattle.search_state.specs.Items.{with_edge};
 
-// Is it this one, or was it found before?
-fn found_by(found: bool, edge: u32, other: u32) -> bool
-    ensures { result ≡ or (eqb edge other) found }
-{
-    if edge == other {
-        return true;
-    }
-    found
-}
-
 // Is the edge among those of a path? Such an edge is a cycle cut. Few edges are, so all are looked at: without a way out of the loop they are
 // compared several at a time.
 pub fn contains(edges: &[u32], edge: u32) -> bool
     ensures { result ≡ has edge edges.now }
 {
     let mut found = false;
-    for i in 0..edges.len() {
-        found = found_by(found, edge, edges[i]);
+    for other in edges {
+        found |= edge == *other;
     }
     found
 }

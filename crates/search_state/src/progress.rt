@@ -1,14 +1,13 @@
 // What a search changes, in plain numbers, beside what it never changes. Direct search goes round its loops as these: its order and limits are
 // enums, which are copied in parts that overlap, and the processor waits for such copies. Document 01, "Answer" and "Budget and frontier".
 ghost use Rattle.std.specs.Prelude.{◌≡◌, ◌+◌, ◌<◌, ◌^◌};
-ghost use Rattle.path_budget.specs.Budget.{budget_of};
-ghost use Rattle.search_state.specs.Progresses.{frame_of, at, progress_of, course_of, course_at, next_of, next_at, progress_by};
+ghost use Rattle.search_state.specs.Progresses.{frame_of, at, progress_of, course_at, round_of, next_at, progress_by};
 ghost use Rattle.search_state.specs.Searches.{Takeable, Taking};
 ghost use Rattle.search_state.specs.Extensions.{Extendable, ExtendsTo};
 
 use crate::dead_ends::DeadEnds;
-use crate::search::{Finished, Going, Search, Taken};
-use crate::state::SearchState;
+use crate::search::{Round, Search};
+use crate::state::{SearchState, begun};
 use path_budget::budget::Budget;
 use path_frontier::frontier::Frontier;
 use semantics::refusal::SearchRefusal;
@@ -41,41 +40,21 @@ pub struct Progress {
     pub complete_limited: bool,
 }
 
-// The search goes on, or ends with a refusal.
-#[derive(Clone, Copy)]
-pub enum Course {
-    On(Progress),
-    Refused(SearchRefusal),
-}
-
-// At the top of a round, as `Taken` is.
-#[derive(Clone, Copy)]
-pub enum Next {
-    Over(Finished),
-    Expand(Progress),
-    TooMany,
-}
-
+// Kept: a search is its frame and its progress together, and neither alone is the search, as a `From` would say.
 impl Search {
     pub fn frame(self) -> Frame
         ensures { result ≡ frame_of self }
     {
-        let frontier = self.frontier;
-        let state = self.state;
-        let budget = state.budget;
-        let order = frontier.order;
-        let length = budget.max_length;
-        let expansions = budget.max_paths;
-        let complete = budget.max_complete;
+        let budget = self.state.budget;
         Frame {
-            order,
+            order: self.frontier.order,
             limits: SearchLimits {
-                length,
-                expansions,
-                complete,
+                length: budget.max_length,
+                expansions: budget.max_paths,
+                complete: budget.max_complete,
             },
-            waiting: frontier.capacity,
-            results: state.results,
+            waiting: self.frontier.capacity,
+            results: self.state.results,
         }
     }
 
@@ -103,41 +82,14 @@ impl Search {
     }
 }
 
-impl Frame {
-    // The budget that a search begins with.
-    fn budget(self) -> Budget
-        ensures { result ≡ budget_of self.limits }
-    {
-        let limits = self.limits;
-        let length = limits.length;
-        let expansions = limits.expansions;
-        let complete = limits.complete;
-        Budget::new()
-            .with_max_path_length(length)
-            .with_max_path_count(expansions)
-            .with_max_complete_path_count(complete)
-    }
-}
-
-impl Going {
-    fn course(self) -> Course
-        ensures { result ≡ course_of self }
+impl Round<Search> {
+    // The same with the progress of the search alone.
+    fn progress(self) -> Round<Progress>
+        ensures { result ≡ round_of self }
     {
         match self {
-            Going::On(search) => Course::On(search.progress()),
-            Going::Refused(r) => Course::Refused(r),
-        }
-    }
-}
-
-impl Taken {
-    fn next(self) -> Next
-        ensures { result ≡ next_of self }
-    {
-        match self {
-            Taken::Over(finished) => Next::Over(finished),
-            Taken::Expand(search) => Next::Expand(search.progress()),
-            Taken::TooMany => Next::TooMany,
+            Round::Over(finished) => Round::Over(finished),
+            Round::Expand(search) => Round::Expand(search.progress()),
         }
     }
 }
@@ -146,9 +98,8 @@ impl Progress {
     fn frontier(self, frame: Frame) -> Frontier
         ensures { result ≡ (at frame self).frontier }
     {
-        let order = frame.order;
         Frontier {
-            order,
+            order: frame.order,
             length: self.slot,
             first: self.first,
             count: self.count,
@@ -162,13 +113,14 @@ impl Progress {
     pub fn budget(self, frame: Frame) -> Budget
         ensures { result ≡ (at frame self).state.budget }
     {
-        let mut budget = frame.budget();
-        budget.expanded = self.expanded;
-        budget.complete = self.complete;
-        budget.length_limited = self.length_limited;
-        budget.count_limited = self.count_limited;
-        budget.complete_limited = self.complete_limited;
-        budget
+        Budget {
+            expanded: self.expanded,
+            complete: self.complete,
+            length_limited: self.length_limited,
+            count_limited: self.count_limited,
+            complete_limited: self.complete_limited,
+            ..begun(frame.limits)
+        }
     }
 
     // The search that has come so far in this frame.
@@ -193,11 +145,10 @@ impl Progress {
         requires { (self.cycles + passed.cycles < 2 ^ 64) × (self.rejected + passed.rejected < 2 ^ 64) }
         ensures { result ≡ progress_by passed self }
     {
-        self.cycles = self.cycles + passed.cycles;
-        self.rejected = self.rejected + passed.rejected;
+        self.cycles += passed.cycles;
+        self.rejected += passed.rejected;
         if passed.overlong {
             self.length_limited = true;
-            return self;
         }
         self
     }
@@ -210,18 +161,23 @@ impl Progress {
         res: &mut [u32],
         item: &[u32],
         frame: Frame,
-    ) -> Course
+    ) -> Result<Progress, SearchRefusal>
         requires { Extendable (at frame self) work.old res.old item.now }
         ensures { ExtendsTo (at frame self) complete work.old res.old item.now (course_at frame result) work.new res.new }
     {
-        self.at(frame).extend(complete, work, res, item).course()
+        Ok(self.at(frame).extend(complete, work, res, item)?.progress())
     }
 
     // As `Search::take`.
-    pub fn take(self, work: &mut [u32], item: &mut [u32], frame: Frame) -> Next
+    pub fn take(
+        self,
+        work: &mut [u32],
+        item: &mut [u32],
+        frame: Frame,
+    ) -> Result<Round<Progress>, SearchRefusal>
         requires { Takeable (at frame self) work.old item.old }
         ensures { Taking (at frame self) work.old (next_at frame result) item.new work.new }
     {
-        self.at(frame).take(work, item).next()
+        Ok(self.at(frame).take(work, item)?.progress())
     }
 }

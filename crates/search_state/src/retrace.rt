@@ -11,17 +11,13 @@ fn shared(steps: &[u32], edges: &[u32], n: usize) -> usize
     requires { (length edges.now ≤ max_edges) × (step_length * length edges.now + step_length ≤ length steps.now) }
     ensures { Shared steps.now edges.now n result }
 {
-    let mut i: usize = 0;
-    while i < edges.len() {
-        if n <= i {
+    let most = edges.len().min(n);
+    for (i, edge) in edges[..most].iter().enumerate() {
+        if steps::get_step(steps, i + 1).edge != *edge {
             return i;
         }
-        if steps::get_step(steps, i + 1).edge != edges[i] {
-            return i;
-        }
-        i += 1;
     }
-    i
+    most
 }
 
 // The steps of these edges. Those that the path before has in common with it, of which steps 0 to n stand there, are not laid out again.
@@ -30,10 +26,9 @@ pub fn retrace(index: &[u32], steps: &mut [u32], edges: &[u32], n: usize)
     ensures { (t : Retraces index.now steps.old edges.now n)
         → Retraced index.now steps.old edges.now n t steps.new }
 {
-    let mut i = shared(steps, edges, n);
-    let mut last = steps::get_step(steps, i);
-    while i < edges.len() {
+    let first = shared(steps, edges, n);
+    let mut last = steps::get_step(steps, first);
+    for i in first..edges.len() {
         last = remaking::remake(index, steps, i + 1, edges[i], last);
-        i += 1;
     }
 }

@@ -3,6 +3,7 @@
 ghost use Rattle.std.specs.Prelude.{◌≡◌, ◌+◌, ◌<◌, ◌≤◌, ◌^◌};
 ghost use Rattle.semantics.specs.Limits.{slot_length};
 ghost use Rattle.words.specs.Slots.{IsSlot, SlotsIn};
+ghost use Rattle.path_budget.specs.Budget.{budget_of};
 ghost use Rattle.search_state.specs.States.{new_state, with_budget, cut_one, rejected_one, overlong_by, recorded_by, result_after, stats_in};
 
 use path_budget::budget::Budget;
@@ -20,10 +21,14 @@ pub struct SearchState {
     pub results: usize,
 }
 
-#[derive(Clone, Copy)]
-pub enum Recorded {
-    Done(SearchState),
-    Full,
+// The budget that a search begins with.
+pub(crate) fn begun(limits: SearchLimits) -> Budget
+    ensures { result ≡ budget_of limits }
+{
+    Budget::new()
+        .with_max_path_length(limits.length)
+        .with_max_path_count(limits.expansions)
+        .with_max_complete_path_count(limits.complete)
 }
 
 impl SearchState {
@@ -31,14 +36,8 @@ impl SearchState {
     pub fn new(limits: SearchLimits, results: usize) -> SearchState
         ensures { result ≡ new_state limits results }
     {
-        let length = limits.length;
-        let expansions = limits.expansions;
-        let complete = limits.complete;
         SearchState {
-            budget: Budget::new()
-                .with_max_path_length(length)
-                .with_max_path_count(expansions)
-                .with_max_complete_path_count(complete),
+            budget: begun(limits),
             cycles: 0,
             rejected: 0,
             kept: 0,
@@ -50,13 +49,7 @@ impl SearchState {
     pub fn with_budget(self, budget: Budget) -> SearchState
         ensures { result ≡ with_budget budget self }
     {
-        SearchState {
-            budget,
-            cycles: self.cycles,
-            rejected: self.rejected,
-            kept: self.kept,
-            results: self.results,
-        }
+        SearchState { budget, ..self }
     }
 
     // One more cycle cut.
@@ -64,7 +57,7 @@ impl SearchState {
         requires { self.cycles + 1 < 2 ^ 64 }
         ensures { result ≡ cut_one self }
     {
-        self.cycles = self.cycles + 1;
+        self.cycles += 1;
         self
     }
 
@@ -73,7 +66,7 @@ impl SearchState {
         requires { self.rejected + 1 < 2 ^ 64 }
         ensures { result ≡ rejected_one self }
     {
-        self.rejected = self.rejected + 1;
+        self.rejected += 1;
         self
     }
 
@@ -81,36 +74,33 @@ impl SearchState {
     pub fn measure(self, length: u64) -> SearchState
         ensures { result ≡ overlong_by length self }
     {
-        let budget = self.budget;
-        let asked = budget.admitted_length(length);
-        self.with_budget(asked.budget)
+        self.with_budget(self.budget.admitted_length(length).budget)
     }
 
-    // A complete path just found is counted, and kept in the next slot unless the limit on complete paths refuses it.
-    pub fn record_complete(self, res: &mut [u32], item: &[u32]) -> Recorded
+    // A complete path just found is counted, and kept in the next slot unless the limit on complete paths refuses it;
+    // `None` when all result slots are taken.
+    pub fn record_complete(self, res: &mut [u32], item: &[u32]) -> Option<SearchState>
         requires { (self.kept ≤ self.results) × SlotsIn slot_length self.results res.old × IsSlot slot_length item.now × (self.budget.complete + 1 < 2 ^ 64) }
         ensures value { result ≡ recorded_by self }
         ensures res_after { res.new ≡ result_after self item.now res.old }
     {
-        let budget = self.budget;
         let kept = self.kept;
-        let asked = budget.admitted_complete(kept as u64);
+        let asked = self.budget.admitted_complete(kept as u64);
         let mut next = self.with_budget(asked.budget);
         if asked.allowed {
             if kept < self.results {
                 slots::write_slot(res, SLOT_WORDS, kept, item);
                 next.kept = kept + 1;
-                return Recorded::Done(next);
+                return Some(next);
             }
-            return Recorded::Full;
+            return None;
         }
-        Recorded::Done(next)
+        Some(next)
     }
 
     pub fn stats(self) -> SearchStats
         ensures { result ≡ stats_in self }
     {
-        let budget = self.budget;
-        budget.stats(self.rejected, self.cycles)
+        self.budget.stats(self.rejected, self.cycles)
     }
 }

@@ -12,6 +12,7 @@ pub mod Calls
 pub mod Finding
 pub mod Tally
 pub mod Directory
+pub mod PublicAnswers
 pub mod Reading
 pub mod Rewriting
 pub mod Demand

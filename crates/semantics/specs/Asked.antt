@@ -1,7 +1,7 @@
 -- What a call is asked, as numbers: the order, then for each limit whether there is one, and its value: on length, on expansions, on complete
 -- expansions. Numbers that are missing at the end count as 0. A linear search reads no order, a replacement no limit on complete expansions.
-use Rattle.std.specs.Prelude.{ℕ, Bool, true, false, List, ltb, get_or}
-use Rattle.semantics.specs.declared.search.Limit.{Limit}
+use Rattle.std.specs.Prelude.{ℕ, Bool, true, false, List, ltb, get_or, None, Some}
+use Rattle.semantics.specs.Limits.{Limit}
 use Rattle.semantics.specs.declared.search.SearchOrder.{SearchOrder}
 use Rattle.semantics.specs.declared.search.SearchOrder.TheVariants as Order
 use Rattle.semantics.specs.declared.search.SearchLimits.{SearchLimits}
@@ -15,8 +15,8 @@ abbrev pub order_asked : List ℕ → SearchOrder
 order_asked ns = order_if (ltb 0 (get_or ns 0 0))
 
 abbrev pub limit_if : Bool → ℕ → Limit
-limit_if true value = Limit.AtMost value
-limit_if false value = Limit.Absent
+limit_if true value = Some value
+limit_if false value = None
 
 -- 0 is no limit, any other number one with the value behind it
 abbrev pub limit_of : ℕ → ℕ → Limit

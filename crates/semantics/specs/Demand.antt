@@ -1,16 +1,14 @@
 -- What demand 3 speaks of: the lists that the path rules take, partial paths, what a database holds, and the demand itself; and the same with the alias set.
 -- The third demand; document 01, "Partial paths", last paragraph; document 02, order 5.
-use Rattle.std.specs.Prelude.{ℕ, ◌≤◌, ◌<◌, ◌≡◌, ◌⊎◌, Bool, true, false, length, ℤ}
+use Rattle.std.specs.Prelude.{ℕ, ◌≤◌, ◌<◌, ◌≡◌, ◌⊎◌, Bool, true, false, length, ℤ, None}
 use Rattle.std.proofs.Math.Option.{some}
 use mathlib.Core.List.{List, [], ◌∷◌, Memᴰ}
 use Rattle.semantics.specs.declared.graph.NodeId.{NodeId}
 use Rattle.semantics.specs.declared.graph.Node.TheVariants as N
 use Rattle.semantics.specs.declared.graph.Edge.TheVariants as E
-use Rattle.semantics.specs.declared.search.Limit.{Limit}
-use Rattle.semantics.specs.declared.search.Limit.TheVariants.{Absent}
 use Rattle.semantics.specs.declared.refusal.PartialPathRefusal.{PartialPathRefusal}
 use Rattle.semantics.specs.Lists.{Distinct}
-use Rattle.semantics.specs.Limits.{Bounds, within, nobody}
+use Rattle.semantics.specs.Limits.{Bounds, within, nobody, Limit}
 use Rattle.semantics.specs.Answer.{ok}
 use Rattle.semantics.specs.Graph.{node_id, Graph, View, view_of, file_of, is_start, is_endpoint}
 use Rattle.semantics.specs.Path.{Path, replay, is_complete}
@@ -79,8 +77,8 @@ pub record Partial (bd : Bounds) (lim : Limit) (g : View) (O : Owners) (f : ℕ)
 
 -- the premise on databases: the live slots hold every owner's partial paths on this graph, and no others
 pub record Holds (O : Owners) (bd : Bounds) (g : View) (db : List Slot) : Type 0 where
-  pub every : (f : ℕ) (r : Route) → O.Known f → Partial bd Absent g O f r → Memᴰ (slot f r.start r.current r.edges) db
-  pub only : (f s t : ℕ) (es : List ℕ) → Memᴰ (slot f s t es) db → O.Known f × Partial bd Absent g O f (record { start = s; current = t; edges = es })
+  pub every : (f : ℕ) (r : Route) → O.Known f → Partial bd None g O f r → Memᴰ (slot f r.start r.current r.edges) db
+  pub only : (f s t : ℕ) (es : List ℕ) → Memᴰ (slot f s t es) db → O.Known f × Partial bd None g O f (record { start = s; current = t; edges = es })
 
 -- every slot names a file of the graph or nobody
 abbrev pub OwnersIn : Graph → List Slot → Type 0
@@ -92,8 +90,8 @@ NoAliases db = (s t : ℕ) (es : List ℕ) → Memᴰ (slot nobody s t es) db �
 
 -- an unrefused computation without limits on this graph, for a file or for the alias set
 pub data Computed (bd : Bounds) (g : Graph) : ℕ → State Route → Type 0 where
-  of-file : {u : State Route} (f : ℕ) (c : Setting PartialPathRefusal) → f < g.files → file_routes bd Absent c g f ≡ ok u → c.max_count ≡ Absent → c.max_complete ≡ Absent → Computed bd g f u
-  of-aliases : {u : State Route} (c : Setting PartialPathRefusal) → alias_routes bd Absent c g ≡ ok u → c.max_count ≡ Absent → c.max_complete ≡ Absent → Computed bd g nobody u
+  of-file : {u : State Route} (f : ℕ) (c : Setting PartialPathRefusal) → f < g.files → file_routes bd None c g f ≡ ok u → c.max_count ≡ None → c.max_complete ≡ None → Computed bd g f u
+  of-aliases : {u : State Route} (c : Setting PartialPathRefusal) → alias_routes bd None c g ≡ ok u → c.max_count ≡ None → c.max_complete ≡ None → Computed bd g nobody u
 
 -- a database in which files and the alias set were then replaced on this graph, without limits and unrefused, in any order; the owners replaced so far.
 -- Between these, dead slots may have been dropped.

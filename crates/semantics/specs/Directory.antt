@@ -1,6 +1,6 @@
 -- A flow directory: rows that lead from an ISIN, a tranche and a leg to a reference, and the call that resolves such a flow.
 -- Document 02, order 11.
-use Rattle.std.specs.Prelude.{ℕ, zero, suc, ◌+◌, ◌*◌, ◌/◌, ◌%◌, Bool, List, [], ◌∷◌, eqb, ltb, length}
+use Rattle.std.specs.Prelude.{ℕ, zero, suc, ◌+◌, ◌*◌, ◌/◌, ◌%◌, Bool, List, [], ◌∷◌, eqb, ltb, length, Err}
 use Rattle.std.proofs.Math.Bool.{true, false}
 use Rattle.std.proofs.Math.Option.{Option, none, some}
 use Rattle.semantics.specs.declared.search.SearchOrder.{SearchOrder}
@@ -8,7 +8,6 @@ use Rattle.semantics.specs.declared.search.SearchLimits.{SearchLimits}
 use Rattle.semantics.specs.declared.refusal.ImageRefusal.{ImageRefusal}
 use Rattle.semantics.specs.declared.refusal.SearchRefusal.{SearchRefusal}
 use Rattle.semantics.specs.declared.answer.Definitions.{Definitions}
-use Rattle.semantics.specs.declared.answer.Flow.{Flow}
 use Rattle.semantics.specs.Lists.{and, pick}
 use Rattle.semantics.specs.Limits.{Bounds, slot_words, isin_bytes, key_bytes, row_bytes}
 use Rattle.semantics.specs.Answer.{Answer, ok, refuse}
@@ -21,6 +20,8 @@ use Rattle.semantics.specs.Recorded.{edge_lists, returned}
 use Rattle.semantics.specs.Direct.{direct}
 use Rattle.semantics.specs.Words.{zeros, area}
 use Rattle.semantics.specs.Calls.{Request, Outcome, setting_of}
+use Rattle.semantics.specs.PublicAnswers.{Flow, flowed}
+use Rattle.semantics.specs.declared.answer.FlowRefusal.{FlowRefusal}
 
 -- THE ROWS: ISIN, tranche and leg, which are the key, then the reference; in bytes, with no header
 
@@ -119,8 +120,8 @@ module _ (bd : Bounds) where
   -- what the search leaves, with the definitions at which its returned paths end
   unfoldable pub flow_outcome : FlowRequest → Answer SearchRefusal (State Path) → Outcome Flow
   unfolding area definitions_of returned
-  flow_outcome q (ok s) = record { answer = Flow.Done (definitions_of (ends_of (returned s))) (length (returned s)) (report_of s); work = zeros q.work; result = area (slot_words bd) q.result (edge_lists (returned s)) }
-  flow_outcome q (refuse r) = bare q (Flow.Refused r)
+  flow_outcome q (ok s) = record { answer = flowed (definitions_of (ends_of (returned s))) (length (returned s)) (report_of s); work = zeros q.work; result = area (slot_words bd) q.result (edge_lists (returned s)) }
+  flow_outcome q (refuse r) = bare q (Err (FlowRefusal.Refused r))
 
   -- the direct search from the row's reference
   unfoldable pub resolved : Graph → FlowRequest → ℕ → Outcome Flow
@@ -131,22 +132,22 @@ module _ (bd : Bounds) where
   unfoldable pub if_found : Option ℕ → Graph → FlowRequest → Outcome Flow
   unfolding resolved
   if_found (some r) g q = resolved g q r
-  if_found none g q = bare q Flow.UnknownKey
+  if_found none g q = bare q (Err FlowRefusal.UnknownKey)
 
   -- 42
   unfoldable pub if_directory : Bool → List ℕ → Graph → FlowRequest → Outcome Flow
   unfolding if_found looked_up
   if_directory true rows g q = if_found (looked_up rows q.key) g q
-  if_directory false rows g q = bare q Flow.Disordered
+  if_directory false rows g q = bare q (Err FlowRefusal.Disordered)
 
   -- 41
   unfoldable pub if_isin : Bool → List ℕ → Graph → FlowRequest → Outcome Flow
   unfolding if_directory is_directory
   if_isin true rows g q = if_directory (is_directory rows) rows g q
-  if_isin false rows g q = bare q Flow.MalformedIsin
+  if_isin false rows g q = bare q (Err FlowRefusal.MalformedIsin)
 
   -- the image, 41, 42, 43, then the search
   unfoldable pub flow_call : Answer ImageRefusal Graph → List ℕ → FlowRequest → Outcome Flow
   unfolding if_isin is_isin
   flow_call (ok g) rows q = if_isin (is_isin q.key.isin) rows g q
-  flow_call (refuse x) rows q = bare q (Flow.Image x)
+  flow_call (refuse x) rows q = bare q (Err (FlowRefusal.Image x))

@@ -1,22 +1,11 @@
 -- THE PUBLIC ENTRIES: for each, from the bytes, words and numbers that it is lent to its whole outcome: the answer and every word it leaves.
 -- Contracts say of an entry that it does this; Calls has the same over an image that is decoded, and for every bound.
 use Rattle.std.specs.Prelude.{ℕ, ◌≡◌, List, length}
-use Rattle.semantics.specs.declared.search.Limit.{Limit}
 use Rattle.semantics.specs.declared.search.SearchOrder.{SearchOrder}
 use Rattle.semantics.specs.declared.search.SearchLimits.{SearchLimits}
 use Rattle.semantics.specs.declared.refusal.ImageRefusal.{ImageRefusal}
-use Rattle.semantics.specs.declared.answer.Checked.{Checked}
-use Rattle.semantics.specs.declared.answer.Judgement.{Judgement}
-use Rattle.semantics.specs.declared.answer.Resolution.{Resolution}
-use Rattle.semantics.specs.declared.answer.LinearResolution.{LinearResolution}
-use Rattle.semantics.specs.declared.answer.Creation.{Creation}
-use Rattle.semantics.specs.declared.answer.Replacement.{Replacement}
-use Rattle.semantics.specs.declared.answer.Finding.{Finding}
-use Rattle.semantics.specs.declared.answer.NodeReading.{NodeReading}
-use Rattle.semantics.specs.declared.answer.EdgeReading.{EdgeReading}
 use Rattle.semantics.specs.declared.answer.Trend.{Trend}
-use Rattle.semantics.specs.declared.answer.Flow.{Flow}
-use Rattle.semantics.specs.Limits.{base, former, window_entries}
+use Rattle.semantics.specs.Limits.{base, former, window_entries, Limit}
 use Rattle.semantics.specs.Answer.{Answer}
 use Rattle.semantics.specs.Graph.{Graph}
 use Rattle.semantics.specs.Image.{symbol_bytes, check_image}
@@ -32,6 +21,7 @@ use Rattle.semantics.specs.Reading.{Listed, node_call, edge_call, references_cal
 use Rattle.semantics.specs.Rewriting.{Rewritten, widen, narrow}
 use Rattle.semantics.specs.Window.{Entering, begin_words, enter_call, trend_in}
 use Rattle.semantics.specs.Asked.{order_asked, length_asked, expansions_asked, limits_asked}
+use Rattle.semantics.specs.PublicAnswers.{Checked, Creation, EdgeReading, Finding, Flow, Judgement, LinearResolution, NodeReading, Replacement, Resolution}
 
 -- what a call reads of its image: an accepted graph or 1 to 5
 abbrev pub graph_in : List ℕ → Answer ImageRefusal Graph

@@ -6,10 +6,9 @@ use Rattle.std.proofs.Math.Bool.{true, false}
 use mathlib.Core.List.{List, [], ◌∷◌, ◌++◌}
 use Rattle.semantics.specs.declared.search.SearchOrder.{SearchOrder}
 use Rattle.semantics.specs.declared.search.SearchOrder.TheVariants.{BreadthFirst, DepthFirst}
-use Rattle.semantics.specs.declared.search.Limit.{Limit}
 use Rattle.semantics.specs.declared.search.SearchStats.{SearchStats}
 use Rattle.semantics.specs.Lists.{pick}
-use Rattle.semantics.specs.Limits.{below}
+use Rattle.semantics.specs.Limits.{below, Limit}
 use Rattle.semantics.specs.Answer.{Answer, ok, refuse, and_then, ok_if}
 pub mod Laws
 pub mod Statistics

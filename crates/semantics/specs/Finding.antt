@@ -1,11 +1,9 @@
 -- A name that reaches a definition: references are searched ascending, breadth-first, without count limits, each to its end.
 -- Document 02, order 1.
-use Rattle.std.specs.Prelude.{ℕ, suc, Bool, List, [], ◌∷◌, eqb}
+use Rattle.std.specs.Prelude.{ℕ, suc, Bool, List, [], ◌∷◌, eqb, None, Err, Ok, Some}
 use Rattle.std.proofs.Math.Bool.{true, false}
 use Rattle.std.proofs.Math.Option.{Option, none, some}
 use Rattle.semantics.specs.declared.graph.Node.{Node}
-use Rattle.semantics.specs.declared.search.Limit.{Limit}
-use Rattle.semantics.specs.declared.search.Limit.TheVariants.{Absent}
 use Rattle.semantics.specs.declared.search.SearchLimits.{SearchLimits}
 use Rattle.semantics.specs.declared.search.SearchOrder.TheVariants.{BreadthFirst}
 use Rattle.semantics.specs.declared.refusal.ImageRefusal.{ImageRefusal}
@@ -13,7 +11,7 @@ use Rattle.semantics.specs.declared.refusal.SearchRefusal.{SearchRefusal}
 use Rattle.semantics.specs.declared.refusal.SearchRefusal.TheVariants as Search
 use Rattle.semantics.specs.declared.refusal.PathRefusal.TheVariants.{UnknownNode}
 use Rattle.semantics.specs.Lists.{cons_if, pick}
-use Rattle.semantics.specs.Limits.{Bounds, slot_words}
+use Rattle.semantics.specs.Limits.{Bounds, slot_words, Limit}
 use Rattle.semantics.specs.Answer.{Answer, ok, refuse, and_then}
 use Rattle.semantics.specs.Graph.{node_id, Graph, View, view_of, traits, is_reference, is_definition}
 use Rattle.semantics.specs.Path.{Path}
@@ -22,7 +20,8 @@ use Rattle.semantics.specs.Recorded.{recorded}
 use Rattle.semantics.specs.Direct.{direct, search_setting}
 use Rattle.semantics.specs.Words.{zeros, whole_slots, area}
 use Rattle.semantics.specs.Calls.{Outcome}
-use Rattle.semantics.specs.declared.answer.Finding.{Finding}
+use Rattle.semantics.specs.PublicAnswers.{Finding}
+use Rattle.semantics.specs.declared.answer.FindingRefusal.{FindingRefusal}
 
 -- a name that was found: the reference, and the edges of its path
 pub record Name : Type 0 where
@@ -51,7 +50,7 @@ find_in search n (r ∷ rs) = and_then (search r) (λ s. named r (first_to n (re
 
 -- without count limits
 abbrev pub only_length : Limit → SearchLimits
-only_length lim = record { length = lim; expansions = Absent; complete = Absent }
+only_length lim = record { length = lim; expansions = None; complete = None }
 
 -- the direct search from a reference, breadth-first
 abbrev pub search_to : Bounds → Limit → ℕ → ℕ → View → ℕ → Answer SearchRefusal (State Path)
@@ -78,24 +77,24 @@ module _ (bd : Bounds) where
   -- the path is put in the first result slot, all else zero
   unfoldable pub found_as : FindRequest → Answer SearchRefusal (Option Name) → Outcome Finding
   unfolding area
-  found_as q (ok (some m)) = record { answer = Finding.Found (node_id m.reference); work = zeros q.work; result = area (slot_words bd) q.result (m.edges ∷ []) }
-  found_as q (ok none) = bare q Finding.Nothing
-  found_as q (refuse r) = bare q (Finding.Refused r)
+  found_as q (ok (some m)) = record { answer = Ok (Some (node_id m.reference)); work = zeros q.work; result = area (slot_words bd) q.result (m.edges ∷ []) }
+  found_as q (ok none) = bare q (Ok None)
+  found_as q (refuse r) = bare q (Err (FindingRefusal.Refused r))
 
   -- 37
   unfoldable pub if_definition : Bool → Graph → FindRequest → Outcome Finding
   unfolding found_as name_to
   if_definition true g q = found_as q (name_to bd q.length (whole_slots (slot_words bd) q.work) (whole_slots (slot_words bd) q.result) g q.node)
-  if_definition false g q = bare q (Finding.NotDefinition (node_id q.node))
+  if_definition false g q = bare q (Err (FindingRefusal.NotDefinition (node_id q.node)))
 
   -- 10
   unfoldable pub unless_removed : Bool → Graph → FindRequest → Outcome Finding
   unfolding if_definition view_of
-  unless_removed true g q = bare q (Finding.Refused (Search.Path (UnknownNode (node_id q.node))))
+  unless_removed true g q = bare q (Err (FindingRefusal.Refused (Search.Path (UnknownNode (node_id q.node)))))
   unless_removed false g q = if_definition (is_definition ((view_of g).node q.node)) g q
 
   -- the image, 10, 37, then the searches
   unfoldable pub find_call : Answer ImageRefusal Graph → FindRequest → Outcome Finding
   unfolding unless_removed view_of
   find_call (ok g) q = unless_removed (traits ((view_of g).node q.node)).removed g q
-  find_call (refuse x) q = bare q (Finding.Image x)
+  find_call (refuse x) q = bare q (Err (FindingRefusal.Image x))

@@ -12,6 +12,7 @@ pub mod Linear
 pub mod PartialPaths
 pub mod Hidden
 pub mod Stitching
+pub mod PublicAnswers
 pub mod Recorded
 pub mod Bytes
 pub mod Image

@@ -1,18 +1,21 @@
 -- Limits that are each a number or absent, and the two bounds that hold always.
 -- Document 01, "Budget and frontier"; 30 and 36 of "Turned back".
-use Rattle.std.specs.Prelude.{ℕ, suc, ◌+◌, ◌*◌, Bool, true, leb, ltb}
-use Rattle.semantics.specs.declared.search.Limit.{Limit}
-use Rattle.semantics.specs.declared.search.Limit.TheVariants.{Absent, AtMost}
+use Rattle.std.specs.Prelude.{ℕ, suc, ◌+◌, ◌*◌, Bool, true, leb, ltb, None, Some}
+use Rattle.std.specs.declared.option.Option.{Option}
+
+-- a limit is a number or absent
+abbrev pub Limit : Type 0
+Limit = Option ℕ
 
 -- a length is refused only above its limit
 abbrev pub within : ℕ → Limit → Bool
-within n Absent = true
-within n (AtMost m) = leb n m
+within n None = true
+within n (Some m) = leb n m
 
 -- an expansion, and the keeping of a complete path, are refused when the count has reached its limit
 abbrev pub below : ℕ → Limit → Bool
-below n Absent = true
-below n (AtMost m) = ltb n m
+below n None = true
+below n (Some m) = ltb n m
 
 -- how many edges a path may hold, and how many expansions a search may make
 pub record Bounds : Type 0 where

@@ -1,12 +1,11 @@
 -- Linear search from a reference: at most one edge of each node may be appended.
 -- Document 01, "Answer": `try_compute_linear`.
 use Rattle.std.specs.Prelude.{ℕ, List, [], ◌∷◌}
-use Rattle.semantics.specs.declared.search.Limit.{Limit}
 use Rattle.semantics.specs.declared.search.SearchOrder.TheVariants.{BreadthFirst}
 use Rattle.semantics.specs.declared.search.SearchLimits.{SearchLimits}
 use Rattle.semantics.specs.declared.refusal.LinearRefusal.{LinearRefusal}
 use Rattle.semantics.specs.declared.refusal.LinearRefusal.TheVariants as Linear
-use Rattle.semantics.specs.Limits.{Bounds}
+use Rattle.semantics.specs.Limits.{Bounds, Limit}
 use Rattle.semantics.specs.Answer.{Answer, and_then, wrap}
 use Rattle.semantics.specs.Graph.{node_id, View}
 use Rattle.semantics.specs.Path.{Path, from_reference}

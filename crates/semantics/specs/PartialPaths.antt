@@ -1,17 +1,15 @@
 -- The partial paths of a file and those of the alias set, and the slots of a database that hold them.
 -- Document 01, "Partial paths": `StackPartialPathSet::compute`, `replace_file`; document 02, order 5.
-use Rattle.std.specs.Prelude.{ℕ, suc, ◌≡◌, Bool, true, false, List, [], ◌∷◌, ◌++◌, map, eqb, ltb, length}
+use Rattle.std.specs.Prelude.{ℕ, suc, ◌≡◌, Bool, true, false, List, [], ◌∷◌, ◌++◌, map, eqb, ltb, length, None}
 use Rattle.semantics.specs.declared.graph.Node.{Node}
 use Rattle.semantics.specs.declared.graph.Edge.{Edge}
 use Rattle.semantics.specs.declared.graph.Edge.TheVariants as E
-use Rattle.semantics.specs.declared.search.Limit.{Limit}
-use Rattle.semantics.specs.declared.search.Limit.TheVariants.{Absent}
 use Rattle.semantics.specs.declared.search.SearchOrder.{SearchOrder}
 use Rattle.semantics.specs.declared.search.PartialPathStats.{PartialPathStats}
 use Rattle.semantics.specs.declared.refusal.PartialPathRefusal.{PartialPathRefusal}
 use Rattle.semantics.specs.declared.refusal.PartialPathRefusal.TheVariants.{UnknownFile, TooLong, NoWaitingSlot, TooManyExpansions}
 use Rattle.semantics.specs.Lists.{or, and, pick, cons_if, has, select}
-use Rattle.semantics.specs.Limits.{Bounds, within, nobody}
+use Rattle.semantics.specs.Limits.{Bounds, within, nobody, Limit}
 use Rattle.semantics.specs.Answer.{Answer, refuse}
 use Rattle.semantics.specs.Graph.{file_id, Graph, View, view_of, file_of, is_file, lacks_file, is_start, is_endpoint}
 use Rattle.semantics.specs.Enumeration.{Try, go, tested, Setting, slots, unlimited, State, enumerate}
@@ -84,7 +82,7 @@ route_tries bd lim g mine r = map (judge_route bd lim g r) (select mine (g.out r
 -- found paths take no result slots
 abbrev pub partial_setting : SearchOrder → Limit → ℕ → Setting PartialPathRefusal
 partial_setting order max_count waiting =
-    record { order = order; max_count = max_count; max_complete = Absent; waiting = slots waiting NoWaitingSlot; results = unlimited; too_many = TooManyExpansions }
+    record { order = order; max_count = max_count; max_complete = None; waiting = slots waiting NoWaitingSlot; results = unlimited; too_many = TooManyExpansions }
 
 -- the partial paths of an owner, from these starts
 unfoldable pub partials : Bounds → Limit → Setting PartialPathRefusal → View → (ℕ → Bool) → List Route → Answer PartialPathRefusal (State Route)

@@ -1,14 +1,13 @@
 -- Stitched search from a reference over the slots of a database.
 -- Document 01, "Partial paths": `try_compute_from_partials`. A used partial path shares an edge, so its number is not kept.
 use Rattle.std.specs.Prelude.{ℕ, ◌+◌, Bool, List, [], ◌∷◌, eqb, leb, length}
-use Rattle.semantics.specs.declared.search.Limit.{Limit}
 use Rattle.semantics.specs.declared.refusal.PathRefusal.TheVariants as P
 use Rattle.semantics.specs.declared.refusal.ReplayRefusal.{ReplayRefusal}
 use Rattle.semantics.specs.declared.refusal.ReplayRefusal.TheVariants as Replay
 use Rattle.semantics.specs.declared.refusal.SearchRefusal.{SearchRefusal}
 use Rattle.semantics.specs.declared.refusal.SearchRefusal.TheVariants as Search
 use Rattle.semantics.specs.Lists.{cons_if, shares}
-use Rattle.semantics.specs.Limits.{Bounds, within}
+use Rattle.semantics.specs.Limits.{Bounds, within, Limit}
 use Rattle.semantics.specs.Answer.{Answer, ok, refuse, and_then, wrap}
 use Rattle.semantics.specs.Graph.{View}
 use Rattle.semantics.specs.Path.{Path, append_all, is_complete, from_reference}

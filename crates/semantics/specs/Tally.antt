@@ -1,14 +1,11 @@
 -- How many lists of distinct edges reach a complete path from a reference, for each length that a path may have.
 -- Document 02, order 9.
-use Rattle.std.specs.Prelude.{ℕ, zero, suc, List, [], ◌∷◌, eqb, length}
-use Rattle.semantics.specs.declared.search.Limit.TheVariants.{Absent}
+use Rattle.std.specs.Prelude.{ℕ, zero, suc, List, [], ◌∷◌, eqb, length, None, Err, Ok}
 use Rattle.semantics.specs.declared.search.SearchLimits.{SearchLimits}
 use Rattle.semantics.specs.declared.search.SearchOrder.TheVariants.{DepthFirst}
 use Rattle.semantics.specs.declared.refusal.ImageRefusal.{ImageRefusal}
 use Rattle.semantics.specs.declared.refusal.SearchRefusal.{SearchRefusal}
 use Rattle.semantics.specs.declared.refusal.SearchRefusal.TheVariants as Search
-use Rattle.semantics.specs.declared.answer.Tallying.{Tallying}
-use Rattle.semantics.specs.declared.answer.Tallying.TheVariants as Tallying
 use Rattle.semantics.specs.Lists.{cons_if}
 use Rattle.semantics.specs.Limits.{Bounds, slot_words}
 use Rattle.semantics.specs.Answer.{Answer, ok, refuse}
@@ -18,15 +15,17 @@ use Rattle.semantics.specs.Enumeration.{Setting, slots, unlimited, State}
 use Rattle.semantics.specs.Recorded.{edge_lists}
 use Rattle.semantics.specs.Direct.{direct}
 use Rattle.semantics.specs.Words.{zeros, whole_slots}
+use Rattle.semantics.specs.PublicAnswers.{Tallying}
+use Rattle.semantics.specs.declared.answer.TurnedBack.{TurnedBack}
 pub mod Laws
 
 -- no limit at all
 abbrev pub no_limits : SearchLimits
-no_limits = record { length = Absent; expansions = Absent; complete = Absent }
+no_limits = record { length = None; expansions = None; complete = None }
 
 -- the unlimited direct search, depth-first, which keeps every complete path and in no slot
 abbrev pub tally_setting : ℕ → Setting SearchRefusal
-tally_setting waiting = record { order = DepthFirst; max_count = Absent; max_complete = Absent; waiting = slots waiting Search.NoWaitingSlot; results = unlimited; too_many = Search.TooManyExpansions }
+tally_setting waiting = record { order = DepthFirst; max_count = None; max_complete = None; waiting = slots waiting Search.NoWaitingSlot; results = unlimited; too_many = Search.TooManyExpansions }
 
 -- the lists of a length
 unfoldable pub of_length : ℕ → List (List ℕ) → List (List ℕ)
@@ -63,11 +62,11 @@ module _ (bd : Bounds) (q : TallyRequest) where
 
   unfoldable pub tally_outcome : Answer SearchRefusal (State Path) → TallyOutcome
   unfolding lengths_from
-  tally_outcome (ok s) = record { answer = Tallying.Done; numbers = lengths bd (edge_lists s.kept); work = zeros q.work }
-  tally_outcome (refuse r) = untallied (Tallying.Refused r)
+  tally_outcome (ok s) = record { answer = Ok tt; numbers = lengths bd (edge_lists s.kept); work = zeros q.work }
+  tally_outcome (refuse r) = untallied (Err (TurnedBack.Refused r))
 
   -- the image, then the node. It is asked of the image as a desk sees it: Hidden, `seen_image`
   unfoldable pub tally_call : Answer ImageRefusal Graph → TallyOutcome
   unfolding tally_outcome direct view_of
-  tally_call (ok g) = tally_outcome (direct bd Absent (tally_setting (whole_slots (slot_words bd) q.work)) (view_of g) q.node)
-  tally_call (refuse x) = untallied (Tallying.Image x)
+  tally_call (ok g) = tally_outcome (direct bd None (tally_setting (whole_slots (slot_words bd) q.work)) (view_of g) q.node)
+  tally_call (refuse x) = untallied (Err (TurnedBack.Image x))

@@ -1,6 +1,6 @@
 -- What each case of an answer is in document 01: its number, then the values that are returned with it.
 -- Document 01, "Turned back"; a call that is not refused has the number 0 here. Told/Laws shows that nothing is lost: answers told alike are the same.
-use Rattle.std.specs.Prelude.{ℕ, ◌-◌, Bool, true, false, List, [], ◌∷◌}
+use Rattle.std.specs.Prelude.{ℕ, ◌-◌, Bool, true, false, List, [], ◌∷◌, Err, None, Ok, Some}
 use Rattle.semantics.specs.Database.{Part}
 use Rattle.semantics.specs.declared.search.SearchStats.{SearchStats}
 use Rattle.semantics.specs.declared.search.PartialPathStats.{PartialPathStats}
@@ -18,28 +18,24 @@ use Rattle.semantics.specs.declared.refusal.PartialPathRefusal.{PartialPathRefus
 use Rattle.semantics.specs.declared.refusal.PartialPathRefusal.TheVariants as Partial
 use Rattle.semantics.specs.declared.refusal.DatabaseRefusal.{DatabaseRefusal}
 use Rattle.semantics.specs.declared.refusal.DatabaseRefusal.TheVariants as Database
-use Rattle.semantics.specs.declared.answer.Checked.{Checked}
-use Rattle.semantics.specs.declared.answer.Replayed.{Replayed}
-use Rattle.semantics.specs.declared.answer.Judgement.{Judgement}
-use Rattle.semantics.specs.declared.answer.Resolution.{Resolution}
-use Rattle.semantics.specs.declared.answer.LinearResolution.{LinearResolution}
-use Rattle.semantics.specs.declared.answer.Creation.{Creation}
-use Rattle.semantics.specs.declared.answer.Replacement.{Replacement}
-use Rattle.semantics.specs.declared.answer.Finding.{Finding}
-use Rattle.semantics.specs.declared.answer.Tallying.{Tallying}
-use Rattle.semantics.specs.declared.answer.Rewriting.{Rewriting}
-use Rattle.semantics.specs.declared.answer.Conversion.{Conversion}
-use Rattle.semantics.specs.declared.answer.Compaction.{Compaction}
-use Rattle.semantics.specs.declared.answer.Entered.{Entered}
 use Rattle.semantics.specs.declared.answer.Trend.{Trend}
 use Rattle.semantics.specs.declared.answer.Definitions.{Definitions}
-use Rattle.semantics.specs.declared.answer.Flow.{Flow}
 use Rattle.semantics.specs.declared.graph.Node.{Node}
 use Rattle.semantics.specs.declared.graph.Node.TheVariants as N
-use Rattle.semantics.specs.declared.answer.NodeReading.{NodeReading}
-use Rattle.semantics.specs.declared.answer.EdgeReading.{EdgeReading}
-use Rattle.semantics.specs.declared.answer.Listing.{Listing}
 use Rattle.semantics.specs.Bytes.Written.{unsigned}
+use Rattle.semantics.specs.PublicAnswers.{Checked, Compaction, Conversion, Creation, EdgeReading, Entered, Finding, Flow, Judgement, LinearResolution, Listing, NodeReading, Replacement, Replayed, Resolution, Rewriting, Tallying}
+use Rattle.semantics.specs.declared.answer.CompactionRefusal.{CompactionRefusal}
+use Rattle.semantics.specs.declared.answer.ConversionRefusal.{ConversionRefusal}
+use Rattle.semantics.specs.declared.answer.CreationRefusal.{CreationRefusal}
+use Rattle.semantics.specs.declared.answer.EntryRefusal.{EntryRefusal}
+use Rattle.semantics.specs.declared.answer.FindingRefusal.{FindingRefusal}
+use Rattle.semantics.specs.declared.answer.FlowRefusal.{FlowRefusal}
+use Rattle.semantics.specs.declared.answer.ListingRefusal.{ListingRefusal}
+use Rattle.semantics.specs.declared.answer.ReadingRefusal.{ReadingRefusal}
+use Rattle.semantics.specs.declared.answer.ReplacementRefusal.{ReplacementRefusal}
+use Rattle.semantics.specs.declared.answer.ResolutionRefusal.{ResolutionRefusal}
+use Rattle.semantics.specs.declared.answer.RewritingRefusal.{RewritingRefusal}
+use Rattle.semantics.specs.declared.answer.TurnedBack.{TurnedBack}
 
 -- THE REFUSALS, row by row of document 01's table
 abbrev pub told_image : ImageRefusal → List ℕ
@@ -102,61 +98,61 @@ told_partial_stats s = s.expanded ∷ s.found ∷ s.cycles ∷ told_flag s.lengt
 
 -- THE ANSWERS OF THE CALLS
 abbrev pub told_checked : Checked → List ℕ
-told_checked (Checked.Accepted files nodes edges) = 0 ∷ files ∷ nodes ∷ edges ∷ []
-told_checked (Checked.Refused r) = told_image r
+told_checked (Ok counts) = 0 ∷ counts.files ∷ counts.nodes ∷ counts.edges ∷ []
+told_checked (Err r) = told_image r
 
 abbrev pub told_replayed : Replayed → List ℕ
-told_replayed Replayed.Done = 0 ∷ []
-told_replayed (Replayed.Image r) = told_image r
-told_replayed (Replayed.Refused r) = told_replay_refusal r
+told_replayed (Ok tt) = 0 ∷ []
+told_replayed (Err (TurnedBack.Image r)) = told_image r
+told_replayed (Err (TurnedBack.Refused r)) = told_replay_refusal r
 
 abbrev pub told_judgement : Judgement → List ℕ
-told_judgement (Judgement.Done holds) = 0 ∷ told_flag holds ∷ []
-told_judgement (Judgement.Image r) = told_image r
-told_judgement (Judgement.Refused r) = told_replay_refusal r
+told_judgement (Ok holds) = 0 ∷ told_flag holds ∷ []
+told_judgement (Err (TurnedBack.Image r)) = told_image r
+told_judgement (Err (TurnedBack.Refused r)) = told_replay_refusal r
 
 abbrev pub told_resolution : Resolution → List ℕ
-told_resolution (Resolution.Done paths stats) = 0 ∷ paths ∷ told_stats stats
-told_resolution (Resolution.Image r) = told_image r
-told_resolution (Resolution.Database r) = told_database r
-told_resolution (Resolution.Refused r) = told_search r
+told_resolution (Ok found) = 0 ∷ found.paths ∷ told_stats found.stats
+told_resolution (Err (ResolutionRefusal.Image r)) = told_image r
+told_resolution (Err (ResolutionRefusal.Database r)) = told_database r
+told_resolution (Err (ResolutionRefusal.Refused r)) = told_search r
 
 abbrev pub told_linear_resolution : LinearResolution → List ℕ
-told_linear_resolution (LinearResolution.Done paths stats) = 0 ∷ paths ∷ told_stats stats
-told_linear_resolution (LinearResolution.Image r) = told_image r
-told_linear_resolution (LinearResolution.Refused r) = told_linear r
+told_linear_resolution (Ok found) = 0 ∷ found.paths ∷ told_stats found.stats
+told_linear_resolution (Err (TurnedBack.Image r)) = told_image r
+told_linear_resolution (Err (TurnedBack.Refused r)) = told_linear r
 
 abbrev pub told_creation : Creation → List ℕ
-told_creation Creation.Done = 0 ∷ []
-told_creation (Creation.Image r) = told_image r
-told_creation Creation.Malformed = 35 ∷ []
+told_creation (Ok tt) = 0 ∷ []
+told_creation (Err (CreationRefusal.Image r)) = told_image r
+told_creation (Err CreationRefusal.Malformed) = 35 ∷ []
 
 abbrev pub told_replacement : Replacement → List ℕ
-told_replacement (Replacement.Done stats) = 0 ∷ told_partial_stats stats
-told_replacement (Replacement.Image r) = told_image r
-told_replacement (Replacement.Database r) = told_database r
-told_replacement (Replacement.Refused r) = told_partial r
-told_replacement Replacement.Full = 33 ∷ []
+told_replacement (Ok stats) = 0 ∷ told_partial_stats stats
+told_replacement (Err (ReplacementRefusal.Image r)) = told_image r
+told_replacement (Err (ReplacementRefusal.Database r)) = told_database r
+told_replacement (Err (ReplacementRefusal.Refused r)) = told_partial r
+told_replacement (Err ReplacementRefusal.Full) = 33 ∷ []
 
 -- 0, then 1 and the reference, or 0; document 02's 37 with the node
 abbrev pub told_finding : Finding → List ℕ
-told_finding (Finding.Found n) = 0 ∷ 1 ∷ n.0 ∷ []
-told_finding Finding.Nothing = 0 ∷ 0 ∷ []
-told_finding (Finding.Image r) = told_image r
-told_finding (Finding.NotDefinition n) = 37 ∷ n.0 ∷ []
-told_finding (Finding.Refused r) = told_search r
+told_finding (Ok (Some n)) = 0 ∷ 1 ∷ n.0 ∷ []
+told_finding (Ok None) = 0 ∷ 0 ∷ []
+told_finding (Err (FindingRefusal.Image r)) = told_image r
+told_finding (Err (FindingRefusal.NotDefinition n)) = 37 ∷ n.0 ∷ []
+told_finding (Err (FindingRefusal.Refused r)) = told_search r
 
 -- document 02, order 9; the numbers stand beside it
 abbrev pub told_tallying : Tallying → List ℕ
-told_tallying Tallying.Done = 0 ∷ []
-told_tallying (Tallying.Image r) = told_image r
-told_tallying (Tallying.Refused r) = told_search r
+told_tallying (Ok tt) = 0 ∷ []
+told_tallying (Err (TurnedBack.Image r)) = told_image r
+told_tallying (Err (TurnedBack.Refused r)) = told_search r
 
 -- the same as it is exported: the numbers by ascending length behind the 0
 abbrev pub told_tally : Tallying → List ℕ → List ℕ
-told_tally Tallying.Done numbers = 0 ∷ numbers
-told_tally (Tallying.Image r) numbers = told_image r
-told_tally (Tallying.Refused r) numbers = told_search r
+told_tally (Ok tt) numbers = 0 ∷ numbers
+told_tally (Err (TurnedBack.Image r)) numbers = told_image r
+told_tally (Err (TurnedBack.Refused r)) numbers = told_search r
 
 -- where a part begins, and how many words it has
 abbrev pub told_part : Part → List ℕ
@@ -164,28 +160,28 @@ told_part p = p.from ∷ (p.up_to - p.from) ∷ []
 
 -- order 3 of document 02
 abbrev pub told_rewriting : Rewriting → List ℕ
-told_rewriting (Rewriting.Done length) = 0 ∷ length ∷ []
-told_rewriting (Rewriting.Image r) = told_image r
-told_rewriting (Rewriting.WideSymbol place) = 38 ∷ place ∷ []
-told_rewriting Rewriting.NoRoom = 32 ∷ []
+told_rewriting (Ok length) = 0 ∷ length ∷ []
+told_rewriting (Err (RewritingRefusal.Image r)) = told_image r
+told_rewriting (Err (RewritingRefusal.WideSymbol place)) = 38 ∷ place ∷ []
+told_rewriting (Err RewritingRefusal.NoRoom) = 32 ∷ []
 
 -- document 02, order 6
 abbrev pub told_conversion : Conversion → List ℕ
-told_conversion Conversion.Done = 0 ∷ []
-told_conversion Conversion.Malformed = 35 ∷ []
-told_conversion Conversion.Full = 33 ∷ []
-told_conversion Conversion.TooLong = 39 ∷ []
+told_conversion (Ok tt) = 0 ∷ []
+told_conversion (Err ConversionRefusal.Malformed) = 35 ∷ []
+told_conversion (Err ConversionRefusal.Full) = 33 ∷ []
+told_conversion (Err ConversionRefusal.TooLong) = 39 ∷ []
 
 -- document 02, order 7: the number of live slots
 abbrev pub told_compaction : Compaction → List ℕ
-told_compaction (Compaction.Done live) = 0 ∷ live ∷ []
-told_compaction Compaction.Malformed = 35 ∷ []
-told_compaction Compaction.ListTooShort = 32 ∷ []
+told_compaction (Ok live) = 0 ∷ live ∷ []
+told_compaction (Err CompactionRefusal.Malformed) = 35 ∷ []
+told_compaction (Err CompactionRefusal.ListTooShort) = 32 ∷ []
 
 -- document 02, order 10: 40 with nothing; a report is never refused, so it has no number in front
 abbrev pub told_entered : Entered → List ℕ
-told_entered Entered.Done = 0 ∷ []
-told_entered Entered.TooGreat = 40 ∷ []
+told_entered (Ok tt) = 0 ∷ []
+told_entered (Err EntryRefusal.TooGreat) = 40 ∷ []
 
 abbrev pub told_trend : Trend → List ℕ
 told_trend t = t.sum ∷ t.greatest ∷ []
@@ -203,13 +199,13 @@ one_definition Definitions.Several = 0
 
 -- both stand behind what the search tells; 41, 42 and 43 with nothing
 abbrev pub told_flow : Flow → List ℕ
-told_flow (Flow.Done definitions paths s) =
-    0 ∷ paths ∷ s.expanded ∷ s.complete ∷ s.rejected ∷ s.cycles ∷ told_flag s.length_limited ∷ told_flag s.count_limited ∷ told_flag s.complete_limited ∷ s.waited ∷ many_definitions definitions ∷ one_definition definitions ∷ []
-told_flow (Flow.Image r) = told_image r
-told_flow Flow.MalformedIsin = 41 ∷ []
-told_flow Flow.Disordered = 42 ∷ []
-told_flow Flow.UnknownKey = 43 ∷ []
-told_flow (Flow.Refused r) = told_search r
+told_flow (Ok found) =
+    0 ∷ found.paths ∷ found.stats.expanded ∷ found.stats.complete ∷ found.stats.rejected ∷ found.stats.cycles ∷ told_flag found.stats.length_limited ∷ told_flag found.stats.count_limited ∷ told_flag found.stats.complete_limited ∷ found.stats.waited ∷ many_definitions found.definitions ∷ one_definition found.definitions ∷ []
+told_flow (Err (FlowRefusal.Image r)) = told_image r
+told_flow (Err FlowRefusal.MalformedIsin) = 41 ∷ []
+told_flow (Err FlowRefusal.Disordered) = 42 ∷ []
+told_flow (Err FlowRefusal.UnknownKey) = 43 ∷ []
+told_flow (Err (FlowRefusal.Refused r)) = told_search r
 
 -- A GRAPH READ BY NUMBER
 
@@ -226,19 +222,19 @@ told_node (N.PopScoped f symbol definition) = 7 ∷ f.0 ∷ symbol ∷ 0 ∷ tol
 told_node (N.DropScopes f) = 8 ∷ f.0 ∷ 0 ∷ 0 ∷ 0 ∷ []
 
 abbrev pub told_node_reading : NodeReading → List ℕ
-told_node_reading (NodeReading.Read x) = 0 ∷ told_node x
-told_node_reading (NodeReading.Image r) = told_image r
-told_node_reading (NodeReading.Unknown n) = told_path (Path.UnknownNode n)
+told_node_reading (Ok x) = 0 ∷ told_node x
+told_node_reading (Err (ReadingRefusal.Image r)) = told_image r
+told_node_reading (Err (ReadingRefusal.Unknown n)) = told_path (Path.UnknownNode n)
 
 -- source, target, and the precedence as 32 bits in two's complement
 abbrev pub told_edge_reading : EdgeReading → List ℕ
-told_edge_reading (EdgeReading.Read source target precedence) = 0 ∷ source.0 ∷ target.0 ∷ unsigned precedence ∷ []
-told_edge_reading (EdgeReading.Image r) = told_image r
-told_edge_reading (EdgeReading.Unknown e) = told_path (Path.UnknownEdge e)
+told_edge_reading (Ok edge) = 0 ∷ edge.source.0 ∷ edge.target.0 ∷ unsigned edge.precedence ∷ []
+told_edge_reading (Err (ReadingRefusal.Image r)) = told_image r
+told_edge_reading (Err (ReadingRefusal.Unknown e)) = told_path (Path.UnknownEdge e)
 
 -- how many numbers stand in the area
 abbrev pub told_listing : Listing → List ℕ
-told_listing (Listing.Done count) = 0 ∷ count ∷ []
-told_listing (Listing.Image r) = told_image r
-told_listing (Listing.Unknown n) = told_path (Path.UnknownNode n)
-told_listing Listing.NoRoom = 32 ∷ []
+told_listing (Ok count) = 0 ∷ count ∷ []
+told_listing (Err (ListingRefusal.Image r)) = told_image r
+told_listing (Err (ListingRefusal.Unknown n)) = told_path (Path.UnknownNode n)
+told_listing (Err ListingRefusal.NoRoom) = 32 ∷ []

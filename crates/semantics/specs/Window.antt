@@ -1,13 +1,14 @@
 -- A window over the expanded counts of the last searches, in lent words: the first word says where the next entry goes, the entries stand behind it. For every number
 -- `most` of entries. Every list of words is a window: no word of it says how many were entered, or their sum, which odd words could belie.
 -- Document 02, order 10.
-use Rattle.std.specs.Prelude.{ℕ, suc, ◌+◌, ◌-◌, List, [], ◌∷◌, ◌++◌, leb, ltb, length, get_or, take, drop, set}
-use Rattle.semantics.specs.declared.answer.Entered.{Entered}
+use Rattle.std.specs.Prelude.{ℕ, suc, ◌+◌, ◌-◌, List, [], ◌∷◌, ◌++◌, leb, ltb, length, get_or, take, drop, set, Err, Ok}
 use Rattle.semantics.specs.declared.answer.Trend.{Trend}
 use Rattle.semantics.specs.Lists.{pick, select, total}
 use Rattle.semantics.specs.Limits.{Bounds}
 use Rattle.semantics.specs.Words.{zeros}
 use Rattle.semantics.specs.Enumeration.{greater}
+use Rattle.semantics.specs.PublicAnswers.{Entered}
+use Rattle.semantics.specs.declared.answer.EntryRefusal.{EntryRefusal}
 
 -- THE WORDS: an area of fewer than `most` + 1 is a window over as many entries as it has room for; words behind the last entry are no part of it
 abbrev pub entries_in : ℕ → List ℕ → List ℕ
@@ -41,7 +42,7 @@ pub record Entering : Type 0 where
 -- 40, with the window unaltered, above the bound on expansions
 unfoldable pub enter_call : Bounds → ℕ → List ℕ → ℕ → Entering
 unfolding enter_words
-enter_call bd most ws c = pick (ltb bd.expansions c) (record { answer = Entered.TooGreat; window = ws }) (record { answer = Entered.Done; window = enter_words most c ws })
+enter_call bd most ws c = pick (ltb bd.expansions c) (record { answer = Err EntryRefusal.TooGreat; window = ws }) (record { answer = Ok tt; window = enter_words most c ws })
 
 -- REPORTED
 unfoldable pub greatest : List ℕ → ℕ

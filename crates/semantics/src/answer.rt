@@ -1,119 +1,131 @@
-// What the public calls answer. Document 01's number and values for each case stand in specs/Told.antt.
+// What the public calls answer: a value, or why the call was turned back. Document 01's number and values for each case stand in specs/Told.antt.
 use crate::graph::{EdgeId, Node, NodeId};
 use crate::refusal::{
     DatabaseRefusal, ImageRefusal, LinearRefusal, PartialPathRefusal, ReplayRefusal, SearchRefusal,
 };
 use crate::search::{PartialPathStats, SearchStats};
 
-// The check of an image: the counts of an accepted graph, or 1 to 5.
+// A call that is turned back by its image, or by what it asks of it.
 #[derive(Clone, Copy)]
-pub enum Checked {
-    Accepted { files: u32, nodes: u32, edges: u32 },
-    Refused(ImageRefusal),
+pub enum TurnedBack<R> {
+    Image(ImageRefusal),
+    Refused(R),
 }
+
+// What an accepted graph counts.
+#[derive(Clone, Copy)]
+pub struct Counts {
+    pub files: u32,
+    pub nodes: u32,
+    pub edges: u32,
+}
+
+// The check of an image: the counts of an accepted graph, or 1 to 5.
+pub type Checked = Result<Counts, ImageRefusal>;
 
 // Replay. The path itself stands beside this answer.
+pub type Replayed = Result<(), TurnedBack<ReplayRefusal>>;
+
+// Completeness and shadowing: does it hold?
+pub type Judgement = Result<bool, TurnedBack<ReplayRefusal>>;
+
+// What a search that has ended tells: how many paths stand in the result slots, and its statistics.
 #[derive(Clone, Copy)]
-pub enum Replayed {
-    Done,
-    Image(ImageRefusal),
-    Refused(ReplayRefusal),
+pub struct Resolved {
+    pub paths: u64,
+    pub stats: SearchStats,
 }
 
-// Completeness and shadowing.
+// Direct search lends no database, so it never answers Database.
 #[derive(Clone, Copy)]
-pub enum Judgement {
-    Done { holds: bool },
-    Image(ImageRefusal),
-    Refused(ReplayRefusal),
-}
-
-// Direct and stitched search: how many paths stand in the result slots. Direct search lends no database, so it never answers Database.
-#[derive(Clone, Copy)]
-pub enum Resolution {
-    Done { paths: u64, stats: SearchStats },
+pub enum ResolutionRefusal {
     Image(ImageRefusal),
     Database(DatabaseRefusal),
     Refused(SearchRefusal),
 }
 
-// Linear search.
-#[derive(Clone, Copy)]
-pub enum LinearResolution {
-    Done { paths: u64, stats: SearchStats },
-    Image(ImageRefusal),
-    Refused(LinearRefusal),
-}
+// Direct and stitched search.
+pub type Resolution = Result<Resolved, ResolutionRefusal>;
 
-// A fresh database: under 3 words are 35.
+// Linear search.
+pub type LinearResolution = Result<Resolved, TurnedBack<LinearRefusal>>;
+
+// Under 3 words are 35.
 #[derive(Clone, Copy)]
-pub enum Creation {
-    Done,
+pub enum CreationRefusal {
     Image(ImageRefusal),
     Malformed,
 }
 
-// A file replaced: 35 and 34, then 21 and the computation, then 33.
+// A fresh database.
+pub type Creation = Result<(), CreationRefusal>;
+
+// 35 and 34, then 21 and the computation, then 33.
 #[derive(Clone, Copy)]
-pub enum Replacement {
-    Done { stats: PartialPathStats },
+pub enum ReplacementRefusal {
     Image(ImageRefusal),
     Database(DatabaseRefusal),
     Refused(PartialPathRefusal),
     Full,
 }
 
-// A name for a definition: the reference whose path stands in the first result slot, or none. 10 is told as the path rules tell it; 37 has its case.
+// A file replaced.
+pub type Replacement = Result<PartialPathStats, ReplacementRefusal>;
+
+// 10 is told as the path rules tell it; 37 has its case.
 #[derive(Clone, Copy)]
-pub enum Finding {
-    Found { reference: NodeId },
-    Nothing,
+pub enum FindingRefusal {
     Image(ImageRefusal),
     NotDefinition(NodeId),
     Refused(SearchRefusal),
 }
 
-// A tally by length. The numbers themselves stand beside this answer; all are 0 where it is refused.
-#[derive(Clone, Copy)]
-pub enum Tallying {
-    Done,
-    Image(ImageRefusal),
-    Refused(SearchRefusal),
-}
+// A name for a definition: the reference whose path stands in the first result slot, or none.
+pub type Finding = Result<Option<NodeId>, FindingRefusal>;
 
-// An image rewritten in another version: how many bytes were written. 1 to 5 of the given image, 38 with the place there of the first record whose symbol does not fit,
-// 2, told as Image, where the result would be too long, and 32.
+// A tally by length. The numbers themselves stand beside this answer; all are 0 where it is refused.
+pub type Tallying = Result<(), TurnedBack<SearchRefusal>>;
+
+// 1 to 5 of the given image, 38 with the place there of the first record whose symbol does not fit, 2, told as Image, where the result would be too long, and 32.
 #[derive(Clone, Copy)]
-pub enum Rewriting {
-    Done { length: u32 },
+pub enum RewritingRefusal {
     Image(ImageRefusal),
     WideSymbol { place: u32 },
     NoRoom,
 }
 
-// A database of longer slots converted: 35, then 33 for too few words or slots, then 39 for a live path over the bound.
+// An image rewritten in another version: how many bytes were written.
+pub type Rewriting = Result<u32, RewritingRefusal>;
+
+// 35, then 33 for too few words or slots, then 39 for a live path over the bound.
 #[derive(Clone, Copy)]
-pub enum Conversion {
-    Done,
+pub enum ConversionRefusal {
     Malformed,
     Full,
     TooLong,
 }
 
-// A database compacted: how many slots are live. 35, then 32 for a list of under two words a live slot.
+// A database of longer slots converted.
+pub type Conversion = Result<(), ConversionRefusal>;
+
+// 35, then 32 for a list of under two words a live slot.
 #[derive(Clone, Copy)]
-pub enum Compaction {
-    Done { live: u32 },
+pub enum CompactionRefusal {
     Malformed,
     ListTooShort,
 }
 
-// A count entered into the window over the last searches: 40 above the bound on expansions.
+// A database compacted: how many slots are live.
+pub type Compaction = Result<u32, CompactionRefusal>;
+
+// 40 above the bound on expansions.
 #[derive(Clone, Copy)]
-pub enum Entered {
-    Done,
+pub enum EntryRefusal {
     TooGreat,
 }
+
+// A count entered into the window over the last searches.
+pub type Entered = Result<(), EntryRefusal>;
 
 // What the window reports: the sum of its entries, and the greatest of them.
 #[derive(Clone, Copy)]
@@ -130,15 +142,17 @@ pub enum Definitions {
     Several,
 }
 
-// A cash flow of a directory resolved: the definitions that were found, beside what the search from its reference gives. 1 to 5 of the image, then 41 for the ISIN,
-// 42 for the rows, 43 for a key that no row has, then the refusals of the search.
+// The definitions that were found for a cash flow, beside what the search from its reference gives.
 #[derive(Clone, Copy)]
-pub enum Flow {
-    Done {
-        definitions: Definitions,
-        paths: u64,
-        stats: SearchStats,
-    },
+pub struct Flowed {
+    pub definitions: Definitions,
+    pub paths: u64,
+    pub stats: SearchStats,
+}
+
+// 1 to 5 of the image, then 41 for the ISIN, 42 for the rows, 43 for a key that no row has, then the refusals of the search.
+#[derive(Clone, Copy)]
+pub enum FlowRefusal {
     Image(ImageRefusal),
     MalformedIsin,
     Disordered,
@@ -146,31 +160,37 @@ pub enum Flow {
     Refused(SearchRefusal),
 }
 
-// A node read by its number: its record; 10 for one that is not known.
+// A cash flow of a directory resolved.
+pub type Flow = Result<Flowed, FlowRefusal>;
+
+// A record read by its number: a node that is not known is 10, an edge 12.
 #[derive(Clone, Copy)]
-pub enum NodeReading {
-    Read(Node),
+pub enum ReadingRefusal<N> {
     Image(ImageRefusal),
-    Unknown(NodeId),
+    Unknown(N),
 }
 
-// An edge likewise; 12.
+// A node's record.
+pub type NodeReading = Result<Node, ReadingRefusal<NodeId>>;
+
+// The ends of an edge and its precedence.
 #[derive(Clone, Copy)]
-pub enum EdgeReading {
-    Read {
-        source: NodeId,
-        target: NodeId,
-        precedence: i32,
-    },
-    Image(ImageRefusal),
-    Unknown(EdgeId),
+pub struct LiveEdge {
+    pub source: NodeId,
+    pub target: NodeId,
+    pub precedence: i32,
 }
 
-// Numbers listed in a lent area: how many. 10 for a node that is not known, 32 where the area has fewer words than there are numbers.
+// An edge's record.
+pub type EdgeReading = Result<LiveEdge, ReadingRefusal<EdgeId>>;
+
+// 10 for a node that is not known, 32 where the area has fewer words than there are numbers.
 #[derive(Clone, Copy)]
-pub enum Listing {
-    Done { count: u32 },
+pub enum ListingRefusal {
     Image(ImageRefusal),
     Unknown(NodeId),
     NoRoom,
 }
+
+// Numbers listed in a lent area: how many.
+pub type Listing = Result<u32, ListingRefusal>;

@@ -53,6 +53,7 @@ pub enum Node {
 }
 
 // An edge record by its kind, 0 or 1.
+// Kept: no Option, as a removed record is a kind of its own, 0, of edges as of nodes, and both are read side by side.
 #[derive(Clone, Copy)]
 pub enum Edge {
     Removed,

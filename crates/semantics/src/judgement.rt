@@ -1,9 +1,5 @@
 // What an edge does to a path, said before anything is built. Document 02, order 4.
 use crate::refusal::PathRefusal;
 
-// The refusal that appending it gives, or none, and then whether the extension is complete.
-#[derive(Clone, Copy)]
-pub enum EdgeJudgement {
-    Refused(PathRefusal),
-    Extends { complete: bool },
-}
+// Whether the extension is complete, or the refusal that appending it gives.
+pub type EdgeJudgement = Result<bool, PathRefusal>;

@@ -1,4 +1,5 @@
 // The kinds of records, as they stand in an image and in the index of a loaded graph: document 01, "Graph image".
+// Kept: numbers. A kind is a byte of an image and a word of the index; by its kind a record is a `graph::Node` or `Edge`, and an enum of kinds would be the same cases once more.
 
 // Nodes. Root and jump stand below the first kind that has a file.
 pub const REMOVED: u32 = 0;

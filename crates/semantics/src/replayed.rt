@@ -18,6 +18,7 @@ pub struct Step {
 }
 
 // "in a fixed array": the edges. What both stacks hold stands in the steps, as inside the searches.
+// Kept: an array with its count beside it, document 01's "in a fixed array".
 #[derive(Clone, Copy)]
 pub struct Path {
     // the reference, the node where the path stands, and how many edges it has

@@ -6,11 +6,7 @@ pub enum SearchOrder {
 }
 
 // A limit is a number or absent.
-#[derive(Clone, Copy)]
-pub enum Limit {
-    Absent,
-    AtMost(u64),
-}
+pub type Limit = Option<u64>;
 
 // On a path's length, on expansions (the path count), and on the complete paths that are kept.
 #[derive(Clone, Copy)]

@@ -11,8 +11,8 @@ use Rattle.semantics.specs.Lists.{pick}
 use Rattle.semantics.specs.Graph.{node_id, edge_id, traits, is_reference, is_definition, is_exported}
 use Rattle.semantics.specs.Path.{Path}
 use Rattle.semantics.specs.declared.replayed.Step.{Step}
-use Rattle.stepping.specs.declared.step.Effect.{Effect}
-use Rattle.stepping.specs.declared.step.Effect.TheVariants.{Done, Refused}
+use Rattle.stepping.specs.Steps.{Effect}
+use Rattle.std.specs.Prelude.{Ok, Err}
 use Rattle.stepping.specs.Steps.{plain_step, asked_scope, applied_of, remade_of, stacks_of, Low}
 use Rattle.stepping.specs.StepWords.{maker_in, with_step}
 pub mod Laws
@@ -30,13 +30,13 @@ module _ (nodes : ℕ → Node) where
   -- step 0 of a path: 10, 11, or the reference applied
   unfoldable pub begun_of : ℕ → Effect
   unfolding applied_of
-  begun_of r = pick (traits (nodes r)).removed (Refused (UnknownNode (node_id r))) (pick (is_reference (nodes r)) (reached r 0 0 no_step no_step no_step) (Refused (NotReference (node_id r))))
+  begun_of r = pick (traits (nodes r)).removed (Err (UnknownNode (node_id r))) (pick (is_reference (nodes r)) (reached r 0 0 no_step no_step no_step) (Err (NotReference (node_id r))))
 
   -- an edge from the end of `last` to its target: 13, or the target applied as step k
   unfoldable pub followed : ℕ → ℕ → Step → Step → Step → Edge → Effect
   unfolding applied_of
-  followed e k last top over E.Removed = Refused (UnknownEdge (edge_id e))
-  followed e k last top over (E.Live s t p) = pick (eqb s.0 last.end) (reached t.0 e k last top over) (Refused (IncorrectSource (node_id last.end) s))
+  followed e k last top over E.Removed = Err (UnknownEdge (edge_id e))
+  followed e k last top over (E.Live s t p) = pick (eqb s.0 last.end) (reached t.0 e k last top over) (Err (IncorrectSource (node_id last.end) s))
 
   -- edge e, which is this, on the path of k edges that stands in the words
   unfoldable pub judged_of : List ℕ → ℕ → ℕ → Edge → Effect
@@ -71,8 +71,8 @@ pub record Behind (ws : List ℕ) (last : Step) (k : ℕ) : Type 0 where
 
 -- the words behind a judgement: the step is added
 unfoldable pub words_after : List ℕ → ℕ → Effect → List ℕ
-words_after ws k (Done s) = with_step ws k s
-words_after ws k (Refused r) = ws
+words_after ws k (Ok s) = with_step ws k s
+words_after ws k (Err r) = ws
 
 -- k + 1 steps in the words stand for a path of k edges
 pub record Stepped (ws : List ℕ) (k : ℕ) (p : Path) : Type 0 where

@@ -1,16 +1,15 @@
 -- The steps of a path as cells: what a node does behind a step, and the stacks that the cells stand for.
 -- Document 01, "Path"; Steps/Laws shows that this is `extend` of the definitions.
-use Rattle.std.specs.Prelude.{ℕ, ◌+◌, ◌-◌, ◌≤◌, Bool, eqb, ltb}
+use Rattle.std.specs.Prelude.{ℕ, ◌+◌, ◌-◌, ◌≤◌, Bool, eqb, ltb, Result, Ok, Err}
 use Rattle.semantics.specs.ReplayedPaths.{scopes_of, symbols_of}
 use Rattle.semantics.specs.declared.graph.Node.{Node}
 use Rattle.semantics.specs.declared.graph.Node.TheVariants as N
+use Rattle.semantics.specs.declared.refusal.PathRefusal.{PathRefusal}
 use Rattle.semantics.specs.declared.refusal.PathRefusal.TheVariants.{UnknownNode, EmptySymbolStack, IncorrectPoppedSymbol, UnexpectedAttachedScopes, MissingAttachedScopes, EmptyScopeStack, UnknownAttachedScope}
 use Rattle.semantics.specs.Lists.{pick}
 use Rattle.semantics.specs.Graph.{node_id}
 use Rattle.semantics.specs.Path.{Stacks}
 use Rattle.semantics.specs.declared.replayed.Step.{Step}
-use Rattle.stepping.specs.declared.step.Effect.{Effect}
-use Rattle.stepping.specs.declared.step.Effect.TheVariants.{Done, Refused}
 pub mod Laws
 
 -- WHAT A NODE DOES BEHIND A STEP: `last` is the step before, `top` made the top symbol, `over` the top scope, and the new step is the k-th
@@ -27,27 +26,31 @@ push_step symbol target edge k last = record { edge = edge; end = target; symbol
 abbrev pub push_scoped_step : ℕ → ℕ → ℕ → ℕ → ℕ → Step → Step
 push_scoped_step symbol scope target edge k last = record { edge = edge; end = target; symbols = k + 1; scopes = last.scopes; symbol = symbol; attached = k + 1; below = last.symbols; scope = scope }
 
+-- what becomes of an edge: the step that is added, or the refusal
+abbrev pub Effect : Type 0
+Effect = Result Step PathRefusal
+
 unfoldable pub pop_of : ℕ → ℕ → ℕ → Step → Step → Effect
 pop_of target edge symbol last top =
-    pick (eqb last.symbols 0) (Refused (EmptySymbolStack (node_id target)))
+    pick (eqb last.symbols 0) (Err (EmptySymbolStack (node_id target)))
     (pick (eqb top.symbol symbol)
-    (pick (eqb top.attached 0) (Done (plain_step edge target top.below last.scopes)) (Refused (UnexpectedAttachedScopes (node_id target))))
-    (Refused (IncorrectPoppedSymbol (node_id target))))
+    (pick (eqb top.attached 0) (Ok (plain_step edge target top.below last.scopes)) (Err (UnexpectedAttachedScopes (node_id target))))
+    (Err (IncorrectPoppedSymbol (node_id target))))
 
 unfoldable pub pop_scoped_of : ℕ → ℕ → ℕ → Step → Step → Effect
 pop_scoped_of target edge symbol last top =
-    pick (eqb last.symbols 0) (Refused (EmptySymbolStack (node_id target)))
+    pick (eqb last.symbols 0) (Err (EmptySymbolStack (node_id target)))
     (pick (eqb top.symbol symbol)
-    (pick (eqb top.attached 0) (Refused (MissingAttachedScopes (node_id target))) (Done (plain_step edge target top.below top.attached)))
-    (Refused (IncorrectPoppedSymbol (node_id target))))
+    (pick (eqb top.attached 0) (Err (MissingAttachedScopes (node_id target))) (Ok (plain_step edge target top.below top.attached)))
+    (Err (IncorrectPoppedSymbol (node_id target))))
 
 unfoldable pub jump_of : Bool → ℕ → ℕ → Step → Step → Effect
 jump_of exported target edge last over =
-    pick (eqb last.scopes 0) (Refused (EmptyScopeStack (node_id target)))
-    (pick exported (Done (plain_step edge over.scope last.symbols over.scopes)) (Refused (UnknownAttachedScope (node_id over.scope))))
+    pick (eqb last.scopes 0) (Err (EmptyScopeStack (node_id target)))
+    (pick exported (Ok (plain_step edge over.scope last.symbols over.scopes)) (Err (UnknownAttachedScope (node_id over.scope))))
 
 unfoldable pub push_scoped_of : Bool → ℕ → ℕ → ℕ → ℕ → ℕ → Step → Effect
-push_scoped_of exported symbol scope target edge k last = pick exported (Done (push_scoped_step symbol scope target edge k last)) (Refused (UnknownAttachedScope (node_id scope)))
+push_scoped_of exported symbol scope target edge k last = pick exported (Ok (push_scoped_step symbol scope target edge k last)) (Err (UnknownAttachedScope (node_id scope)))
 
 -- the scope whose export a node asks for: that of a push-scoped node, or the top scope at jump
 abbrev pub asked_scope : Node → Step → ℕ
@@ -64,15 +67,15 @@ asked_scope (N.DropScopes f) over = 0
 -- `exported` says whether the scope that is asked for is exported
 unfoldable pub applied_of : Bool → Node → ℕ → ℕ → ℕ → Step → Step → Step → Effect
 unfolding pop_of pop_scoped_of jump_of push_scoped_of
-applied_of exported N.Removed target edge k last top over = Refused (UnknownNode (node_id target))
-applied_of exported N.Root target edge k last top over = Done (plain_step edge target last.symbols last.scopes)
+applied_of exported N.Removed target edge k last top over = Err (UnknownNode (node_id target))
+applied_of exported N.Root target edge k last top over = Ok (plain_step edge target last.symbols last.scopes)
 applied_of exported N.JumpToScope target edge k last top over = jump_of exported target edge last over
-applied_of exported (N.Scope f x) target edge k last top over = Done (plain_step edge target last.symbols last.scopes)
-applied_of exported (N.Push f symbol r) target edge k last top over = Done (push_step symbol target edge k last)
+applied_of exported (N.Scope f x) target edge k last top over = Ok (plain_step edge target last.symbols last.scopes)
+applied_of exported (N.Push f symbol r) target edge k last top over = Ok (push_step symbol target edge k last)
 applied_of exported (N.Pop f symbol d) target edge k last top over = pop_of target edge symbol last top
 applied_of exported (N.PushScoped f symbol scope r) target edge k last top over = push_scoped_of exported symbol scope.0 target edge k last
 applied_of exported (N.PopScoped f symbol d) target edge k last top over = pop_scoped_of target edge symbol last top
-applied_of exported (N.DropScopes f) target edge k last top over = Done (plain_step edge target last.symbols 0)
+applied_of exported (N.DropScopes f) target edge k last top over = Ok (plain_step edge target last.symbols 0)
 
 -- A STEP THAT WAS MADE ONCE: what a node does that is not refused
 

@@ -9,35 +9,8 @@ pub fn is_reference(node: Node) -> bool
     ensures { result ≡ is_reference node }
 {
     match node {
-        Node::Removed => false,
-        Node::Root => false,
-        Node::JumpToScope => false,
-        Node::Scope {
-            file: _,
-            exported: _,
-        } => false,
-        Node::Push {
-            file: _,
-            symbol: _,
-            reference,
-        } => reference,
-        Node::Pop {
-            file: _,
-            symbol: _,
-            definition: _,
-        } => false,
-        Node::PushScoped {
-            file: _,
-            symbol: _,
-            scope: _,
-            reference,
-        } => reference,
-        Node::PopScoped {
-            file: _,
-            symbol: _,
-            definition: _,
-        } => false,
-        Node::DropScopes { file: _ } => false,
+        Node::Push { reference, .. } | Node::PushScoped { reference, .. } => reference,
+        _ => false,
     }
 }
 
@@ -45,35 +18,5 @@ pub fn is_reference(node: Node) -> bool
 pub fn is_removed(node: Node) -> bool
     ensures { result ≡ (traits node).removed }
 {
-    match node {
-        Node::Removed => true,
-        Node::Root => false,
-        Node::JumpToScope => false,
-        Node::Scope {
-            file: _,
-            exported: _,
-        } => false,
-        Node::Push {
-            file: _,
-            symbol: _,
-            reference: _,
-        } => false,
-        Node::Pop {
-            file: _,
-            symbol: _,
-            definition: _,
-        } => false,
-        Node::PushScoped {
-            file: _,
-            symbol: _,
-            scope: _,
-            reference: _,
-        } => false,
-        Node::PopScoped {
-            file: _,
-            symbol: _,
-            definition: _,
-        } => false,
-        Node::DropScopes { file: _ } => false,
-    }
+    matches!(node, Node::Removed)
 }

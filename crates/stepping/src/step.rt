@@ -1,4 +1,4 @@
-// One step of a path, and what a node does behind it. Document 01, "Path".
+// One step of a path, and what a node does behind it: the step that is added, or the refusal. Document 01, "Path".
 // A path of k edges is k + 1 steps; step 0 is the reference. Both stacks are chains of cells: cell 0 is none, cell j + 1 is what
 // step j made. A scope list is only ever the scope stack plus one, so lists share their tails and nothing is copied.
 ghost use Rattle.std.specs.Prelude.{◌≡◌, ◌<◌};
@@ -12,13 +12,6 @@ use semantics::graph::{Edge, EdgeId, Node, NodeId};
 use semantics::refusal::PathRefusal;
 use semantics::replayed::Step;
 use storage::store;
-
-// What becomes of an edge: the step that is added, or the refusal.
-#[derive(Clone, Copy)]
-pub enum Effect {
-    Done(Step),
-    Refused(PathRefusal),
-}
 
 pub(crate) fn plain(edge: u32, end: u32, symbols: u32, scopes: u32) -> Step
     ensures { result ≡ plain_step edge end symbols scopes }
@@ -35,46 +28,52 @@ pub(crate) fn plain(edge: u32, end: u32, symbols: u32, scopes: u32) -> Step
     }
 }
 
-fn pop(target: u32, edge: u32, symbol: u64, last: Step, top: Step) -> Effect
+fn pop(target: u32, edge: u32, symbol: u64, last: Step, top: Step) -> Result<Step, PathRefusal>
     ensures { result ≡ pop_of target edge symbol last top }
 {
     if last.symbols == 0 {
-        return Effect::Refused(PathRefusal::EmptySymbolStack(NodeId(target)));
+        return Err(PathRefusal::EmptySymbolStack(NodeId(target)));
     }
     if top.symbol != symbol {
-        return Effect::Refused(PathRefusal::IncorrectPoppedSymbol(NodeId(target)));
+        return Err(PathRefusal::IncorrectPoppedSymbol(NodeId(target)));
     }
     if top.attached != 0 {
-        return Effect::Refused(PathRefusal::UnexpectedAttachedScopes(NodeId(target)));
+        return Err(PathRefusal::UnexpectedAttachedScopes(NodeId(target)));
     }
-    Effect::Done(plain(edge, target, top.below, last.scopes))
+    Ok(plain(edge, target, top.below, last.scopes))
 }
 
-fn pop_scoped(target: u32, edge: u32, symbol: u64, last: Step, top: Step) -> Effect
+fn pop_scoped(
+    target: u32,
+    edge: u32,
+    symbol: u64,
+    last: Step,
+    top: Step,
+) -> Result<Step, PathRefusal>
     ensures { result ≡ pop_scoped_of target edge symbol last top }
 {
     if last.symbols == 0 {
-        return Effect::Refused(PathRefusal::EmptySymbolStack(NodeId(target)));
+        return Err(PathRefusal::EmptySymbolStack(NodeId(target)));
     }
     if top.symbol != symbol {
-        return Effect::Refused(PathRefusal::IncorrectPoppedSymbol(NodeId(target)));
+        return Err(PathRefusal::IncorrectPoppedSymbol(NodeId(target)));
     }
     if top.attached == 0 {
-        return Effect::Refused(PathRefusal::MissingAttachedScopes(NodeId(target)));
+        return Err(PathRefusal::MissingAttachedScopes(NodeId(target)));
     }
-    Effect::Done(plain(edge, target, top.below, top.attached))
+    Ok(plain(edge, target, top.below, top.attached))
 }
 
-fn jump(exported: bool, target: u32, edge: u32, last: Step, over: Step) -> Effect
+fn jump(exported: bool, target: u32, edge: u32, last: Step, over: Step) -> Result<Step, PathRefusal>
     ensures { result ≡ jump_of exported target edge last over }
 {
     if last.scopes == 0 {
-        return Effect::Refused(PathRefusal::EmptyScopeStack(NodeId(target)));
+        return Err(PathRefusal::EmptyScopeStack(NodeId(target)));
     }
     if exported {
-        return Effect::Done(plain(edge, over.scope, last.symbols, over.scopes));
+        return Ok(plain(edge, over.scope, last.symbols, over.scopes));
     }
-    Effect::Refused(PathRefusal::UnknownAttachedScope(NodeId(over.scope)))
+    Err(PathRefusal::UnknownAttachedScope(NodeId(over.scope)))
 }
 
 pub(crate) fn push(symbol: u64, target: u32, edge: u32, k: u32, last: Step) -> Step
@@ -124,14 +123,14 @@ fn push_scoped(
     edge: u32,
     k: u32,
     last: Step,
-) -> Effect
+) -> Result<Step, PathRefusal>
     requires { k < 4294967295 }
     ensures { result ≡ push_scoped_of exported symbol scope target edge k last }
 {
     if exported {
-        return Effect::Done(pushed_scoped(symbol, scope, target, edge, k, last));
+        return Ok(pushed_scoped(symbol, scope, target, edge, k, last));
     }
-    Effect::Refused(PathRefusal::UnknownAttachedScope(NodeId(scope)))
+    Err(PathRefusal::UnknownAttachedScope(NodeId(scope)))
 }
 
 // Step k: a node is applied behind `last`; `top` made the top symbol, `over` the top scope. Both the judgement of an edge and what is
@@ -145,13 +144,13 @@ fn applied(
     last: Step,
     top: Step,
     over: Step,
-) -> Effect
+) -> Result<Step, PathRefusal>
     requires { (k < 4294967295) × Blocks index.now }
     ensures { result ≡ applied_of (is_exported (node_row index.now (asked_scope node over))) node target edge k last top over }
 {
     match node {
-        Node::Removed => Effect::Refused(PathRefusal::UnknownNode(NodeId(target))),
-        Node::Root => Effect::Done(plain(edge, target, last.symbols, last.scopes)),
+        Node::Removed => Err(PathRefusal::UnknownNode(NodeId(target))),
+        Node::Root => Ok(plain(edge, target, last.symbols, last.scopes)),
         Node::JumpToScope => {
             let exported = store::is_exported(index, NodeId(over.scope));
             jump(exported, target, edge, last, over)
@@ -159,12 +158,12 @@ fn applied(
         Node::Scope {
             file: _,
             exported: _,
-        } => Effect::Done(plain(edge, target, last.symbols, last.scopes)),
+        } => Ok(plain(edge, target, last.symbols, last.scopes)),
         Node::Push {
             file: _,
             symbol,
             reference: _,
-        } => Effect::Done(push(symbol, target, edge, k, last)),
+        } => Ok(push(symbol, target, edge, k, last)),
         Node::Pop {
             file: _,
             symbol,
@@ -184,24 +183,31 @@ fn applied(
             symbol,
             definition: _,
         } => pop_scoped(target, edge, symbol, last, top),
-        Node::DropScopes { file: _ } => Effect::Done(plain(edge, target, last.symbols, 0)),
+        Node::DropScopes { file: _ } => Ok(plain(edge, target, last.symbols, 0)),
     }
 }
 
 // What becomes of an edge behind `last`: 12, 13, or its target applied.
-pub(crate) fn follow(index: &[u32], edge: u32, k: u32, last: Step, top: Step, over: Step) -> Effect
+pub(crate) fn follow(
+    index: &[u32],
+    edge: u32,
+    k: u32,
+    last: Step,
+    top: Step,
+    over: Step,
+) -> Result<Step, PathRefusal>
     requires { (k < 4294967295) × Blocks index.now }
     ensures { result ≡ followed (node_row index.now) edge k last top over (edge_row index.now edge) }
 {
     match store::edge(index, EdgeId(edge)) {
-        Edge::Removed => Effect::Refused(PathRefusal::UnknownEdge(EdgeId(edge))),
+        Edge::Removed => Err(PathRefusal::UnknownEdge(EdgeId(edge))),
         Edge::Live {
             source,
             target,
             precedence: _,
         } => {
             if source.0 != last.end {
-                return Effect::Refused(PathRefusal::IncorrectSource {
+                return Err(PathRefusal::IncorrectSource {
                     expected: NodeId(last.end),
                     actual: source,
                 });
@@ -221,19 +227,19 @@ pub(crate) fn follow(index: &[u32], edge: u32, k: u32, last: Step, top: Step, ov
 }
 
 // Step 0 of a path: 10, 11, or the reference applied to empty stacks.
-pub fn begin(index: &[u32], reference: u32) -> Effect
+pub fn begin(index: &[u32], reference: u32) -> Result<Step, PathRefusal>
     requires { Blocks index.now }
     ensures { result ≡ begun_of (node_row index.now) reference }
 {
     let node = store::node(index, NodeId(reference));
     if is_removed(node) {
-        return Effect::Refused(PathRefusal::UnknownNode(NodeId(reference)));
+        return Err(PathRefusal::UnknownNode(NodeId(reference)));
     }
     if is_reference(node) {
         let none = plain(0, 0, 0, 0);
         return applied(index, node, reference, 0, 0, none, none, none);
     }
-    Effect::Refused(PathRefusal::NotReference(NodeId(reference)))
+    Err(PathRefusal::NotReference(NodeId(reference)))
 }
 
 // Does a path that starts at a reference end here, at a definition with both stacks empty?

@@ -8,8 +8,9 @@ ghost use Rattle.stepping.specs.StepWords.{with_step, maker_in};
 ghost use Rattle.stepping.specs.Judged.{Ready, judged_of, words_after};
 
 use crate::layout;
-use crate::step::{Effect, follow};
+use crate::step::follow;
 use semantics::bounds::STEP_WORDS;
+use semantics::refusal::PathRefusal;
 use semantics::replayed::Step;
 use words::halves;
 
@@ -52,10 +53,7 @@ pub fn put_step(steps: &mut [u32], k: usize, s: Step)
 fn made_by(cell: u32) -> usize
     ensures { result ≡ cell - 1 }
 {
-    if 0 < cell {
-        return (cell - 1) as usize;
-    }
-    0
+    cell.saturating_sub(1) as usize
 }
 
 // The step that made a cell. Only its number is chosen by a test, so that of its words none is read but those that are asked for.
@@ -67,7 +65,7 @@ pub(crate) fn maker(steps: &[u32], cell: u32) -> Step
 }
 
 // Judges an edge on the path of k edges that stands in the steps.
-pub fn judge(index: &[u32], steps: &[u32], k: u32, edge: u32) -> Effect
+pub fn judge(index: &[u32], steps: &[u32], k: u32, edge: u32) -> Result<Step, PathRefusal>
     requires { Blocks index.now × Ready steps.now k }
     ensures { result ≡ judged_of (node_row index.now) steps.now k edge (edge_row index.now edge) }
 {
@@ -78,13 +76,13 @@ pub fn judge(index: &[u32], steps: &[u32], k: u32, edge: u32) -> Effect
 }
 
 // Judges an edge, and adds its step where it is not refused.
-pub fn append(index: &[u32], steps: &mut [u32], k: u32, edge: u32) -> Effect
+pub fn append(index: &[u32], steps: &mut [u32], k: u32, edge: u32) -> Result<Step, PathRefusal>
     requires { Blocks index.now × Ready steps.old k × (step_length * (k + 1) + step_length ≤ length steps.old) }
     ensures value { result ≡ judged_of (node_row index.now) steps.old k edge (edge_row index.now edge) }
     ensures steps_after { steps.new ≡ words_after steps.old (k + 1) result }
 {
     let effect = judge(index, steps, k, edge);
-    let Effect::Done(step) = effect else {
+    let Ok(step) = effect else {
         return effect;
     };
     put_step(steps, k as usize + 1, step);

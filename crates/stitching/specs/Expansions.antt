@@ -10,8 +10,7 @@ use Rattle.semantics.specs.Path.{Path}
 use Rattle.semantics.specs.Enumeration.{State, one, each}
 use Rattle.semantics.specs.Stitching.{judge_slot}
 use Rattle.search_state.specs.declared.search.Search as S
-use Rattle.search_state.specs.declared.search.Going.{Going}
-use Rattle.search_state.specs.Searches.{Clears}
+use Rattle.search_state.specs.Searches.{Going, Clears}
 use Rattle.search_state.specs.Progresses.{frame_of}
 use Rattle.search_state.specs.Reps.{setting_of, Tells}
 use Rattle.database.specs.Records.{edge_words}

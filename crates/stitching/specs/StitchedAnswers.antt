@@ -1,10 +1,8 @@
 -- A stitched search as it is asked for in code, and what it leaves.
 -- Document 01, "Partial paths" and "Answer".
 use Rattle.std.specs.Prelude.{ℕ, Bool, List, length}
-use Rattle.semantics.specs.declared.search.Limit.{Limit}
 use Rattle.semantics.specs.declared.refusal.SearchRefusal.{SearchRefusal}
-use Rattle.semantics.specs.declared.answer.Resolution.{Resolution}
-use Rattle.semantics.specs.Limits.{base}
+use Rattle.semantics.specs.Limits.{base, Limit}
 use Rattle.semantics.specs.Answer.{Answer}
 use Rattle.semantics.specs.Graph.{Graph, View, view_of}
 use Rattle.semantics.specs.Path.{Path}
@@ -14,6 +12,7 @@ use Rattle.semantics.specs.Calls.{Request, Outcome, setting_of, search_outcome}
 use Rattle.reply.specs.declared.finish.Reply.{Reply}
 use Rattle.reply.specs.Replies.{reply_of}
 use Rattle.stitching_trial.specs.Links.{seen_in}
+use Rattle.semantics.specs.PublicAnswers.{Resolution}
 pub mod Laws
 
 -- what is tried on a path: the partial paths in the words that are seen

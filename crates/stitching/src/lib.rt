@@ -1,5 +1,4 @@
 // Stitched search over the partial paths of a lent database. Document 01, "Partial paths": `try_compute_from_partials`.
 #![tactic(auto)]
 
-mod continuation;
 pub mod stitched;

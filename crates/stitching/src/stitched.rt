@@ -19,16 +19,14 @@ ghost use Rattle.search_state.specs.Searches.{Clears};
 ghost use Rattle.search_rounds.specs.Drives.{Rounding, Rounded, Driving, Ends, DrivenTo};
 ghost use Rattle.stitching.specs.StitchedAnswers.{tries_in, stitched_of, found_of};
 
-use crate::continuation;
-use database::check::Inspected;
 use database::{check, layout};
 use reply::finish::Reply;
-use search_rounds::conclusion::{SearchEnd, conclude};
+use search_rounds::conclusion::conclude;
 use search_rounds::start::start;
 use search_state::retrace::retrace;
-use search_state::search::{Going, Search, Taken};
-use semantics::answer::{Checked, Resolution};
-use semantics::bounds::{SLOT_WORDS, STEPS_WORDS};
+use search_state::search::{Finished, Round, Search};
+use semantics::answer::{Counts, Resolution, ResolutionRefusal};
+use semantics::bounds::{MAX_EDGES, SLOT_WORDS, STEPS_WORDS};
 use semantics::graph::NodeId;
 use semantics::refusal::SearchRefusal;
 use semantics::search::{SearchLimits, SearchOrder};
@@ -37,6 +35,15 @@ use stitching_trial::trial::StitchTrial;
 use stitching_trial::{joined_path, links, trial};
 use storage::blocks;
 use words::slots;
+
+// What a stitched search is asked: where it begins, its order and limits, and which paths the reply has.
+#[derive(Clone, Copy)]
+struct Asked {
+    reference: u32,
+    order: SearchOrder,
+    limits: SearchLimits,
+    reply: Reply,
+}
 
 // Partial path i is tried on the path of k edges in the item: counted where it is cut, too long or rejected, else recorded and pushed.
 fn try_partial(
@@ -49,25 +56,25 @@ fn try_partial(
     search: Search,
     work: &mut [u32],
     res: &mut [u32],
-) -> Going
+) -> Result<Search, SearchRefusal>
     requires { Tryable words.now i × Given looked_ever index.now steps.old item.old k search work.old res.old }
     ensures { (v : Given looked_ever index.now steps.old item.old k search work.old res.old)
         → Tried words.now looked_ever index.now steps.old item.old k search work.old res.old v i result
         steps.new item.new work.new res.new }
 {
     let state = search.state;
-    let budget = state.budget;
-    let edges = layout::edges(words, i);
-    match trial::judge_partial_path(index, steps, &item[1..k + 1], edges, budget) {
-        StitchTrial::Cut => Going::On(search.with_state(state.cut())),
-        StitchTrial::Overlong => Going::On(search.with_state(state.measure(
-            (k + edges.len()) as u64,
-        ))),
-        StitchTrial::Rejected => Going::On(search.with_state(state.reject())),
-        StitchTrial::Refused(r) => Going::Refused(r),
+    let edges = layout::edges(words, MAX_EDGES, i);
+    let trial = trial::judge_partial_path(index, steps, &item[1..k + 1], edges, state.budget)?;
+    match trial {
+        StitchTrial::Cut => Ok(search.with_state(state.cut())),
+        StitchTrial::Overlong => {
+            let length = (k + edges.len()) as u64;
+            Ok(search.with_state(state.measure(length)))
+        }
+        StitchTrial::Rejected => Ok(search.with_state(state.reject())),
         StitchTrial::Extended { complete } => {
             joined_path::with_edges(item, k, edges);
-            continuation::extend(search, complete, work, res, item)
+            search.extend(complete, work, res, item)
         }
     }
 }
@@ -83,7 +90,7 @@ fn expand(
     search: Search,
     work: &mut [u32],
     res: &mut [u32],
-) -> Going
+) -> Result<Search, SearchRefusal>
     requires { LinkedSome words.now links.now × Given looked_before index.now steps.old item.old k search work.old res.old }
     ensures by_index { (see : ℕ → Bool) → Linked see words.now links.now
         → (v : Given looked_before index.now steps.old item.old k search work.old res.old)
@@ -95,14 +102,10 @@ fn expand(
     let mut link = links::first(links, steps::get_step(steps, k).end);
     while 0 < link {
         let i = (link - 1) as usize;
-        let going = try_partial(index, words, steps, item, k, i, on, work, res);
-        let Going::On(next) = going else {
-            return going;
-        };
-        on = next;
+        on = try_partial(index, words, steps, item, k, i, on, work, res)?;
         link = links::next(links, i);
     }
-    Going::On(on)
+    Ok(on)
 }
 
 // The popped path's steps are laid out, where steps up to `laid` stand there for the path before, and the path is expanded.
@@ -116,7 +119,7 @@ fn round(
     search: Search,
     work: &mut [u32],
     res: &mut [u32],
-) -> Going
+) -> Result<Search, SearchRefusal>
     requires { LinkedSome words.now links.now × Rounding looked_before index.now steps.old item.old laid search work.old res.old }
     ensures by_index { (see : ℕ → Bool) → Linked see words.now links.now
         → (v : Rounding looked_before index.now steps.old item.old laid search work.old res.old)
@@ -139,7 +142,7 @@ fn drive(
     search: Search,
     work: &mut [u32],
     res: &mut [u32],
-) -> SearchEnd
+) -> Result<Finished, SearchRefusal>
     requires { LinkedSome words.now links.now × Driving index.now steps.old item.old search work.old res.old }
     ensures { (see : ℕ → Bool) → Linked see words.now links.now
         → (v : Driving index.now steps.old item.old search work.old res.old)
@@ -149,19 +152,19 @@ fn drive(
     let mut on = search;
     let mut laid: usize = 0;
     loop {
-        match continuation::take(on, work, item) {
-            Taken::Over(finished) => return SearchEnd::Over(finished),
-            Taken::TooMany => return SearchEnd::Refused(SearchRefusal::TooManyExpansions),
-            Taken::Expand(next) => {
+        match on.take(work, item) {
+            Ok(Round::Over(finished)) => return Ok(finished),
+            Ok(Round::Expand(next)) => {
                 let k = item[0] as usize;
                 match round(index, words, links, steps, item, laid, next, work, res) {
-                    Going::On(s) => {
+                    Ok(s) => {
                         on = s;
                         laid = k;
                     }
-                    Going::Refused(r) => return SearchEnd::Refused(r),
+                    Err(r) => return Err(r),
                 }
             }
+            Err(r) => return Err(r),
         }
     }
 }
@@ -172,28 +175,31 @@ fn search_kept(
     index: &[u32],
     visible: &[u8],
     words: &[u32],
-    reference: u32,
-    order: SearchOrder,
-    limits: SearchLimits,
+    asked: Asked,
     work: &mut [u32],
     res: &mut [u32],
-) -> SearchEnd
+) -> Result<Finished, SearchRefusal>
     requires { HoldsGraph index.now × Readable words.now × (res.old ≡ zeros (length res.old)) }
     ensures { (g : Graph) → Loaded g index.now → Ends result res.new
-        (stitched_of (sees visible.now) g words.now (request_of order limits work.old res.old reference)) }
+        (stitched_of (sees visible.now) g words.now (request_of asked.order asked.limits work.old res.old asked.reference)) }
 {
     let mut steps = [0u32; STEPS_WORDS];
     let mut item = [0u32; SLOT_WORDS];
-    match start(
-        index, reference, order, limits, &mut steps, &item, work, res,
-    ) {
-        Going::On(on) => {
-            let mut links = [0u32; links::LINKS];
-            links::link(words, visible, &mut links);
-            drive(index, words, &links, &mut steps, &mut item, on, work, res)
-        }
-        Going::Refused(r) => SearchEnd::Refused(r),
-    }
+    let begun = start(
+        index,
+        asked.reference,
+        asked.order,
+        asked.limits,
+        &mut steps,
+        &item,
+        work,
+        res,
+    )?;
+    let mut links = [0u32; links::LINKS];
+    links::link(words, visible, &mut links);
+    drive(
+        index, words, &links, &mut steps, &mut item, begun, work, res,
+    )
 }
 
 // The same, in a result area with any words.
@@ -201,18 +207,16 @@ fn attempt(
     index: &[u32],
     visible: &[u8],
     words: &[u32],
-    reference: u32,
-    order: SearchOrder,
-    limits: SearchLimits,
+    asked: Asked,
     work: &mut [u32],
     res: &mut [u32],
-) -> SearchEnd
+) -> Result<Finished, SearchRefusal>
     requires { HoldsGraph index.now × Readable words.now }
     ensures { (g : Graph) → Loaded g index.now → Ends result res.new
-        (stitched_of (sees visible.now) g words.now (request_of order limits work.old res.old reference)) }
+        (stitched_of (sees visible.now) g words.now (request_of asked.order asked.limits work.old res.old asked.reference)) }
 {
     slots::zero(res);
-    search_kept(index, visible, words, reference, order, limits, work, res)
+    search_kept(index, visible, words, asked, work, res)
 }
 
 // The search with the paths of the reply; both areas as every call leaves them.
@@ -220,52 +224,41 @@ fn search_loaded(
     index: &[u32],
     visible: &[u8],
     words: &[u32],
-    reference: u32,
-    order: SearchOrder,
-    limits: SearchLimits,
-    reply: Reply,
+    asked: Asked,
     work: &mut [u32],
     res: &mut [u32],
 ) -> Resolution
     requires { HoldsGraph index.now × Readable words.now }
     ensures { (g : Graph) → Loaded g index.now → JumpAt (view_of g)
-        → Does (found_of (sees visible.now) g words.now reply (request_of order limits work.old res.old reference)) result work.new
+        → Does (found_of (sees visible.now) g words.now asked.reply (request_of asked.order asked.limits work.old res.old asked.reference)) result work.new
         res.new }
 {
-    let driven = attempt(index, visible, words, reference, order, limits, work, res);
-    conclude(index, driven, reply, work, res)
+    let driven = attempt(index, visible, words, asked, work, res);
+    conclude(index, driven, asked.reply, work, res)
 }
 
-// The database is checked against a graph of so many nodes and files: 35, then 34. Then it is searched.
+// The database is checked against the counts of the graph: 35, then 34. Then it is searched.
 fn search_database(
     index: &[u32],
     visible: &[u8],
     words: &[u32],
-    nodes: u32,
-    files: u32,
-    reference: u32,
-    order: SearchOrder,
-    limits: SearchLimits,
-    reply: Reply,
+    counts: Counts,
+    asked: Asked,
     work: &mut [u32],
     res: &mut [u32],
 ) -> Resolution
-    requires { Sized index.now nodes files }
-    ensures { (g : Graph) → Loaded g index.now → JumpAt (view_of g) → nodes ≡ length g.nodes → files ≡ g.files
-        → Does (stitched_outcome base (reply_of reply) (sees visible.now) g (request_of order limits work.old res.old reference)
+    requires { Sized index.now counts.nodes counts.files }
+    ensures { (g : Graph) → Loaded g index.now → JumpAt (view_of g) → counts.nodes ≡ length g.nodes → counts.files ≡ g.files
+        → Does (stitched_outcome base (reply_of asked.reply) (sees visible.now) g (request_of asked.order asked.limits work.old res.old asked.reference)
         (check_database base known_owners g words.now)) result work.new res.new }
 {
-    match check::check(words, nodes, files) {
-        Inspected::Refused(r) => {
+    match check::check(words, counts.nodes, counts.files) {
+        Err(r) => {
             slots::zero(work);
             slots::zero(res);
-            Resolution::Database(r)
+            Err(ResolutionRefusal::Database(r))
         }
-        Inspected::Sound => {
-            search_loaded(
-                index, visible, words, reference, order, limits, reply, work, res,
-            )
-        }
+        Ok(()) => search_loaded(index, visible, words, asked, work, res),
     }
 }
 
@@ -275,30 +268,21 @@ fn search_in(
     visible: &[u8],
     index: &mut [u32],
     words: &[u32],
-    reference: u32,
-    order: SearchOrder,
-    limits: SearchLimits,
-    reply: Reply,
+    asked: Asked,
     work: &mut [u32],
     res: &mut [u32],
 ) -> Resolution
     requires { Takes image.now index.old }
-    ensures { Does (stitched_search (reply_of reply) image.now visible.now words.now reference order limits work.old res.old) result
+    ensures { Does (stitched_search (reply_of asked.reply) image.now visible.now words.now asked.reference asked.order asked.limits work.old res.old) result
         work.new res.new }
 {
     match storage::check::load_seen(image, visible, index) {
-        Checked::Refused(r) => {
+        Err(r) => {
             slots::zero(work);
             slots::zero(res);
-            Resolution::Image(r)
+            Err(ResolutionRefusal::Image(r))
         }
-        Checked::Accepted {
-            files,
-            nodes,
-            edges: _,
-        } => search_database(
-            index, visible, words, nodes, files, reference, order, limits, reply, work, res,
-        ),
+        Ok(counts) => search_database(index, visible, words, counts, asked, work, res),
     }
 }
 
@@ -307,26 +291,19 @@ fn search_image(
     image: &[u8],
     visible: &[u8],
     words: &[u32],
-    reference: u32,
-    order: SearchOrder,
-    limits: SearchLimits,
-    reply: Reply,
+    asked: Asked,
     work: &mut [u32],
     res: &mut [u32],
 ) -> Resolution
-    ensures { Does (stitched_search (reply_of reply) image.now visible.now words.now reference order limits work.old res.old) result
+    ensures { Does (stitched_search (reply_of asked.reply) image.now visible.now words.now asked.reference asked.order asked.limits work.old res.old) result
         work.new res.new }
 {
     if storage::check::is_small(image) {
         let mut index = [0u32; blocks::SMALL];
-        return search_in(
-            image, visible, &mut index, words, reference, order, limits, reply, work, res,
-        );
+        return search_in(image, visible, &mut index, words, asked, work, res);
     }
     let mut index = [0u32; blocks::INDEX];
-    search_in(
-        image, visible, &mut index, words, reference, order, limits, reply, work, res,
-    )
+    search_in(image, visible, &mut index, words, asked, work, res)
 }
 
 // Stitched search from a reference, on any bytes, words and numbers: the returned paths.
@@ -349,16 +326,19 @@ pub fn search(
         image,
         visible,
         words,
-        reference.0,
-        order,
-        limits,
-        Reply::Returned,
+        Asked {
+            reference: reference.0,
+            order,
+            limits,
+            reply: Reply::Returned,
+        },
         work,
         res,
     )
 }
 
 // The same search with its recorded paths.
+// Kept: a call for each reply, as for direct search.
 pub fn search_recorded(
     image: &[u8],
     visible: &[u8],
@@ -378,10 +358,12 @@ pub fn search_recorded(
         image,
         visible,
         words,
-        reference.0,
-        order,
-        limits,
-        Reply::Recorded,
+        Asked {
+            reference: reference.0,
+            order,
+            limits,
+            reply: Reply::Recorded,
+        },
         work,
         res,
     )

@@ -1,6 +1,6 @@
 -- One look at an edge or at a partial path: what is counted, recorded and pushed in code is what the enumeration does with the outcome.
 -- Serves document 01, "Answer" and "Budget and frontier".
-use Rattle.std.specs.Prelude.{ℕ, ◌+◌, ◌≤◌, ◌≡◌, Bool, false, List}
+use Rattle.std.specs.Prelude.{ℕ, ◌+◌, ◌≤◌, ◌≡◌, Bool, false, List, Ok, Err}
 use Rattle.std.proofs.Common.{arith, sym, ◌∙◌}
 use Rattle.std.proofs.Math.Path.{refl, ap, subst}
 use Rattle.semantics.specs.declared.search.SearchStats.{SearchStats}
@@ -11,10 +11,8 @@ use Rattle.semantics.specs.Path.{Path}
 use Rattle.semantics.specs.Enumeration.{State, cut, overlong, reject, stop, go, one, judged, with_tally, add_looked, add_cycle, add_rejected, flag_length}
 use Rattle.path_budget.specs.Budget.Laws.{lengthening-limits, lengthening-refused}
 use Rattle.search_state.specs.declared.search.Search as S
-use Rattle.search_state.specs.declared.search.Going.{Going}
-use Rattle.search_state.specs.declared.search.Going.TheVariants.{On, Refused}
 use Rattle.search_state.specs.States.{cut_one, rejected_one, overlong_by}
-use Rattle.search_state.specs.Searches.{with_state, Clears}
+use Rattle.search_state.specs.Searches.{Going, with_state, Clears}
 use Rattle.search_state.specs.Progresses.{frame_of}
 use Rattle.search_state.specs.Reps.{slot_of, Few, setting_of, Replayed, Rep, Tells}
 use Rattle.search_state.specs.Extensions.{ExtendsTo}
@@ -46,9 +44,9 @@ module _ (g : View) (r : ℕ) (s : S.Search) (ws rs : List ℕ) (m : State Path)
   pub complete-few : s.state.budget.complete ≤ m.tally.looked
   complete-few = let e : s.state.budget.complete ≡ m.stats.complete = ap (λ (t : SearchStats). t.complete) rep.counts.stats in omega (arith, e, rep.few.complete)
 
-  pub look-cut : (w : S.Search) → w ≡ with_state (cut_one s.state) s → Tells g r (frame_of s) (On w) ws rs (one (setting_of (frame_of s)) m cut)
+  pub look-cut : (w : S.Search) → w ≡ with_state (cut_one s.state) s → Tells g r (frame_of s) (Ok w) ws rs (one (setting_of (frame_of s)) m cut)
   unfolding one judged
-  look-cut w q = subst (λ (x : S.Search). Tells g r (frame_of s) (On x) ws rs (one (setting_of (frame_of s)) m cut)) (sym q) (
+  look-cut w q = subst (λ (x : S.Search). Tells g r (frame_of s) (Ok x) ws rs (one (setting_of (frame_of s)) m cut)) (sym q) (
     refl,
     record {
       sized = rep.sized;
@@ -59,9 +57,9 @@ module _ (g : View) (r : ℕ) (s : S.Search) (ws rs : List ℕ) (m : State Path)
     },
   )
 
-  pub look-rejected : (w : S.Search) → w ≡ with_state (rejected_one s.state) s → Tells g r (frame_of s) (On w) ws rs (one (setting_of (frame_of s)) m reject)
+  pub look-rejected : (w : S.Search) → w ≡ with_state (rejected_one s.state) s → Tells g r (frame_of s) (Ok w) ws rs (one (setting_of (frame_of s)) m reject)
   unfolding one judged
-  look-rejected w q = subst (λ (x : S.Search). Tells g r (frame_of s) (On x) ws rs (one (setting_of (frame_of s)) m reject)) (sym q) (
+  look-rejected w q = subst (λ (x : S.Search). Tells g r (frame_of s) (Ok x) ws rs (one (setting_of (frame_of s)) m reject)) (sym q) (
     refl,
     record {
       sized = rep.sized;
@@ -72,9 +70,9 @@ module _ (g : View) (r : ℕ) (s : S.Search) (ws rs : List ℕ) (m : State Path)
     },
   )
 
-  pub look-overlong : (n : ℕ) → within n s.state.budget.max_length ≡ false → (w : S.Search) → w ≡ with_state (overlong_by n s.state) s → Tells g r (frame_of s) (On w) ws rs (one (setting_of (frame_of s)) m overlong)
+  pub look-overlong : (n : ℕ) → within n s.state.budget.max_length ≡ false → (w : S.Search) → w ≡ with_state (overlong_by n s.state) s → Tells g r (frame_of s) (Ok w) ws rs (one (setting_of (frame_of s)) m overlong)
   unfolding one judged
-  look-overlong n h w q = subst (λ (x : S.Search). Tells g r (frame_of s) (On x) ws rs (one (setting_of (frame_of s)) m overlong)) (sym q) (
+  look-overlong n h w q = subst (λ (x : S.Search). Tells g r (frame_of s) (Ok x) ws rs (one (setting_of (frame_of s)) m overlong)) (sym q) (
     λ i. record { order = s.frontier.order; limits = lengthening-limits n s.state.budget i; waiting = s.frontier.capacity; results = s.state.results },
     record {
       sized = rep.sized;
@@ -85,7 +83,7 @@ module _ (g : View) (r : ℕ) (s : S.Search) (ws rs : List ℕ) (m : State Path)
     },
   )
 
-  pub look-stopped : (x : SearchRefusal) → Tells g r (frame_of s) (Refused x) ws rs (one (setting_of (frame_of s)) m (stop x))
+  pub look-stopped : (x : SearchRefusal) → Tells g r (frame_of s) (Err x) ws rs (one (setting_of (frame_of s)) m (stop x))
   unfolding one judged
   look-stopped x = refl
 

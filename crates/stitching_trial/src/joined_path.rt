@@ -23,7 +23,7 @@ pub fn with_edges(item: &mut [u32], k: usize, edges: &[u32])
     ensures { item.new ≡ encode slot_length (take k (drop 1 item.old) ++ edges.now) }
 {
     shorten(item, k);
-    for i in 0..edges.len() {
-        path_slot::with_edge(item, k + i, edges[i]);
+    for (i, edge) in edges.iter().enumerate() {
+        path_slot::with_edge(item, k + i, *edge);
     }
 }

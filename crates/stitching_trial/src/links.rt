@@ -45,13 +45,7 @@ fn is_tried(visible: &[u8], hides: bool, owner: u32) -> bool
     if owner < 1 {
         return false;
     }
-    if !hides {
-        return true;
-    }
-    if owner - 1 == bounds::NOBODY {
-        return true;
-    }
-    is_visible(visible, owner - 1)
+    !hides || owner - 1 == bounds::NOBODY || is_visible(visible, owner - 1)
 }
 
 // A record that is tried goes in front of those with the same start that are linked already.
@@ -60,8 +54,8 @@ fn link_one(words: &[u32], visible: &[u8], hides: bool, links: &mut [u32], i: us
     requires shows_all { ShowsAll hides visible.now words.now }
     ensures { LinkedFrom (sees visible.now) words.now links.new i }
 {
-    if is_tried(visible, hides, layout::owner(words, i)) {
-        let start = layout::start(words, i) as usize;
+    if is_tried(visible, hides, layout::owner(words, bounds::MAX_EDGES, i)) {
+        let start = layout::start(words, bounds::MAX_EDGES, i) as usize;
         links[NEXT + i] = links[start];
         links[start] = i as u32 + 1;
     }
@@ -74,9 +68,8 @@ pub fn link(words: &[u32], visible: &[u8], links: &mut [u32])
     ensures { Linked (sees visible.now) words.now links.new }
 {
     let hides = hides_some(visible, layout::number(words, layout::FILES_AT) as u32);
-    let mut i = layout::number(words, layout::USED_AT);
-    while 0 < i {
-        i -= 1;
+    let used = layout::number(words, layout::USED_AT);
+    for i in (0..used).rev() {
         link_one(words, visible, hides, links, i);
     }
 }

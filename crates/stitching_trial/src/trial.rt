@@ -8,15 +8,15 @@ use path_budget::budget::Budget;
 use search_state::path_slot;
 use semantics::bounds::MAX_EDGES;
 use semantics::refusal::{PathRefusal, SearchRefusal};
-use stepping::step::Effect;
+use semantics::replayed::Step;
 use stepping::{step, steps};
 
+// What becomes of it, where it does not end the search.
 #[derive(Clone, Copy)]
 pub enum StitchTrial {
     Cut,
     Overlong,
     Rejected,
-    Refused(SearchRefusal),
     Extended { complete: bool },
 }
 
@@ -24,8 +24,8 @@ pub enum StitchTrial {
 fn shares(edges: &[u32], path: &[u32]) -> bool
     ensures { result ≡ shares edges.now path.now }
 {
-    for i in 0..edges.len() {
-        if path_slot::contains(path, edges[i]) {
+    for edge in edges {
+        if path_slot::contains(path, *edge) {
             return true;
         }
     }
@@ -33,42 +33,42 @@ fn shares(edges: &[u32], path: &[u32]) -> bool
 }
 
 // The edges are appended in order behind the k edges of the path, whose own steps stay. Answers the last step or the first refusal.
-fn append_all(index: &[u32], steps: &mut [u32], k: usize, edges: &[u32]) -> Effect
+fn append_all(
+    index: &[u32],
+    steps: &mut [u32],
+    k: usize,
+    edges: &[u32],
+) -> Result<Step, PathRefusal>
     requires { Appends index.now steps.old k edges.now }
     ensures { (v : Appends index.now steps.old k edges.now)
         → AppendsTo index.now steps.old k edges.now v result steps.new }
 {
-    let mut i: usize = 0;
-    while i < edges.len() {
-        let effect = steps::append(index, steps, (k + i) as u32, edges[i]);
-        let Effect::Done(_) = effect else {
+    for (i, edge) in edges.iter().enumerate() {
+        let effect = steps::append(index, steps, (k + i) as u32, *edge);
+        let Ok(_) = effect else {
             return effect;
         };
-        i += 1;
     }
-    Effect::Done(steps::get_step(steps, k + edges.len()))
+    Ok(steps::get_step(steps, k + edges.len()))
 }
 
 // An unknown edge ends the search with 12, any other refusal of the path rules is a rejection.
-fn ended(refusal: PathRefusal) -> StitchTrial
+fn ended(refusal: PathRefusal) -> Result<StitchTrial, SearchRefusal>
     ensures { result ≡ ended_by refusal }
 {
     match refusal {
         PathRefusal::UnknownEdge(edge) => {
-            StitchTrial::Refused(SearchRefusal::Path(PathRefusal::UnknownEdge(edge)))
+            Err(SearchRefusal::Path(PathRefusal::UnknownEdge(edge)))
         }
-        PathRefusal::UnknownNode(_) => StitchTrial::Rejected,
-        PathRefusal::NotReference(_) => StitchTrial::Rejected,
-        PathRefusal::IncorrectSource {
-            expected: _,
-            actual: _,
-        } => StitchTrial::Rejected,
-        PathRefusal::EmptySymbolStack(_) => StitchTrial::Rejected,
-        PathRefusal::IncorrectPoppedSymbol(_) => StitchTrial::Rejected,
-        PathRefusal::UnexpectedAttachedScopes(_) => StitchTrial::Rejected,
-        PathRefusal::MissingAttachedScopes(_) => StitchTrial::Rejected,
-        PathRefusal::EmptyScopeStack(_) => StitchTrial::Rejected,
-        PathRefusal::UnknownAttachedScope(_) => StitchTrial::Rejected,
+        PathRefusal::UnknownNode(_) => Ok(StitchTrial::Rejected),
+        PathRefusal::NotReference(_) => Ok(StitchTrial::Rejected),
+        PathRefusal::IncorrectSource { .. } => Ok(StitchTrial::Rejected),
+        PathRefusal::EmptySymbolStack(_) => Ok(StitchTrial::Rejected),
+        PathRefusal::IncorrectPoppedSymbol(_) => Ok(StitchTrial::Rejected),
+        PathRefusal::UnexpectedAttachedScopes(_) => Ok(StitchTrial::Rejected),
+        PathRefusal::MissingAttachedScopes(_) => Ok(StitchTrial::Rejected),
+        PathRefusal::EmptyScopeStack(_) => Ok(StitchTrial::Rejected),
+        PathRefusal::UnknownAttachedScope(_) => Ok(StitchTrial::Rejected),
     }
 }
 
@@ -79,28 +79,28 @@ pub fn judge_partial_path(
     path: &[u32],
     edges: &[u32],
     budget: Budget,
-) -> StitchTrial
+) -> Result<StitchTrial, SearchRefusal>
     requires { Judging index.now steps.old path.now edges.now }
     ensures { (v : Judging index.now steps.old path.now edges.now)
         → JudgedAs index.now steps.old path.now edges.now v budget.max_length result steps.new }
 {
     if shares(edges, path) {
-        return StitchTrial::Cut;
+        return Ok(StitchTrial::Cut);
     }
     let whole = path.len() + edges.len();
     let asked = budget.admitted_length(whole as u64);
     if asked.allowed {
         if whole <= MAX_EDGES {
             match append_all(index, steps, path.len(), edges) {
-                Effect::Done(last) => {
-                    return StitchTrial::Extended {
+                Ok(last) => {
+                    return Ok(StitchTrial::Extended {
                         complete: step::is_complete(index, last),
-                    };
+                    });
                 }
-                Effect::Refused(r) => return ended(r),
+                Err(r) => return ended(r),
             }
         }
-        return StitchTrial::Refused(SearchRefusal::TooLong);
+        return Err(SearchRefusal::TooLong);
     }
-    StitchTrial::Overlong
+    Ok(StitchTrial::Overlong)
 }

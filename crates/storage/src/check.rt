@@ -1,9 +1,8 @@
 // The check of a whole image, and the index of the graph that it holds.
 // Document 01, "Turned back": size and length as 2, then 1, 2 by the version's size, 3, the records in order, bytes left over, and last 5 in record order.
-ghost use Rattle.std.specs.Prelude.{◌≡◌, true, ◌*◌, ◌<◌, ◌≤◌, length};
+ghost use Rattle.std.specs.Prelude.{◌≡◌, true, ◌<◌, ◌≤◌, length, Err};
 ghost use Rattle.storage.specs.References.{Sources};
 ghost use Rattle.semantics.specs.Entries.{graph_in, check_of};
-ghost use Rattle.semantics.specs.declared.answer.Checked.TheVariants as Checked;
 ghost use Rattle.semantics.specs.declared.refusal.ImageRefusal.TheVariants as Image;
 ghost use Rattle.semantics.specs.Acceptance.{accepts};
 ghost use Rattle.semantics.specs.Answer.{ok};
@@ -11,25 +10,26 @@ ghost use Rattle.semantics.specs.Calls.{check_call};
 ghost use Rattle.semantics.specs.Graph.{Graph};
 ghost use Rattle.semantics.specs.Image.{symbol_bytes, first_record, header, place_of};
 ghost use Rattle.semantics.specs.Told.{told_checked};
+ghost use Rattle.semantics.specs.Words.{zeros};
 ghost use Rattle.semantics.specs.Hidden.{sees, seen};
 ghost use Rattle.storage.specs.Checks.{references_of, Unlinked, shown};
+ghost use Rattle.hiding.specs.Hiding.{Counted, Fits};
 ghost use Rattle.image.specs.Filling.{Held};
 ghost use Rattle.image.specs.Records.{Headed, graph_read};
-ghost use Rattle.storage.specs.Index.{INDEX, EDGES, BLOCK, Blocks, is_small, Takes, Loaded};
+ghost use Rattle.storage.specs.Index.{INDEX, is_small, Takes, Loaded};
 
 use crate::{blocks, links, refs};
 use hiding::hiding::hide;
-use image::reached::Reached;
 use image::{header, scan};
-use semantics::answer::Checked;
+use semantics::answer::{Checked, Counts};
 use semantics::refusal::ImageRefusal;
 
 // Refusal 5 at the place of record k, counted from a place on.
 fn misfit(image: &[u8], from: usize, k: u32) -> Checked
     requires { (from < 1048576) × (k < 65536) }
-    ensures { result ≡ Checked.Refused (Image.Reference (place_of image.now from k)) }
+    ensures { result ≡ Err (Image.Reference (place_of image.now from k)) }
 {
-    Checked::Refused(ImageRefusal::Reference {
+    Err(ImageRefusal::Reference {
         place: scan::place(image, from, k) as u32,
     })
 }
@@ -42,20 +42,18 @@ fn judge_references(image: &[u8], index: &[u32]) -> Checked
     ensures sources { (g : Graph) → references_of image.now ≡ ok g → Sources index.now }
 {
     let nodes = header::nodes(image);
-    let n = refs::misfit_node(index, nodes);
-    if n < nodes {
+    if let Some(n) = refs::misfit_node(index, nodes) {
         return misfit(image, header::FIRST_RECORD, n);
     }
     let edges = header::edges(image);
-    let e = refs::misfit_edge(index, edges);
-    if e < edges {
+    if let Some(e) = refs::misfit_edge(index, edges) {
         return misfit(image, scan::place(image, header::FIRST_RECORD, nodes), e);
     }
-    Checked::Accepted {
+    Ok(Counts {
         files: header::files(image),
         nodes,
         edges,
-    }
+    })
 }
 
 // The records in order, bytes left over, what the records refer to.
@@ -65,15 +63,11 @@ fn read(image: &[u8], index: &mut [u32]) -> Checked
     ensures value { result ≡ check_of image.now }
     ensures unlinked { (g : Graph) → graph_in image.now ≡ ok g → Unlinked g index.new }
 {
-    match scan::records(image, index) {
-        Reached::Next(last) => {
-            if last != image.len() {
-                return Checked::Refused(ImageRefusal::Length);
-            }
-            judge_references(image, index)
-        }
-        Reached::Refused(r) => Checked::Refused(r),
+    let last = scan::records(image, index)?;
+    if last != image.len() {
+        return Err(ImageRefusal::Length);
     }
+    judge_references(image, index)
 }
 
 // The check into a fresh index: where the image is accepted, its records stand there and no edge is linked yet.
@@ -82,22 +76,17 @@ fn judge(image: &[u8], index: &mut [u32]) -> Checked
     ensures value { result ≡ check_of image.now }
     ensures unlinked { (g : Graph) → graph_in image.now ≡ ok g → Unlinked g index.new }
 {
-    match header::header(image) {
-        Reached::Next(_) => read(image, index),
-        Reached::Refused(r) => Checked::Refused(r),
-    }
+    header::header(image)?;
+    read(image, index)
 }
 
 // What hidden files hold is cleared in a filled index, unless the whole graph is wanted.
-fn hide_unless(whole: bool, index: &mut [u32], visible: &[u8], files: u32, nodes: u32, edges: u32)
-    requires blocks { Blocks index.old }
-    requires nodes_bound { (nodes ≤ EDGES) × (BLOCK * nodes ≤ length index.old) }
-    requires edges_bound { (edges ≤ EDGES) × (BLOCK * edges ≤ length index.old) }
-    ensures { (g : Graph) → accepts g ≡ true → files ≡ g.files → nodes ≡ length g.nodes → edges ≡ length g.edges → Held g index.old
-        → Held (shown whole (sees visible.now) g) index.new }
+fn hide_unless(whole: bool, index: &mut [u32], visible: &[u8], counts: Counts)
+    requires { Fits counts index.old }
+    ensures { (g : Graph) → accepts g ≡ true → Counted counts g → Held g index.old → Held (shown whole (sees visible.now) g) index.new }
 {
     if !whole {
-        hide(index, visible, files, nodes, edges);
+        hide(index, visible, counts);
     }
 }
 
@@ -108,18 +97,10 @@ fn load_shown(image: &[u8], whole: bool, visible: &[u8], index: &mut [u32]) -> C
     ensures value { result ≡ check_of image.now }
     ensures loaded { (g : Graph) → graph_in image.now ≡ ok g → Loaded (shown whole (sees visible.now) g) index.new }
 {
-    let judged = judge(image, index);
-    let Checked::Accepted {
-        files,
-        nodes,
-        edges,
-    } = judged
-    else {
-        return judged;
-    };
-    hide_unless(whole, index, visible, files, nodes, edges);
-    links::link(index, edges);
-    judged
+    let counts = judge(image, index)?;
+    hide_unless(whole, index, visible, counts);
+    links::link(index, counts.edges);
+    Ok(counts)
 }
 
 // The graph of an accepted image, whole.
@@ -167,21 +148,14 @@ pub fn is_small(image: &[u8]) -> bool
     true
 }
 
-// The two indices stand in functions of their own, neither of which is compiled into its caller: a call then needs room for one of them and not for both.
+// An index of N words. It is compiled into no caller, and once for each N: a call then needs room for one index and not for both.
 #[inline(never)]
-fn check_small(image: &[u8]) -> Checked
-    requires { is_small image.now ≡ true }
+fn check_in<const N: usize>(image: &[u8]) -> Checked
+    requires n_bound { N ≤ INDEX }
+    requires takes { Takes image.now (zeros N) }
     ensures { told_checked result ≡ told_checked (check_of image.now) }
 {
-    let mut index = [0u32; blocks::SMALL];
-    load_fresh(image, &mut index)
-}
-
-#[inline(never)]
-fn check_large(image: &[u8]) -> Checked
-    ensures { told_checked result ≡ told_checked (check_of image.now) }
-{
-    let mut index = [0u32; blocks::INDEX];
+    let mut index = [0u32; N];
     load_fresh(image, &mut index)
 }
 
@@ -190,7 +164,7 @@ pub fn check(image: &[u8]) -> Checked
     ensures { told_checked result ≡ told_checked (check_of image.now) }
 {
     if is_small(image) {
-        return check_small(image);
+        return check_in::<{ blocks::SMALL }>(image);
     }
-    check_large(image)
+    check_in::<{ blocks::INDEX }>(image)
 }

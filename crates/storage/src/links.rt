@@ -31,9 +31,7 @@ pub fn link(index: &mut [u32], count: u32)
     requires sources { Sources index.old }
     ensures { (g : Graph) → length g.edges ≡ count → Linked g index.old count → Loaded g index.new }
 {
-    let mut e = count;
-    while 0 < e {
-        e -= 1;
+    for e in (0..count).rev() {
         link_one(index, e);
     }
 }

@@ -1,11 +1,11 @@
 // What the records refer to, tested on the words of a filled index.
 // Document 01, "Turned back", row 5: edge ends, edges from jump, ends in two files, attached scopes.
-ghost use Rattle.std.specs.Prelude.{◌≡◌, ℕ, ◌≤◌, ℤ};
+ghost use Rattle.std.specs.Prelude.{◌≡◌, ℤ};
 ghost use Rattle.semantics.specs.declared.graph.Edge.TheVariants.{Live};
 ghost use Rattle.semantics.specs.Acceptance.{exported_in, edge_fits};
 ghost use Rattle.semantics.specs.Graph.{Graph, node_id, view_of};
 ghost use Rattle.image.specs.Filling.{Held};
-ghost use Rattle.storage.specs.References.{First, node_test, edge_test};
+ghost use Rattle.storage.specs.References.{FirstOf, node_test, edge_test};
 ghost use Rattle.storage.specs.Index.{Blocks};
 
 use crate::blocks;
@@ -78,34 +78,28 @@ fn edge_fits(index: &[u32], e: u32) -> bool
     ends_fit(index, source - 1, blocks::word(index, blocks::TARGET, e))
 }
 
-// The first node that does not fit, or the count.
-pub(crate) fn misfit_node(index: &[u32], count: u32) -> u32
+// The first node that does not fit.
+pub(crate) fn misfit_node(index: &[u32], count: u32) -> Option<u32>
     requires { Blocks index.now }
-    ensures upper_bound { result ≤ count }
-    ensures first { (g : Graph) → Held g index.now → First (node_test g) count result }
+    ensures { (g : Graph) → Held g index.now → FirstOf (node_test g) count result }
 {
-    let mut n: u32 = 0;
-    while n < count {
+    for n in 0..count {
         if !node_fits(index, n) {
-            return n;
+            return Some(n);
         }
-        n += 1;
     }
-    n
+    None
 }
 
-// The first edge that does not fit, or the count.
-pub(crate) fn misfit_edge(index: &[u32], count: u32) -> u32
+// The first edge that does not fit.
+pub(crate) fn misfit_edge(index: &[u32], count: u32) -> Option<u32>
     requires { Blocks index.now }
-    ensures upper_bound { result ≤ count }
-    ensures first { (g : Graph) → Held g index.now → First (edge_test g) count result }
+    ensures { (g : Graph) → Held g index.now → FirstOf (edge_test g) count result }
 {
-    let mut e: u32 = 0;
-    while e < count {
+    for e in 0..count {
         if !edge_fits(index, e) {
-            return e;
+            return Some(e);
         }
-        e += 1;
     }
-    e
+    None
 }

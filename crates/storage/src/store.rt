@@ -131,6 +131,7 @@ pub fn is_exported(index: &[u32], n: NodeId) -> bool
 }
 
 // A pop or a pop-scoped node that is marked so.
+// Kept: two tests with two kinds each, as one function would take the kinds as arguments, and its calls would name them again.
 pub fn is_definition(index: &[u32], n: NodeId) -> bool
     requires { Blocks index.now }
     ensures { result ≡ is_definition (node_row index.now n.0) }

@@ -11,11 +11,12 @@ ghost use Rattle.direct_search.specs.Counting.{Tallies, tallied_on};
 ghost use Rattle.tally.specs.Tallies.{outcome_on, Does};
 
 use direct_search::direct::search_counted;
-use search_rounds::conclusion::SearchEnd;
-use semantics::answer::{Checked, Tallying};
+use search_state::search::Finished;
+use semantics::answer::{Tallying, TurnedBack};
 use semantics::bounds::LENGTHS;
 use semantics::graph::NodeId;
-use semantics::search::{Limit, SearchLimits, SearchOrder};
+use semantics::refusal::SearchRefusal;
+use semantics::search::{SearchLimits, SearchOrder};
 use storage::{blocks, check};
 use words::slots;
 
@@ -27,15 +28,20 @@ pub struct TallyOutcome {
 }
 
 // The search on a loaded graph, with every number 0 before it. It keeps no path, and its result area is shorter than a slot.
-fn search(index: &[u32], reference: u32, work: &mut [u32], numbers: &mut [u64]) -> SearchEnd
+fn search(
+    index: &[u32],
+    reference: u32,
+    work: &mut [u32],
+    numbers: &mut [u64],
+) -> Result<Finished, SearchRefusal>
     requires { HoldsGraph index.now × (numbers.old ≡ zeros slot_length) }
     ensures { (g : Graph) → Loaded g index.now → Tallies result numbers.new (tallied_on g work.old reference) }
 {
     let mut none = [0u32; 1];
     let limits = SearchLimits {
-        length: Limit::Absent,
-        expansions: Limit::Absent,
-        complete: Limit::AtMost(0),
+        length: None,
+        expansions: None,
+        complete: Some(0),
     };
     search_counted(
         index,
@@ -67,11 +73,11 @@ fn tally_loaded(index: &[u32], reference: u32, work: &mut [u32]) -> TallyOutcome
     let end = search(index, reference, work, &mut numbers);
     slots::zero(work);
     match end {
-        SearchEnd::Over(_) => TallyOutcome {
-            answer: Tallying::Done,
+        Ok(_) => TallyOutcome {
+            answer: Ok(()),
             numbers,
         },
-        SearchEnd::Refused(r) => refused(Tallying::Refused(r)),
+        Err(r) => refused(Err(TurnedBack::Refused(r))),
     }
 }
 
@@ -87,15 +93,11 @@ fn tally_in(
     ensures { Does (tally_lengths image.now visible.now reference work.old) result work.new }
 {
     match check::load_seen(image, visible, index) {
-        Checked::Refused(r) => {
+        Err(r) => {
             slots::zero(work);
-            refused(Tallying::Image(r))
+            refused(Err(TurnedBack::Image(r)))
         }
-        Checked::Accepted {
-            files: _,
-            nodes: _,
-            edges: _,
-        } => tally_loaded(index, reference, work),
+        Ok(_) => tally_loaded(index, reference, work),
     }
 }
 

@@ -10,7 +10,8 @@ use semantics::refusal::{
 };
 
 // A number and up to two values; count is how many of the three there are, and the others are 0.
-#[derive(Clone, Copy)]
+// Kept: no heap, a rule of the project: the numbers stand in fixed words beside their count, as callers copy them.
+#[derive(Clone, Copy, Debug, PartialEq, Eq)]
 pub struct Told {
     pub count: u32,
     pub number: u32,
@@ -52,86 +53,100 @@ fn sources(expected: NodeId, actual: NodeId) -> Told
 }
 
 // 1 to 5, the last two with the record's place.
-pub fn image(refusal: ImageRefusal) -> Told
-    ensures { numbers_of result ≡ told_image refusal }
-{
-    match refusal {
-        ImageRefusal::Version => bare(1),
-        ImageRefusal::Length => bare(2),
-        ImageRefusal::Counts => bare(3),
-        ImageRefusal::Record { place } => valued(4, place),
-        ImageRefusal::Reference { place } => valued(5, place),
+impl From<ImageRefusal> for Told {
+    ghost from_gives = { λ refusal told. numbers_of told ≡ told_image refusal };
+
+    fn from(refusal: ImageRefusal) -> Told {
+        match refusal {
+            ImageRefusal::Version => bare(1),
+            ImageRefusal::Length => bare(2),
+            ImageRefusal::Counts => bare(3),
+            ImageRefusal::Record { place } => valued(4, place),
+            ImageRefusal::Reference { place } => valued(5, place),
+        }
     }
 }
 
 // 10 to 19, with a node, an edge, or two nodes.
-fn path(refusal: PathRefusal) -> Told
-    ensures { numbers_of result ≡ told_path refusal }
-{
-    match refusal {
-        PathRefusal::UnknownNode(node) => valued(10, node.0),
-        PathRefusal::NotReference(node) => valued(11, node.0),
-        PathRefusal::UnknownEdge(edge) => valued(12, edge.0),
-        PathRefusal::IncorrectSource { expected, actual } => sources(expected, actual),
-        PathRefusal::EmptySymbolStack(node) => valued(14, node.0),
-        PathRefusal::IncorrectPoppedSymbol(node) => valued(15, node.0),
-        PathRefusal::UnexpectedAttachedScopes(node) => valued(16, node.0),
-        PathRefusal::MissingAttachedScopes(node) => valued(17, node.0),
-        PathRefusal::EmptyScopeStack(node) => valued(18, node.0),
-        PathRefusal::UnknownAttachedScope(node) => valued(19, node.0),
+impl From<PathRefusal> for Told {
+    ghost from_gives = { λ refusal told. numbers_of told ≡ told_path refusal };
+
+    fn from(refusal: PathRefusal) -> Told {
+        match refusal {
+            PathRefusal::UnknownNode(node) => valued(10, node.0),
+            PathRefusal::NotReference(node) => valued(11, node.0),
+            PathRefusal::UnknownEdge(edge) => valued(12, edge.0),
+            PathRefusal::IncorrectSource { expected, actual } => sources(expected, actual),
+            PathRefusal::EmptySymbolStack(node) => valued(14, node.0),
+            PathRefusal::IncorrectPoppedSymbol(node) => valued(15, node.0),
+            PathRefusal::UnexpectedAttachedScopes(node) => valued(16, node.0),
+            PathRefusal::MissingAttachedScopes(node) => valued(17, node.0),
+            PathRefusal::EmptyScopeStack(node) => valued(18, node.0),
+            PathRefusal::UnknownAttachedScope(node) => valued(19, node.0),
+        }
     }
 }
 
-pub fn replay(refusal: ReplayRefusal) -> Told
-    ensures { numbers_of result ≡ told_replay_refusal refusal }
-{
-    match refusal {
-        ReplayRefusal::Path(r) => path(r),
-        ReplayRefusal::TooLong => bare(30),
+impl From<ReplayRefusal> for Told {
+    ghost from_gives = { λ refusal told. numbers_of told ≡ told_replay_refusal refusal };
+
+    fn from(refusal: ReplayRefusal) -> Told {
+        match refusal {
+            ReplayRefusal::Path(r) => Told::from(r),
+            ReplayRefusal::TooLong => bare(30),
+        }
     }
 }
 
-pub fn search(refusal: SearchRefusal) -> Told
-    ensures { numbers_of result ≡ told_search refusal }
-{
-    match refusal {
-        SearchRefusal::Path(r) => path(r),
-        SearchRefusal::TooLong => bare(30),
-        SearchRefusal::NoWaitingSlot => bare(31),
-        SearchRefusal::NoResultSlot => bare(32),
-        SearchRefusal::TooManyExpansions => bare(36),
+impl From<SearchRefusal> for Told {
+    ghost from_gives = { λ refusal told. numbers_of told ≡ told_search refusal };
+
+    fn from(refusal: SearchRefusal) -> Told {
+        match refusal {
+            SearchRefusal::Path(r) => Told::from(r),
+            SearchRefusal::TooLong => bare(30),
+            SearchRefusal::NoWaitingSlot => bare(31),
+            SearchRefusal::NoResultSlot => bare(32),
+            SearchRefusal::TooManyExpansions => bare(36),
+        }
     }
 }
 
-pub fn linear(refusal: LinearRefusal) -> Told
-    ensures { numbers_of result ≡ told_linear refusal }
-{
-    match refusal {
-        LinearRefusal::Path(r) => path(r),
-        LinearRefusal::MultipleEdges(node) => valued(20, node.0),
-        LinearRefusal::TooLong => bare(30),
-        LinearRefusal::NoResultSlot => bare(32),
-        LinearRefusal::TooManyExpansions => bare(36),
+impl From<LinearRefusal> for Told {
+    ghost from_gives = { λ refusal told. numbers_of told ≡ told_linear refusal };
+
+    fn from(refusal: LinearRefusal) -> Told {
+        match refusal {
+            LinearRefusal::Path(r) => Told::from(r),
+            LinearRefusal::MultipleEdges(node) => valued(20, node.0),
+            LinearRefusal::TooLong => bare(30),
+            LinearRefusal::NoResultSlot => bare(32),
+            LinearRefusal::TooManyExpansions => bare(36),
+        }
     }
 }
 
-pub fn partial(refusal: PartialPathRefusal) -> Told
-    ensures { numbers_of result ≡ told_partial refusal }
-{
-    match refusal {
-        PartialPathRefusal::UnknownFile(file) => valued(21, file.0),
-        PartialPathRefusal::TooLong => bare(30),
-        PartialPathRefusal::NoWaitingSlot => bare(31),
-        PartialPathRefusal::TooManyExpansions => bare(36),
+impl From<PartialPathRefusal> for Told {
+    ghost from_gives = { λ refusal told. numbers_of told ≡ told_partial refusal };
+
+    fn from(refusal: PartialPathRefusal) -> Told {
+        match refusal {
+            PartialPathRefusal::UnknownFile(file) => valued(21, file.0),
+            PartialPathRefusal::TooLong => bare(30),
+            PartialPathRefusal::NoWaitingSlot => bare(31),
+            PartialPathRefusal::TooManyExpansions => bare(36),
+        }
     }
 }
 
-pub fn database(refusal: DatabaseRefusal) -> Told
-    ensures { numbers_of result ≡ told_database refusal }
-{
-    match refusal {
-        DatabaseRefusal::Malformed => bare(35),
-        DatabaseRefusal::Outgrown => bare(34),
+impl From<DatabaseRefusal> for Told {
+    ghost from_gives = { λ refusal told. numbers_of told ≡ told_database refusal };
+
+    fn from(refusal: DatabaseRefusal) -> Told {
+        match refusal {
+            DatabaseRefusal::Malformed => bare(35),
+            DatabaseRefusal::Outgrown => bare(34),
+        }
     }
 }
 

@@ -53,6 +53,12 @@ module _ (most : ℕ) where
       let m : length (mid_of 0 (e - 0) ws) ≡ length (take (suc most) ws) = mid_len 0 e ws (omega (arith, length-take (suc most) ws)) ∙ (let z : e - 0 ≡ length (take (suc most) ws) = omega arith in z) in
       ap₂ (λ (a b : List ℕ). a ++ b) (k ∙ ap zeros m) (Post-is 0 e ws (omega arith) ∙ ap (λ (n : ℕ). drop n ws) h ∙ behind-extent ws)
 
+  pub begun-front : (e : ℕ) (ws ys : List ℕ) → e ≡ length (take (suc most) ws) → ys ≡ zeros (length (take e ws)) → ys ++ drop e ws ≡ begin_words most ws
+  unfolding begin_words
+  begun-front e ws ys h k =
+      let m : length (take e ws) ≡ length (take (suc most) ws) = ap (λ (n : ℕ). length (take n ws)) h ∙ ap length (front-alone (suc most) ws) in
+      ap₂ (λ (a b : List ℕ). a ++ b) (k ∙ ap zeros m) (ap (λ (n : ℕ). drop n ws) h ∙ behind-extent ws)
+
   pub place-known : (ws : List ℕ) (at room : ℕ) → at ≡ get_or ws 0 0 → room ≡ room_in most ws → at < room → at ≡ place_in most ws
   place-known ws at room e r h = e ∙ sym (ap (λ b. pick b (get_or ws 0 0) 0) (lt-ltb (get_or ws 0 0) (room_in most ws) (omega arith)))
 

@@ -4,13 +4,11 @@
 ghost use Rattle.std.specs.Prelude.{◌≡◌, ◌+◌, ◌≤◌, ◌<◌, ◌^◌, length, get_or, take, set};
 ghost use Rattle.semantics.specs.Limits.{window_entries, window_words};
 ghost use Rattle.semantics.specs.Told.{told_entered, told_trend};
-ghost use Rattle.semantics.specs.Enumeration.{greater};
 ghost use Rattle.semantics.specs.Window.{room_in, place_in, place_behind, trend_of};
 ghost use Rattle.semantics.specs.Entries.{begin_window, enter_window, report_window};
 
-use semantics::answer::{Entered, Trend};
+use semantics::answer::{Entered, EntryRefusal, Trend};
 use semantics::bounds::{MAX_EXPANSIONS, WINDOW_WORDS};
-use words::slots;
 
 // The word that says where the next entry goes, and that of the first entry.
 const PLACE_AT: usize = 0;
@@ -21,28 +19,21 @@ const FIRST_ENTRY: usize = 1;
 fn extent(words: &[u32]) -> usize
     ensures { (result ≡ length (take window_words words.now)) × (result ≤ window_words) × (result ≤ length words.now) }
 {
-    if words.len() < WINDOW_WORDS {
-        return words.len();
-    }
-    WINDOW_WORDS
+    words.len().min(WINDOW_WORDS)
 }
 
 // How many entries they have room for.
 fn room(words: &[u32]) -> usize
     ensures { (result ≡ room_in window_entries words.now) × (result ≤ window_entries) }
 {
-    let end = extent(words);
-    if FIRST_ENTRY < end {
-        return end - FIRST_ENTRY;
-    }
-    0
+    extent(words).saturating_sub(FIRST_ENTRY)
 }
 
 // The word at a place; 0 behind the last.
 fn word(words: &[u32], i: usize) -> u32
     ensures { (result ≡ get_or words.now i 0) × (result < 2 ^ 32) }
 {
-    if i < words.len() { words[i] } else { 0 }
+    words.get(i).copied().unwrap_or(0)
 }
 
 // Behind the last word nothing is stored.
@@ -76,30 +67,16 @@ fn behind(room: usize, at: usize) -> u32
     0
 }
 
-fn greater(a: u32, b: u32) -> u32
-    ensures { result ≡ greater a b }
-{
-    if a < b { b } else { a }
-}
-
-// 1,024 words of 32 bits are far from filling 64.
-fn plus(sum: u64, count: u32) -> u64
-    requires { sum < 2 ^ 63 }
-    ensures { (result ≡ sum + count) × (result < sum + 2 ^ 32) }
-{
-    sum + count as u64
-}
-
-// Their sum and the greatest, in one pass that has no way out, so that it is compiled to vector instructions.
+// Their sum and the greatest, in one pass that has no way out, so that it is compiled to vector instructions. 1,024 words of 32 bits are far from filling 64.
 fn trend(entries: &[u32]) -> Trend
     requires { length entries.now ≤ window_entries }
     ensures { result ≡ trend_of entries.now }
 {
     let mut sum: u64 = 0;
     let mut greatest: u32 = 0;
-    for i in 0..entries.len() {
-        sum = plus(sum, entries[i]);
-        greatest = greater(greatest, entries[i]);
+    for entry in entries {
+        sum += u64::from(*entry);
+        greatest = greatest.max(*entry);
     }
     Trend { sum, greatest }
 }
@@ -109,7 +86,7 @@ pub fn begin(words: &mut [u32])
     ensures { words.new ≡ begin_window words.old }
 {
     let end = extent(words);
-    slots::zero(&mut words[0..end]);
+    words[..end].fill(0);
 }
 
 // A count is entered; 40, and no word is altered, above the bound on expansions.
@@ -118,13 +95,13 @@ pub fn enter(words: &mut [u32], count: u64) -> Entered
     ensures words_after { words.new ≡ (enter_window words.old count).window }
 {
     if MAX_EXPANSIONS < count {
-        return Entered::TooGreat;
+        return Err(EntryRefusal::TooGreat);
     }
     let room = room(words);
     let at = place(words);
     put(words, FIRST_ENTRY + at, count as u32);
     put(words, PLACE_AT, behind(room, at));
-    Entered::Done
+    Ok(())
 }
 
 // The sum of the last entries and the greatest of them.

@@ -77,7 +77,7 @@ module _ (d es : List ℕ) (room : length es < length d) where
       front [] h = absurd (not-suc-le-zero h)
       front (x ∷ d) h = let q : 1 + length es - 1 ≡ length es = omega arith in rw q
 
-  laid-length : length (with_edges d (length es) es) ≡ length d
+  pub laid-length : length (with_edges d (length es) es) ≡ length d
   laid-length = ap length laid-front ∙ simp (length-append, length-drop) (omega arith)
 
   laid-rest : length (mid_of (1 + length es) (length d - (1 + length es)) (with_edges d (length es) es)) ≡ length d - (1 + length es)

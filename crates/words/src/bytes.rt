@@ -4,20 +4,12 @@ ghost use Rattle.std.specs.Prelude.{◌≡◌, ◌+◌, ◌<◌, ◌^◌, length
 ghost use Rattle.semantics.specs.Bytes.{byte_at, short, long, signed};
 ghost use Rattle.semantics.specs.Bytes.Written.{unsigned};
 
-const SIGN: u32 = 0x8000_0000;
-
-fn wide(x: u8) -> u32
-    ensures { (result ≡ x) × (result < 256) }
-{
-    x as u32
-}
-
 pub fn byte(s: &[u8], at: usize) -> u32
     requires { at < length s.now }
     ensures value { result ≡ byte_at s.now at }
     ensures upper_bound { result < 256 }
 {
-    wide(s[at])
+    u32::from(s[at])
 }
 
 // The same at any place: past the end there stands a 0.
@@ -25,7 +17,10 @@ pub fn byte_or_zero(s: &[u8], at: usize) -> u32
     ensures value { result ≡ byte_at s.now at }
     ensures upper_bound { result < 256 }
 {
-    if at < s.len() { byte(s, at) } else { 0 }
+    match s.get(at) {
+        Some(x) => u32::from(*x),
+        None => 0,
+    }
 }
 
 pub fn short(s: &[u8], at: usize) -> u32
@@ -33,9 +28,7 @@ pub fn short(s: &[u8], at: usize) -> u32
     ensures value { result ≡ short s.now at }
     ensures upper_bound { result < 2 ^ 16 }
 {
-    let high = byte(s, at);
-    let low = byte(s, at + 1);
-    high * 256 + low
+    u32::from(u16::from_be_bytes([s[at], s[at + 1]]))
 }
 
 pub fn long(s: &[u8], at: usize) -> u32
@@ -43,29 +36,19 @@ pub fn long(s: &[u8], at: usize) -> u32
     ensures value { result ≡ long s.now at }
     ensures upper_bound { result < 2 ^ 32 }
 {
-    let high = short(s, at);
-    let low = short(s, at + 2);
-    high * 65536 + low
+    u32::from_be_bytes([s[at], s[at + 1], s[at + 2], s[at + 3]])
 }
 
-// The number that 32 bits stand for. Both casts fit, so neither side can wrap.
+// The number that 32 bits stand for.
 pub fn signed(x: u32) -> i32
     ensures { result ≡ signed x }
 {
-    if x < SIGN {
-        x as i32
-    } else {
-        -1 - ((0xffff_ffff - x) as i32)
-    }
+    x.cast_signed()
 }
 
 // The 32 bits of a signed number, the other way round.
 pub fn unsigned(x: i32) -> u32
     ensures { result ≡ unsigned x }
 {
-    if x < 0 {
-        0xffff_ffff - ((-1 - x) as u32)
-    } else {
-        x as u32
-    }
+    x.cast_unsigned()
 }

@@ -8,19 +8,7 @@ ghost use Rattle.words.specs.Slots.{InArea, SlotsIn, IsSlot, Room, slot_at, put_
 pub fn zero(area: &mut [u32])
     ensures { area.new ≡ zeros (length area.old) }
 {
-    for i in 0..area.len() {
-        area[i] = 0;
-    }
-}
-
-// The words are copied to a place of the same length.
-fn copy(words: &[u32], into: &mut [u32])
-    requires { length words.now ≡ length into.old }
-    ensures { into.new ≡ words.now }
-{
-    for i in 0..words.len() {
-        into[i] = words[i];
-    }
+    area.fill(0);
 }
 
 // The words of a slot become the count, the edges, and zeros behind them.
@@ -28,11 +16,10 @@ fn lay_out(edges: &[u32], slot: &mut [u32])
     requires { Room (length slot.old) edges.now }
     ensures { slot.new ≡ encode (length slot.old) edges.now }
 {
-    let length = slot.len();
     let rest = 1 + edges.len();
     slot[0] = edges.len() as u32;
-    copy(edges, &mut slot[1..rest]);
-    zero(&mut slot[rest..length]);
+    slot[1..rest].copy_from_slice(edges);
+    slot[rest..].fill(0);
 }
 
 // Slot i becomes zeros.
@@ -41,7 +28,7 @@ fn zero_slot(area: &mut [u32], length: usize, i: usize)
     ensures { area.new ≡ put_slot length i (zeros length) area.old }
 {
     let at = length * i;
-    zero(&mut area[at..at + length]);
+    area[at..at + length].fill(0);
 }
 
 // Slot i becomes the given words.
@@ -50,7 +37,7 @@ pub fn write_slot(area: &mut [u32], length: usize, i: usize, words: &[u32])
     ensures { area.new ≡ put_slot length i words.now area.old }
 {
     let at = length * i;
-    copy(words, &mut area[at..at + length]);
+    area[at..at + length].copy_from_slice(words);
 }
 
 // Slot i becomes the count, the edges, and zeros behind them. The count is a word, so there are fewer than 2^32 edges.
@@ -68,7 +55,7 @@ pub fn read_slot(area: &[u32], length: usize, i: usize, into: &mut [u32])
     ensures { into.new ≡ slot_at length i area.now }
 {
     let at = length * i;
-    copy(&area[at..at + length], into);
+    into.copy_from_slice(&area[at..at + length]);
 }
 
 // Slot `to` becomes what slot `from` holds. Two slots are the same or lie apart, so no word is overwritten before it is read.
@@ -77,10 +64,7 @@ pub fn copy_slot(area: &mut [u32], length: usize, from: usize, to: usize)
     ensures { area.new ≡ put_slot length to (slot_at length from area.old) area.old }
 {
     let source = length * from;
-    let target = length * to;
-    for k in 0..length {
-        area[target + k] = area[source + k];
-    }
+    area.copy_within(source..source + length, length * to);
 }
 
 // Slots i and j change places, word by word, so that no other area is needed.
@@ -90,10 +74,9 @@ fn swap_slots(area: &mut [u32], length: usize, i: usize, j: usize)
 {
     let left = length * i;
     let right = length * j;
+    // Kept: a loop by number. `swap_with_slice` asks for two slices: the area would be split, by which slot comes first, and i = j set apart, which is no plainer.
     for k in 0..length {
-        let word = area[left + k];
-        area[left + k] = area[right + k];
-        area[right + k] = word;
+        area.swap(left + k, right + k);
     }
 }
 
@@ -103,13 +86,8 @@ pub fn reverse_slots(area: &mut [u32], length: usize, lo: usize, n: usize)
     requires { (0 < length) × SlotsIn length (lo + n) area.old }
     ensures { area.new ≡ reverse_slots length lo n area.old }
 {
-    let mut at = lo;
-    let mut left = n;
-    while 2 <= left {
-        let between = left - 2;
-        swap_slots(area, length, at, at + 1 + between);
-        at += 1;
-        left = between;
+    for k in 0..n / 2 {
+        swap_slots(area, length, lo + k, lo + (n - 1 - k));
     }
 }
 
@@ -129,9 +107,7 @@ pub fn widen_slots(area: &mut [u32], short: usize, length: usize, n: usize, slot
     requires { SlotsIn length n area.old × IsSlot length slot.old × (short ≤ length) × (slot.old ≡ zeros length) }
     ensures { slots_of length n area.new ≡ map (padded length) (slots_of short n area.old) }
 {
-    let mut i = n;
-    while 0 < i {
-        i -= 1;
+    for i in (0..n).rev() {
         widen_slot(area, short, length, i, slot);
     }
 }

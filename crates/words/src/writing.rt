@@ -1,9 +1,8 @@
-// Numbers written into a slice of bytes, big-endian, and bytes cleared.
+// Numbers written into a slice of bytes, big-endian.
 // Document 02, order 3: an image is written into bytes that the caller lends.
 ghost use Rattle.std.specs.Prelude.{◌≡◌, ◌+◌, ◌<◌, ◌≤◌, length};
 ghost use Rattle.semantics.specs.Bytes.Placed.{put};
 ghost use Rattle.semantics.specs.Bytes.Written.{be};
-ghost use Rattle.semantics.specs.Words.{zeros};
 
 // How many numbers a byte can hold, and two bytes.
 const BYTE: u32 = 256;
@@ -33,13 +32,4 @@ pub fn put_long(area: &mut [u8], at: usize, number: u32)
 {
     put_short(area, at, number / SHORT);
     put_short(area, at + 2, number);
-}
-
-// Every byte becomes 0.
-pub fn zero(area: &mut [u8])
-    ensures { area.new ≡ zeros (length area.old) }
-{
-    for i in 0..area.len() {
-        area[i] = 0;
-    }
 }

@@ -1,8 +1,8 @@
-use Rattle.std.proofs.Common.{◌-◌, ◌≤◌, length}
+use Rattle.std.proofs.Common.{◌≤◌, length}
 use Rattle.cases.proofs.replay.Given as goal
 
-abbrev pub invariant-loop-at : goal.invariant-loop-at
-invariant-loop-at g l = (l.at ≤ length l.list) × (l.lent.bytes ≤ length l.image) × (l.lent.words ≤ length l.words)
+abbrev pub invariant-loop-tag : goal.invariant-loop-tag
+invariant-loop-tag g l = (l.lent.bytes ≤ length l.image) × (l.lent.words ≤ length l.words)
 
-abbrev pub decreases-loop-at : goal.decreases-loop-at
-decreases-loop-at g l = length l.list - l.at
+abbrev pub decreases-loop-tag : goal.decreases-loop-tag
+decreases-loop-tag g l = length l.rest

@@ -3,14 +3,13 @@
 use Prim.Native.Nat.{ℕ, zero, suc, ◌+◌, ◌-◌, ◌*◌, ◌≤◌, ◌<◌}
 use Rattle.std.proofs.Common.{add-zero, mul-zero, le_trans, add-one, arith, sym, ◌∙◌, subst, length-append, length-drop, take-append-drop, take-add, drop-drop, take_all, drop-cons}
 use Rattle.std.proofs.Math.Nat.{mul-le-mul_left}
-use Rattle.std.specs.Prelude.{◌≡◌, Bool, true, false, length, get_or, take}
+use Rattle.std.specs.Prelude.{◌≡◌, Bool, true, false, length, get_or, take, Err, Ok}
 use Rattle.std.proofs.Math.Path.{refl, ap, ap₂}
 use mathlib.Core.List.{List, [], ◌∷◌, ◌++◌, flatten, append-nil, append_assoc}
 use borrow.Rule.Slice.PartMut.{mid_of, put_mid, Post-is, mid_len}
 use borrow.Author.Tests.{lt-ltb, le-ltb}
 use Rattle.std.proofs.Math.ListN.{set, drop}
 use Rattle.std.proofs.Math.Seq.{drop-length, append_snoc, set-append_seam}
-use Rattle.semantics.specs.declared.answer.Compaction.{Compaction}
 use Rattle.semantics.specs.Limits.{Bounds, record_words}
 use Rattle.semantics.specs.Lists.{pick, cons_if}
 use Rattle.semantics.specs.Words.{zeros, slots_of}
@@ -26,6 +25,8 @@ use Rattle.database.specs.Records.Laws.{put_same, record-owner}
 use Rattle.database.specs.Filing.{with_records}
 use Rattle.database.specs.Filing.Laws.{Packed, slots-more, length-with, with-front, later-record, put_next, zeroed-behind}
 use Rattle.compaction.specs.Moves.{first_records, noted, Keeps, Closed, freed}
+use Rattle.semantics.specs.PublicAnswers.{Compaction}
+use Rattle.semantics.specs.declared.answer.CompactionRefusal.{CompactionRefusal}
 
 -- ---- a record is live or dead
 
@@ -338,17 +339,17 @@ Outcome bd known ws len r ws' l' =
     (told_compaction r ≡ told_compaction (compact_call bd known ws len).answer) × (ws' ≡ (compact_call bd known ws len).database) × (l' ≡ (compact_call bd known ws len).list)
 
 module _ (bd : Bounds) (known : ℕ → ℕ → Bool) (ws : List ℕ) (len : ℕ) where
-  pub outcome-malformed : (l : List ℕ) → well_formed bd known ws ≡ false → l ≡ zeros len → Outcome bd known ws len Compaction.Malformed ws l
+  pub outcome-malformed : (l : List ℕ) → well_formed bd known ws ≡ false → l ≡ zeros len → Outcome bd known ws len (Err CompactionRefusal.Malformed) ws l
   unfolding compact_call
   outcome-malformed l f z = rw f (refl, refl, z)
 
-  pub outcome-short : (l : List ℕ) → well_formed bd known ws ≡ true → len < 2 * live_count bd ws → l ≡ zeros len → Outcome bd known ws len Compaction.ListTooShort ws l
+  pub outcome-short : (l : List ℕ) → well_formed bd known ws ≡ true → len < 2 * live_count bd ws → l ≡ zeros len → Outcome bd known ws len (Err CompactionRefusal.ListTooShort) ws l
   unfolding compact_call
   outcome-short l f h z = rw (f, lt-ltb len (2 * live_count bd ws) h) (refl, refl, z)
 
   pub outcome-done : (n : ℕ) (l₀ l ws' : List ℕ) → well_formed bd known ws ≡ true → 2 * live_count bd ws ≤ len → n ≡ live_count bd ws → ws' ≡ compact_words bd ws → l₀ ≡ zeros len
-      → l ≡ renumbered 0 0 (records bd ws) ++ drop (2 * live_count bd ws) l₀ → Outcome bd known ws len (Compaction.Done n) ws' l
+      → l ≡ renumbered 0 0 (records bd ws) ++ drop (2 * live_count bd ws) l₀ → Outcome bd known ws len (Ok n) ws' l
   unfolding compact_call
   outcome-done n l₀ l ws' f h e w z y =
       rw (f, le-ltb len (2 * live_count bd ws) h)
-      (ap (λ (m : ℕ). told_compaction (Compaction.Done m)) e, w, y ∙ ap (λ (q : List ℕ). renumbered 0 0 (records bd ws) ++ q) (ap (drop (2 * live_count bd ws)) z ∙ drop-zeros (2 * live_count bd ws) len))
+      (ap (λ (m : ℕ). told_compaction (Ok m)) e, w, y ∙ ap (λ (q : List ℕ). renumbered 0 0 (records bd ws) ++ q) (ap (drop (2 * live_count bd ws)) z ∙ drop-zeros (2 * live_count bd ws) len))

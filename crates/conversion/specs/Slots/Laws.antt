@@ -1,6 +1,6 @@
 -- Slot by slot, the new area becomes what the definition says. For every two bounds and every choice of owners.
 -- Serves document 02, order 6.
-use Rattle.std.specs.Prelude.{ℕ, zero, suc, ◌+◌, ◌-◌, ◌*◌, ◌≤◌, ◌<◌, ◌≡◌, refl, Bool, true, false, ltb, length, get_or, take, drop}
+use Rattle.std.specs.Prelude.{ℕ, zero, suc, ◌+◌, ◌-◌, ◌*◌, ◌≤◌, ◌<◌, ◌≡◌, refl, Bool, true, false, ltb, length, get_or, take, drop, Err, Ok}
 use Rattle.std.proofs.Common.{not-suc-le-zero, le_of_suc-le-suc, mul-suc, add-one, arith, ◌∙◌, ap₂, le-leb, leb-true, length-append, take-append-drop, drop_of_length-le, length-take-le, take_all, take-suc, drop_at}
 use Rattle.std.proofs.Math.Nat.{mul-zero}
 use Rattle.std.proofs.Math.Path.{sym, ap}
@@ -9,7 +9,6 @@ use Rattle.std.proofs.lemmas.Bool.{lt-leb}
 use Rattle.std.proofs.Math.Dec.{leb}
 use Rattle.std.proofs.lemmas.List.{length-replicate, length-map}
 use Rattle.std.proofs.Math.Seq.{drop-cons}
-use Rattle.semantics.specs.declared.answer.Conversion.{Conversion}
 use Rattle.semantics.specs.Limits.{Bounds, record_words}
 use Rattle.semantics.specs.Lists.{and, pick}
 use Rattle.semantics.specs.Lists.Laws.{and-true}
@@ -24,6 +23,8 @@ use Rattle.database.specs.Checks.Laws.{formed-whole, formed-live, formed-slot, c
 use Rattle.database.specs.Filing.{with_records, headed}
 use Rattle.database.specs.Filing.Laws.{Packed, packed_none, put_next, length-with}
 use Rattle.conversion.specs.Slots.{has_room_for}
+use Rattle.semantics.specs.PublicAnswers.{Conversion}
+use Rattle.semantics.specs.declared.answer.ConversionRefusal.{ConversionRefusal}
 
 -- ---- one slot of the old area
 
@@ -189,18 +190,18 @@ Outcome old new known ws len r x =
     (told_conversion r ≡ told_conversion (convert_call old new known ws len).answer) × (x ≡ (convert_call old new known ws len).written)
 
 module _ (old new : Bounds) (known : ℕ → ℕ → Bool) (ws : List ℕ) (len : ℕ) (x : List ℕ) where
-  pub outcome-malformed : well_formed old known ws ≡ false → x ≡ zeros len → Outcome old new known ws len Conversion.Malformed x
+  pub outcome-malformed : well_formed old known ws ≡ false → x ≡ zeros len → Outcome old new known ws len (Err ConversionRefusal.Malformed) x
   unfolding convert_call
   outcome-malformed f z = rw f (refl, z)
 
-  pub outcome-full : well_formed old known ws ≡ true → has_room_for new (used_in ws) len ≡ false → x ≡ zeros len → Outcome old new known ws len Conversion.Full x
+  pub outcome-full : well_formed old known ws ≡ true → has_room_for new (used_in ws) len ≡ false → x ≡ zeros len → Outcome old new known ws len (Err ConversionRefusal.Full) x
   unfolding convert_call
   outcome-full f h z = rw (f, h) (refl, z)
 
-  pub outcome-long : well_formed old known ws ≡ true → has_room_for new (used_in ws) len ≡ true → all_fit new (slots_in old ws) ≡ false → x ≡ zeros len → Outcome old new known ws len Conversion.TooLong x
+  pub outcome-long : well_formed old known ws ≡ true → has_room_for new (used_in ws) len ≡ true → all_fit new (slots_in old ws) ≡ false → x ≡ zeros len → Outcome old new known ws len (Err ConversionRefusal.TooLong) x
   unfolding convert_call
   outcome-long f h a z = rw (f, h, a) (refl, z)
 
-  pub outcome-done : well_formed old known ws ≡ true → has_room_for new (used_in ws) len ≡ true → all_fit new (slots_in old ws) ≡ true → x ≡ convert_words old new ws len → Outcome old new known ws len Conversion.Done x
+  pub outcome-done : well_formed old known ws ≡ true → has_room_for new (used_in ws) len ≡ true → all_fit new (slots_in old ws) ≡ true → x ≡ convert_words old new ws len → Outcome old new known ws len (Ok tt) x
   unfolding convert_call
   outcome-done f h a z = rw (f, h, a) (refl, z)

@@ -1,6 +1,6 @@
 -- 35 and 34, outcome by outcome, and what holds of words that meet neither. For every bound on edges and every choice of owners.
 -- Serves document 01, "Turned back": 35 and 34.
-use Rattle.std.specs.Prelude.{ℕ, zero, suc, ◌+◌, ◌-◌, ◌≤◌, ◌<◌, ◌≡◌, Bool, leb, get_or, drop}
+use Rattle.std.specs.Prelude.{ℕ, zero, suc, ◌+◌, ◌-◌, ◌≤◌, ◌<◌, ◌≡◌, Bool, leb, get_or, drop, Result, Ok, Err}
 use Rattle.std.proofs.Common.{not-suc-le-zero, le_of_suc-le-suc, mul-le-mul_left, le_trans, add-one, sym, ◌∙◌, subst, drop_of_length-le}
 use Rattle.std.proofs.Math.Nat.{zero-div}
 use native.Mathlib.Omega.{arith}
@@ -22,7 +22,6 @@ use Rattle.semantics.specs.PartialPaths.{Slot, dead, slot}
 use Rattle.semantics.specs.Words.{whole_slots}
 use Rattle.semantics.specs.Words.Laws.{length-slots, whole-fits}
 use Rattle.semantics.specs.Database.{used_in, nodes_in, files_in, capacity, records, slots_in, sound, every, well_formed, check_database, record_place}
-use Rattle.database.specs.declared.check.Inspected.{Inspected}
 use Rattle.database.specs.Records.{Whole, record_at, owner_word, start_word, end_word, count_word, edge_words}
 use Rattle.database.specs.Records.Laws.{record-owner, record-start, record-count, record_is, slot-live}
 use Rattle.database.specs.Checks.{Live, inspected}
@@ -186,36 +185,36 @@ module _ (bd : Bounds) (known : ℕ → ℕ → Bool) (ws : List ℕ) where
 -- ---- the answer of the check: 35, then 34
 
 module _ (bd : Bounds) (known : ℕ → ℕ → Bool) (g : Graph) (ws : List ℕ) where
-  pub check-malformed : well_formed bd known ws ≡ false → Inspected.Refused Malformed ≡ inspected (check_database bd known g ws)
+  pub check-malformed : well_formed bd known ws ≡ false → Err Malformed ≡ inspected (check_database bd known g ws)
   unfolding inspected check_database ok_if
   check-malformed h = rw h
 
-  pub check-nodes : well_formed bd known ws ≡ true → length g.nodes < nodes_in ws → Inspected.Refused Outgrown ≡ inspected (check_database bd known g ws)
+  pub check-nodes : well_formed bd known ws ≡ true → length g.nodes < nodes_in ws → Err Outgrown ≡ inspected (check_database bd known g ws)
   unfolding inspected check_database ok_if
   check-nodes h n = rw (h, lt-leb (nodes_in ws) (length g.nodes) n)
 
-  pub check-files : well_formed bd known ws ≡ true → nodes_in ws ≤ length g.nodes → g.files < files_in ws → Inspected.Refused Outgrown ≡ inspected (check_database bd known g ws)
+  pub check-files : well_formed bd known ws ≡ true → nodes_in ws ≤ length g.nodes → g.files < files_in ws → Err Outgrown ≡ inspected (check_database bd known g ws)
   unfolding inspected check_database ok_if
   check-files h n f = rw (h, le-leb (nodes_in ws) (length g.nodes) n, lt-leb (files_in ws) g.files f)
 
-  pub check_sound : well_formed bd known ws ≡ true → nodes_in ws ≤ length g.nodes → files_in ws ≤ g.files → Inspected.Sound ≡ inspected (check_database bd known g ws)
+  pub check_sound : well_formed bd known ws ≡ true → nodes_in ws ≤ length g.nodes → files_in ws ≤ g.files → Ok tt ≡ inspected (check_database bd known g ws)
   unfolding inspected check_database ok_if
   check_sound h n f = rw (h, le-leb (nodes_in ws) (length g.nodes) n, le-leb (files_in ws) g.files f)
 
 -- ---- what the answer tells a caller
 
-refused-alike : (r x : DatabaseRefusal) → Inspected.Refused r ≡ Inspected.Refused x → x ≡ r
+refused-alike : (r x : DatabaseRefusal) → ◌≡◌ {A = Result (Unit {0}) DatabaseRefusal} (Err r) (Err x) → x ≡ r
 refused-alike r x e = cc
 
-never-sound : (r : DatabaseRefusal) → Inspected.Refused r ≡ Inspected.Sound → ⊥
+never-sound : (r : DatabaseRefusal) → ◌≡◌ {A = Result (Unit {0}) DatabaseRefusal} (Err r) (Ok tt) → ⊥
 never-sound r e = let z : ◌≡◌ {A = ℕ} 0 1 = cc in omega arith
 
-told-refused : (r : DatabaseRefusal) (a : Answer DatabaseRefusal (List Slot)) → Inspected.Refused r ≡ inspected a → a ≡ refuse r
+told-refused : (r : DatabaseRefusal) (a : Answer DatabaseRefusal (List Slot)) → Err r ≡ inspected a → a ≡ refuse r
 unfolding inspected
 told-refused r (ok db) e = absurd (never-sound r e)
 told-refused r (refuse x) e = ap refuse (refused-alike r x e)
 
-told-sound : (ws : List ℕ) (db : List Slot) (formed fitting : Bool) → Inspected.Sound ≡ inspected (and_then (ok_if formed Malformed ws) (λ x. ok_if fitting Outgrown db)) → (formed ≡ true) × (fitting ≡ true)
+told-sound : (ws : List ℕ) (db : List Slot) (formed fitting : Bool) → Ok tt ≡ inspected (and_then (ok_if formed Malformed ws) (λ x. ok_if fitting Outgrown db)) → (formed ≡ true) × (fitting ≡ true)
 unfolding inspected ok_if
 told-sound ws db true true e = (refl, refl)
 told-sound ws db true false e = absurd (never-sound Outgrown (sym e))
@@ -223,11 +222,11 @@ told-sound ws db false fitting e = absurd (never-sound Malformed (sym e))
 
 module _ (bd : Bounds) (known : ℕ → ℕ → Bool) (g : Graph) (ws : List ℕ) where
   -- the refusal
-  pub inspected-refused : (r : DatabaseRefusal) → Inspected.Refused r ≡ inspected (check_database bd known g ws) → check_database bd known g ws ≡ refuse r
+  pub inspected-refused : (r : DatabaseRefusal) → Err r ≡ inspected (check_database bd known g ws) → check_database bd known g ws ≡ refuse r
   inspected-refused r e = told-refused r (check_database bd known g ws) e
 
   -- that the words do not meet 35, and the slots
-  pub inspected-sound : Inspected.Sound ≡ inspected (check_database bd known g ws) → (well_formed bd known ws ≡ true) × (check_database bd known g ws ≡ ok (slots_in bd ws))
+  pub inspected-sound : Ok tt ≡ inspected (check_database bd known g ws) → (well_formed bd known ws ≡ true) × (check_database bd known g ws ≡ ok (slots_in bd ws))
   unfolding check_database ok_if
   inspected-sound e =
       let t = told-sound ws (slots_in bd ws) (well_formed bd known ws) (and (leb (nodes_in ws) (length g.nodes)) (leb (files_in ws) g.files)) e in

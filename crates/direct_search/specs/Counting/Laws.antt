@@ -1,18 +1,16 @@
 -- The numbers at the start of a search, behind each round and at its end.
 -- Serves document 02, order 9.
-use Rattle.std.specs.Prelude.{ℕ, zero, suc, ◌+◌, ◌-◌, ◌<◌, ◌≤◌, ◌^◌, ◌≡◌, false, get_or, set, replicate}
+use Rattle.std.specs.Prelude.{ℕ, zero, suc, ◌+◌, ◌-◌, ◌<◌, ◌≤◌, ◌^◌, ◌≡◌, false, get_or, set, replicate, Ok, Err, None}
 use Rattle.std.proofs.Common.{arith, ◌∙◌, ⊎_elim}
 use Rattle.std.proofs.Math.Path.{refl, sym, ap, subst}
 use mathlib.Core.List.{List, [], ◌∷◌, ◌++◌, Memᴰ}
 use Rattle.std.proofs.Math.ListN.{length, length-append, length-replicate}
-use Rattle.semantics.specs.declared.search.Limit.{Limit}
-use Rattle.semantics.specs.declared.search.Limit.TheVariants.{Absent}
 use Rattle.semantics.specs.declared.search.SearchOrder.TheVariants.{DepthFirst}
 use Rattle.semantics.specs.declared.search.SearchStats.{SearchStats}
 use Rattle.semantics.specs.declared.refusal.PathRefusal.{PathRefusal}
 use Rattle.semantics.specs.declared.refusal.SearchRefusal.{SearchRefusal}
 use Rattle.semantics.specs.declared.refusal.SearchRefusal.TheVariants as Search
-use Rattle.semantics.specs.Limits.{base, slot_length, max_expansions, looked_before}
+use Rattle.semantics.specs.Limits.{base, slot_length, max_expansions, looked_before, Limit}
 use Rattle.semantics.specs.Answer.{Answer, ok, refuse, and_then, wrap}
 use Rattle.semantics.specs.Graph.{Graph, view_of}
 use Rattle.semantics.specs.Path.{Path, from_reference}
@@ -31,17 +29,17 @@ use Rattle.semantics.specs.Tally.{of_length, lengths_from, lengths}
 use Rattle.semantics.specs.Tally.Laws.{lengths-more}
 use Rattle.semantics.specs.Entries.{request_of}
 use Rattle.search_state.specs.declared.search.Search as S
-use Rattle.search_state.specs.declared.search.Going.{Going}
+use Rattle.search_state.specs.Searches.{Going}
 use Rattle.search_state.specs.declared.search.Finished.{Finished}
-use Rattle.search_state.specs.declared.search.Taken.{Taken}
+use Rattle.search_state.specs.declared.search.Round.TheVariants as Round
+use Rattle.search_state.specs.Searches.{Taken}
 use Rattle.search_state.specs.declared.progress.Frame.{Frame}
 use Rattle.search_state.specs.Searches.{Clears, Taking}
 use Rattle.search_state.specs.Progresses.{frame_of}
 use Rattle.search_state.specs.Reps.{setting_of, Rep}
 use Rattle.search_state.specs.Reps.Rounds.{Opened, round-over}
 use Rattle.search_state.specs.Runs.{run-over, run-round}
-use Rattle.search_rounds.specs.declared.conclusion.SearchEnd.{SearchEnd}
-use Rattle.search_rounds.specs.declared.conclusion.SearchEnd.TheVariants.{Over, Refused}
+use Rattle.search_rounds.specs.Drives.{SearchEnd}
 use Rattle.search_rounds.specs.Drives.{Driving, run_of, DrivenTo}
 use Rattle.search_rounds.specs.Drives as D
 use Rattle.search_rounds.specs.Drives.Laws.{Turning, turn-start, start-state, turn_many, turn-given, turn-size, turn-refused, turn-counts, turn-again, again-state, opened, going}
@@ -99,8 +97,8 @@ unfolding padded
 padded-keeps p t = record { alike = refl; unflagged = refl; counted = sym (length-replicate t.stats.complete p) }
 
 module _ {index steps₀ item₀ : List ℕ} {s : S.Search} {ws₀ rs₀ : List ℕ} (v : Driving index steps₀ item₀ s ws₀ rs₀) where
-  module _ {on : S.Search} {steps item ws rs : List ℕ} {n : ℕ} (long : length steps ≡ length steps₀) (t : Turning edge_tries v (tries-few v.loaded) on steps item ws rs n) {a : Taken} {item' ws' : List ℕ} (y : Taking on ws a item' ws') (next : S.Search) (e : a ≡ Taken.Expand next)
-      {b : Going} {steps' ws'' rs' : List ℕ} (r : D.Rounded edge_tries looked_before index steps item' n next ws' rs (turn-given edge_tries v (tries-few v.loaded) long t y next e) b steps' ws'' rs') (m : S.Search) (c : b ≡ Going.On m) where
+  module _ {on : S.Search} {steps item ws rs : List ℕ} {n : ℕ} (long : length steps ≡ length steps₀) (t : Turning edge_tries v (tries-few v.loaded) on steps item ws rs n) {a : Taken} {item' ws' : List ℕ} (y : Taking on ws a item' ws') (next : S.Search) (e : a ≡ Ok (Round.Expand next))
+      {b : Going} {steps' ws'' rs' : List ℕ} (r : D.Rounded edge_tries looked_before index steps item' n next ws' rs (turn-given edge_tries v (tries-few v.loaded) long t y next e) b steps' ws'' rs') (m : S.Search) (c : b ≡ Ok m) where
     -- as many as before, and more behind the round
     round-more : (k : ℕ) × (next.state.budget.complete ≡ on.state.budget.complete) × (m.state.budget.complete ≡ on.state.budget.complete + k)
     unfolding padded
@@ -160,32 +158,32 @@ module _ {index steps₀ item₀ : List ℕ} {s : S.Search} {ws₀ rs₀ ns₀ :
   stand-start = record { turning = turn-start edge_tries v few; state = x.state; keeps = subst (λ (m : State Path). Keeping x.state m) (sym (start-state edge_tries v few)) x.keeps; numbers = x.numbers; same = refl }
 
   -- a refusal of the search is one of the tally
-  refused-alike : (y : SearchRefusal) (rs ns : List ℕ) → DrivenTo edge_tries index steps₀ item₀ s ws₀ rs₀ v (Refused y) rs → Tallies (Refused y) ns (run_on x)
+  refused-alike : (y : SearchRefusal) (rs ns : List ℕ) → DrivenTo edge_tries index steps₀ item₀ s ws₀ rs₀ v (Err y) rs → Tallies (Err y) ns (run_on x)
   refused-alike y rs ns h = on (run_of edge_tries index steps₀ item₀ s ws₀ rs₀ v) refl h
     where
-      on : (a : Answer SearchRefusal (State Path)) → run_of edge_tries index steps₀ item₀ s ws₀ rs₀ x.driving ≡ a → D.Ends (Refused y) rs a → Tallies (Refused y) ns (run_on x)
+      on : (a : Answer SearchRefusal (State Path)) → run_of edge_tries index steps₀ item₀ s ws₀ rs₀ x.driving ≡ a → D.Ends (Err y) rs a → Tallies (Err y) ns (run_on x)
       on (ok u) e k = absurd k
       on (refuse z) e k =
-          subst (λ (a : Answer SearchRefusal (State Path)). Tallies (Refused y) ns a)
+          subst (λ (a : Answer SearchRefusal (State Path)). Tallies (Err y) ns a)
           (sym (rest-refused (setting_of (frame_of s)) x.state x.driving.model x.keeps x.none (edge_tries (frame_of s).limits.length (view_of x.driving.graph)) (max_expansions - s.state.budget.expanded) z e)) k
 
   module _ {on : S.Search} {steps item ws rs : List ℕ} {n : ℕ} {ns : List ℕ} (long : length steps ≡ length steps₀) (t : Standing on steps item ws rs n ns) {a : Taken} {item' ws' : List ℕ} (y : Taking on ws a item' ws') where
-    pub stand-over : (f : Finished) → a ≡ Taken.Over f → Tallies (Over f) ns (run_on x)
+    pub stand-over : (f : Finished) → a ≡ Ok (Round.Over f) → Tallies (Ok f) ns (run_on x)
     stand-over f e =
         let o = round-over (view_of v.graph) v.reference on ws rs t.turning.state t.turning.stood a item' ws' f y e in
         let k = over-kept (setting_of (frame_of on)) t.state t.turning.state t.keeps o.model o.round in
         let w = run-over (keeping (setting_of (frame_of on))) (edge_tries (frame_of on).limits.length (view_of v.graph)) (max_expansions - on.state.budget.expanded) (merge on.frontier.order t.state) k.0 k.1 in
-        subst (λ (z : Answer SearchRefusal (State Path)). Tallies (Over f) ns z) (sym (sym t.same ∙ w)) (t.numbers ∙ ap (λ (ps : List Path). lengths base (edge_lists ps)) (sym k.2))
+        subst (λ (z : Answer SearchRefusal (State Path)). Tallies (Ok f) ns z) (sym (sym t.same ∙ w)) (t.numbers ∙ ap (λ (ps : List Path). lengths base (edge_lists ps)) (sym k.2))
 
-    pub stand-many : a ≡ Taken.TooMany → Tallies (Refused Search.TooManyExpansions) ns (run_on x)
-    stand-many e = refused-alike Search.TooManyExpansions rs ns (turn_many edge_tries v few long t.turning y e)
+    pub stand-many : (z : SearchRefusal) → a ≡ Err z → Tallies (Err z) ns (run_on x)
+    stand-many z e = refused-alike z rs ns (turn_many edge_tries v few long t.turning y z e)
 
-    module _ (next : S.Search) (e : a ≡ Taken.Expand next) where
+    module _ (next : S.Search) (e : a ≡ Ok (Round.Expand next)) where
       module _ {b : Going} {steps' ws'' rs' : List ℕ} (r : D.Rounded edge_tries looked_before index steps item' n next ws' rs (turn-given edge_tries v few long t.turning y next e) b steps' ws'' rs') where
-        pub stand-refused : (z : SearchRefusal) → b ≡ Going.Refused z → Tallies (Refused z) ns (run_on x)
+        pub stand-refused : (z : SearchRefusal) → b ≡ Err z → Tallies (Err z) ns (run_on x)
         stand-refused z c = refused-alike z rs' ns (turn-refused edge_tries v few long t.turning y next e r z c)
 
-        module _ (m : S.Search) (c : b ≡ Going.On m) where
+        module _ (m : S.Search) (c : b ≡ Ok m) where
           abbrev o : Opened (view_of x.driving.graph) x.driving.reference on ws rs t.turning.state t.turning.stood item' ws' next
           o = opened edge_tries v few long t.turning y next e
 
@@ -265,26 +263,26 @@ module _ {index steps item : List ℕ} {g : Graph} {ws rs : List ℕ} {n : ℕ} 
       ap (λ (z : Graph). kept_from (view_of z) (frame_of t) (max_expansions - t.state.budget.expanded) v.model) b.graph
       ∙ ap (λ (f : Frame). kept_from (view_of g) f (max_expansions - t.state.budget.expanded) v.model) b.frame
       ∙ ap (λ (i : ℕ). kept_from (view_of g) (frame_of (first_of DepthFirst none_kept ws rs)) i v.model) k in
-      let c = start-run (keeping (setting_of (frame_of (first_of DepthFirst none_kept ws rs)))) (edge_tries Absent (view_of g)) (view_of g) n v.first v.model b.starts b.pushed in
+      let c = start-run (keeping (setting_of (frame_of (first_of DepthFirst none_kept ws rs)))) (edge_tries None (view_of g)) (view_of g) n v.first v.model b.starts b.pushed in
       subst (λ (z : Answer SearchRefusal (State Path)). Tallies r ns z) (a ∙ sym c) h
 
 -- 10, 11 and 31 are met alike at the start
-pub start-refused : (g : Graph) (ws rs : List ℕ) (n : ℕ) (z : SearchRefusal) (rs' ns : List ℕ) → D.Ends (Refused z) rs' (answer_to edge_tries g DepthFirst none_kept ws rs n) → Tallies (Refused z) ns (tallied_on g ws n)
+pub start-refused : (g : Graph) (ws rs : List ℕ) (n : ℕ) (z : SearchRefusal) (rs' ns : List ℕ) → D.Ends (Err z) rs' (answer_to edge_tries g DepthFirst none_kept ws rs n) → Tallies (Err z) ns (tallied_on g ws n)
 unfolding direct
 start-refused g ws rs n z rs' ns h = on (from_reference (view_of g) n) h
   where
-    on : (a : Answer PathRefusal Path) → D.Ends (Refused z) rs' (and_then (wrap Search.Path a) (λ p. enumerate (Calls.setting_of base (request_of DepthFirst none_kept ws rs n)) (edge_tries Absent (view_of g)) max_expansions (p ∷ [])))
-        → Tallies (Refused z) ns (and_then (wrap Search.Path a) (λ p. enumerate (keeping (Calls.setting_of base (request_of DepthFirst none_kept ws rs n))) (edge_tries Absent (view_of g)) max_expansions (p ∷ [])))
+    on : (a : Answer PathRefusal Path) → D.Ends (Err z) rs' (and_then (wrap Search.Path a) (λ p. enumerate (Calls.setting_of base (request_of DepthFirst none_kept ws rs n)) (edge_tries None (view_of g)) max_expansions (p ∷ [])))
+        → Tallies (Err z) ns (and_then (wrap Search.Path a) (λ p. enumerate (keeping (Calls.setting_of base (request_of DepthFirst none_kept ws rs n))) (edge_tries None (view_of g)) max_expansions (p ∷ [])))
     on (refuse y) k = k
-    on (ok p) k = by (enumerate (Calls.setting_of base (request_of DepthFirst none_kept ws rs n)) (edge_tries Absent (view_of g)) max_expansions (p ∷ [])) refl k
+    on (ok p) k = by (enumerate (Calls.setting_of base (request_of DepthFirst none_kept ws rs n)) (edge_tries None (view_of g)) max_expansions (p ∷ [])) refl k
       where
-        by : (a : Answer SearchRefusal (State Path)) → enumerate (Calls.setting_of base (request_of DepthFirst none_kept ws rs n)) (edge_tries Absent (view_of g)) max_expansions (p ∷ []) ≡ a → D.Ends (Refused z) rs' a
-            → Tallies (Refused z) ns (enumerate (keeping (Calls.setting_of base (request_of DepthFirst none_kept ws rs n))) (edge_tries Absent (view_of g)) max_expansions (p ∷ []))
+        by : (a : Answer SearchRefusal (State Path)) → enumerate (Calls.setting_of base (request_of DepthFirst none_kept ws rs n)) (edge_tries None (view_of g)) max_expansions (p ∷ []) ≡ a → D.Ends (Err z) rs' a
+            → Tallies (Err z) ns (enumerate (keeping (Calls.setting_of base (request_of DepthFirst none_kept ws rs n))) (edge_tries None (view_of g)) max_expansions (p ∷ []))
         by (ok u) e k = absurd k
         by (refuse y) e k =
             let c = Calls.setting_of base (request_of DepthFirst none_kept ws rs n) in
-            let t = edge_tries Absent (view_of g) in
+            let t = edge_tries None (view_of g) in
             let b = counted c t max_expansions (p ∷ []) in
-            ⊎_elim (λ q. subst (λ (a : Answer SearchRefusal (State Path)). Tallies (Refused z) ns a) (sym q) k) (λ (f : Full c y). absurd (none_never c refl y f))
+            ⊎_elim (λ q. subst (λ (a : Answer SearchRefusal (State Path)). Tallies (Err z) ns a) (sym q) k) (λ (f : Full c y). absurd (none_never c refl y f))
             (refuse-beside c (keeping c) (unlimited-never (keeping c) refl) y (enumerate (keeping c) t max_expansions (p ∷ [])) b
             (subst (λ (a : Answer SearchRefusal (State Path)). Beside c a b) e (enumerate-beside c t max_expansions (p ∷ []))) (enumerate-beside (keeping c) t max_expansions (p ∷ [])))

@@ -1,18 +1,16 @@
 -- A direct search from its request on: the kept paths replay; the image.
 -- Serves document 01, "Answer"; 1 to 5 of "Turned back".
-use Rattle.std.specs.Prelude.{ℕ, ◌≡◌, refl}
+use Rattle.std.specs.Prelude.{ℕ, ◌≡◌, refl, Err}
 use Rattle.std.proofs.Common.{sym}
 use Rattle.std.proofs.Math.Path.{subst}
 use Rattle.std.proofs.Math.Logic.{⊎_elim}
 use mathlib.Core.List.Memᴰ
 use mathlib.Core.List.{List, [], ◌∷◌, Memᴰ}
 use Rattle.semantics.specs.Entries.{Does}
-use Rattle.semantics.specs.declared.search.Limit.{Limit}
 use Rattle.semantics.specs.declared.refusal.SearchRefusal.{SearchRefusal}
 use Rattle.semantics.specs.declared.refusal.SearchRefusal.TheVariants as Search
 use Rattle.semantics.specs.declared.refusal.ImageRefusal.{ImageRefusal}
-use Rattle.semantics.specs.declared.answer.Resolution.{Resolution}
-use Rattle.semantics.specs.Limits.{base, max_expansions}
+use Rattle.semantics.specs.Limits.{base, max_expansions, Limit}
 use Rattle.semantics.proofs.Theorems.Limits.Laws.{within-zero}
 use Rattle.semantics.specs.Answer.{Answer, ok, refuse}
 use Rattle.semantics.specs.Graph.{Graph, view_of}
@@ -29,10 +27,12 @@ use Rattle.semantics.specs.Calls.{Request, setting_of, direct_call}
 use Rattle.reply.specs.declared.finish.Reply.{Reply}
 use Rattle.reply.specs.EdgeLists.Paths.{Replays}
 use Rattle.reply.specs.Replies.{reply_of}
-use Rattle.search_rounds.specs.declared.conclusion.SearchEnd.{SearchEnd}
+use Rattle.search_rounds.specs.Drives.{SearchEnd}
 use Rattle.search_rounds.specs.Drives.{Ends}
 use Rattle.search_rounds.specs.Starts.{from_start}
 use Rattle.direct_search.specs.DirectAnswers.{edge_tries, direct_of, found_of}
+use Rattle.semantics.specs.PublicAnswers.{Resolution}
+use Rattle.semantics.specs.declared.answer.ResolutionRefusal.{ResolutionRefusal}
 
 -- the definition starts with the path of the reference alone
 direct-start : (g : Graph) (q : Request) → from_start (setting_of base q) (edge_tries q.limits.length (view_of g)) (view_of g) q.node ≡ direct_of g q
@@ -67,7 +67,7 @@ module _ (g : Graph) (q : Request) (u : State Path) (h : direct_of g q ≡ ok u)
 -- ---- the image
 
 module _ (reply : Reply) (q : Request) {y : Answer ImageRefusal Graph} where
-  pub image-refused : (x : ImageRefusal) → y ≡ refuse x → {ws rs : List ℕ} → ws ≡ zeros q.work → rs ≡ zeros q.result → Does (direct_call base (reply_of reply) y q) (Resolution.Image x) ws rs
+  pub image-refused : (x : ImageRefusal) → y ≡ refuse x → {ws rs : List ℕ} → ws ≡ zeros q.work → rs ≡ zeros q.result → Does (direct_call base (reply_of reply) y q) (Err (ResolutionRefusal.Image x)) ws rs
   unfolding direct_call
   image-refused x e w r = rw e (refl, w, r)
 

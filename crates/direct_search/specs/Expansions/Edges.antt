@@ -2,7 +2,7 @@
 -- Serves document 01, "Answer": `outgoing` by ascending number.
 use Prim.Native.Nat.{ℕ, suc, ◌+◌, ◌-◌, ◌<◌, ◌≤◌}
 use Rattle.std.proofs.Common.{arith, ◌∙◌}
-use Rattle.std.specs.Prelude.{◌≡◌, refl}
+use Rattle.std.specs.Prelude.{◌≡◌, refl, Ok, Err}
 use Rattle.std.proofs.Math.Path.{sym, ap, subst}
 use mathlib.Core.List.{List, map, Memᴰ}
 use Rattle.std.proofs.Math.ListN.{length}
@@ -19,8 +19,7 @@ use Rattle.semantics.specs.Direct.{judge, tries}
 use Rattle.storage.specs.Index.{first_row, next_row, Runs}
 use Rattle.storage.specs.Index.Use.{runs-end, runs-next, left, left_less, out-bounded}
 use Rattle.search_state.specs.declared.search.Search as S
-use Rattle.search_state.specs.declared.search.Going.{Going}
-use Rattle.search_state.specs.declared.search.Going.TheVariants.{On, Refused}
+use Rattle.search_state.specs.Searches.{Going}
 use Rattle.search_state.specs.Items.{Clear, Carries}
 use Rattle.search_state.specs.Searches.{Clears}
 use Rattle.search_state.specs.declared.progress.Frame.{Frame}
@@ -93,7 +92,7 @@ module _ (most : ℕ) (index steps item₀ : List ℕ) (k : ℕ) (s : S.Search) 
       unfolding mid-given
       told = subst (λ (x : Frame). Tells (view_of v.graph) v.reference x a ws' rs' (one (setting_of x) mid.state (judge Search.TooLong base x.limits.length (view_of v.graph) v.path (link - 1)))) mid.frame t.tells
 
-      pub mid-again : (next : S.Search) → a ≡ On next → {link' : ℕ} → link' ≡ next_row index (link - 1) → Mid next item' ws' rs' link'
+      pub mid-again : (next : S.Search) → a ≡ Ok next → {link' : ℕ} → link' ≡ next_row index (link - 1) → Mid next item' ws' rs' link'
       unfolding mid-given
       mid-again next e q =
           let u = tells-on (view_of v.graph) v.reference (frame_of s) a ws' rs' (one (setting_of (frame_of s)) mid.state (judge_of (link - 1))) next told e in
@@ -114,20 +113,20 @@ module _ (most : ℕ) (index steps item₀ : List ℕ) (k : ℕ) (s : S.Search) 
             same = sym (each-one (setting_of (frame_of s)) mid.state u.0 (judge_of (link - 1)) (map judge_of r.0) u.1) ∙ ap (λ (x : List ℕ). each (setting_of (frame_of s)) mid.state (map judge_of x)) (sym r.1) ∙ mid.same;
           }
 
-      pub mid-refused : (x : SearchRefusal) → a ≡ Refused x → Expanded most index steps item₀ k s ws₀ rs₀ v a ws' rs'
+      pub mid-refused : (x : SearchRefusal) → a ≡ Err x → Expanded most index steps item₀ k s ws₀ rs₀ v a ws' rs'
       mid-refused x e =
           let u = tells-refused (view_of v.graph) v.reference (frame_of s) a ws' rs' (one (setting_of (frame_of s)) mid.state (judge_of (link - 1))) x told e in
           let r = runs-next index link mid.rest h mid.runs in
           let w : each (setting_of (frame_of s)) v.model (tries Search.TooLong base (frame_of s).limits.length (view_of v.graph) v.path) ≡ refuse x =
           sym mid.same ∙ ap (λ (y : List ℕ). each (setting_of (frame_of s)) mid.state (map judge_of y)) r.1 ∙ each-stop (setting_of (frame_of s)) mid.state x (judge_of (link - 1)) (map judge_of r.0) u in
           subst (λ (y : Going). Tells (view_of v.graph) v.reference (frame_of s) y ws' rs' (each (setting_of (frame_of s)) v.model (tries Search.TooLong base (frame_of s).limits.length (view_of v.graph) v.path))) (sym e)
-          (subst (λ (y : Answer SearchRefusal (State Path)). Tells (view_of v.graph) v.reference (frame_of s) (Refused x) ws' rs' y) (sym w) refl)
+          (subst (λ (y : Answer SearchRefusal (State Path)). Tells (view_of v.graph) v.reference (frame_of s) (Err x) ws' rs' y) (sym w) refl)
 
-    pub mid-end : link ≤ 0 → Expanded most index steps item₀ k s ws₀ rs₀ v (On on) ws rs
+    pub mid-end : link ≤ 0 → Expanded most index steps item₀ k s ws₀ rs₀ v (Ok on) ws rs
     unfolding each
     mid-end h =
         let z : link ≡ 0 = omega (arith, h) in
         let n = runs-end index mid.rest (subst (λ (x : ℕ). Runs index x mid.rest) z mid.runs) in
         let w : each (setting_of (frame_of s)) v.model (tries Search.TooLong base (frame_of s).limits.length (view_of v.graph) v.path) ≡ ok mid.state =
         sym mid.same ∙ ap (λ (y : List ℕ). each (setting_of (frame_of s)) mid.state (map judge_of y)) n in
-        subst (λ (y : Answer SearchRefusal (State Path)). Tells (view_of v.graph) v.reference (frame_of s) (On on) ws rs y) (sym w) (mid.frame, mid.stood)
+        subst (λ (y : Answer SearchRefusal (State Path)). Tells (view_of v.graph) v.reference (frame_of s) (Ok on) ws rs y) (sym w) (mid.frame, mid.stood)

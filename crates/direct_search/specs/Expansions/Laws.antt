@@ -2,7 +2,7 @@
 -- Serves document 01, "Answer".
 use Prim.Native.Nat.{ℕ, suc, ◌+◌, ◌-◌, ◌<◌, ◌≤◌, ◌^◌}
 use Rattle.std.proofs.Common.{arith, sym, ◌∙◌, ltb→lt}
-use Rattle.std.specs.Prelude.{◌≡◌, Bool, T, ltb, length, take, drop}
+use Rattle.std.specs.Prelude.{◌≡◌, Bool, T, ltb, length, take, drop, Ok, Err}
 use Rattle.std.proofs.Math.Path.{refl, ap, subst}
 use Rattle.std.proofs.Math.Bool.{false}
 use mathlib.Core.List.{List}
@@ -23,8 +23,7 @@ use Rattle.stepping.specs.Judged.{Ready, Stepped, judged_of}
 use Rattle.path.specs.Replays.Calls.{from-a-reference, few-edges}
 use Rattle.path_budget.specs.Budget.Laws.{lengthening-limits, lengthening-refused}
 use Rattle.search_state.specs.declared.search.Search as S
-use Rattle.search_state.specs.declared.search.Going.{Going}
-use Rattle.search_state.specs.declared.search.Going.TheVariants.{On, Refused}
+use Rattle.search_state.specs.Searches.{Going}
 use Rattle.search_state.specs.Items.{with_edge, Clear, Carries}
 use Rattle.search_state.specs.Items.Laws.{carries-edge}
 use Rattle.search_state.specs.Retraces.Laws.{ready_of}
@@ -123,40 +122,40 @@ module _ (most : ℕ) (index steps item : List ℕ) (k : ℕ) (s : S.Search) (ws
     -- ---- by what the trial says
 
     -- the item and the words of a slot stay as they are
-    still-clear : {w : S.Search} (st : SearchState) → w ≡ with_state st s → Clears (On w) item
+    still-clear : {w : S.Search} (st : SearchState) → w ≡ with_state st s → Clears (Ok w) item
     still-clear st q = subst (λ (x : S.Search). Clear x.frontier.length item) (sym q) v.clear
 
-    pub tried-cut : Says Cut → {w : S.Search} → w ≡ with_state (cut_one s.state) s → Tried most index steps item k s ws rs v e (On w) item ws rs
+    pub tried-cut : Says Cut → {w : S.Search} → w ≡ with_state (cut_one s.state) s → Tried most index steps item k s ws rs v e (Ok w) item ws rs
     unfolding one judged
     tried-cut j {w} q = record {
-      tells = subst (λ (x : S.Search). Tells (view_of v.graph) v.reference (frame_of s) (On x) ws rs (try_of most index steps item k s ws rs v e)) (sym q)
+      tells = subst (λ (x : S.Search). Tells (view_of v.graph) v.reference (frame_of s) (Ok x) ws rs (try_of most index steps item k s ws rs v e)) (sym q)
           (rw j (refl, cut-rep v.rep));
       carries = v.carries;
       clears = still-clear (cut_one s.state) q;
     }
 
-    pub tried-rejected : Says Rejected → {w : S.Search} → w ≡ with_state (rejected_one s.state) s → Tried most index steps item k s ws rs v e (On w) item ws rs
+    pub tried-rejected : Says Rejected → {w : S.Search} → w ≡ with_state (rejected_one s.state) s → Tried most index steps item k s ws rs v e (Ok w) item ws rs
     unfolding one judged
     tried-rejected j {w} q = record {
-      tells = subst (λ (x : S.Search). Tells (view_of v.graph) v.reference (frame_of s) (On x) ws rs (try_of most index steps item k s ws rs v e)) (sym q)
+      tells = subst (λ (x : S.Search). Tells (view_of v.graph) v.reference (frame_of s) (Ok x) ws rs (try_of most index steps item k s ws rs v e)) (sym q)
           (rw j (refl, reject-rep v.rep));
       carries = v.carries;
       clears = still-clear (rejected_one s.state) q;
     }
 
-    pub tried-overlong : Says Overlong → {w : S.Search} → w ≡ with_state (overlong_by (k + 1) s.state) s → Tried most index steps item k s ws rs v e (On w) item ws rs
+    pub tried-overlong : Says Overlong → {w : S.Search} → w ≡ with_state (overlong_by (k + 1) s.state) s → Tried most index steps item k s ws rs v e (Ok w) item ws rs
     unfolding one judged
     tried-overlong j {w} q =
         let n : suc (length v.path.edges) ≡ k + 1 = omega (arith, v.count) in
         let h : within (k + 1) s.state.budget.max_length ≡ false = ap (λ (x : ℕ). within x s.state.budget.max_length) (sym n) ∙ j.1 in
         record {
-          tells = subst (λ (x : S.Search). Tells (view_of v.graph) v.reference (frame_of s) (On x) ws rs (try_of most index steps item k s ws rs v e)) (sym q)
+          tells = subst (λ (x : S.Search). Tells (view_of v.graph) v.reference (frame_of s) (Ok x) ws rs (try_of most index steps item k s ws rs v e)) (sym q)
               (rw j.0 (λ i. record { order = s.frontier.order; limits = lengthening-limits (k + 1) s.state.budget i; waiting = s.frontier.capacity; results = s.state.results }, overlong-rep v.rep (k + 1) h));
           carries = v.carries;
           clears = still-clear (overlong_by (k + 1) s.state) q;
         }
 
-    pub tried-bound : Says TooLong → Tried most index steps item k s ws rs v e (Refused Search.TooLong) item ws rs
+    pub tried-bound : Says TooLong → Tried most index steps item k s ws rs v e (Err Search.TooLong) item ws rs
     unfolding one judged
     tried-bound j = record { tells = rw j refl; carries = v.carries; clears = tt }
 

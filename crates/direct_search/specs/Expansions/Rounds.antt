@@ -3,9 +3,8 @@
 use Rattle.std.specs.Prelude.{ℕ, ◌+◌, ◌-◌, ◌≤◌, ◌≡◌, List, length, take, drop, get_or}
 use Rattle.std.proofs.Common.{arith, sym, subst}
 use Rattle.std.proofs.lemmas.List.{length-map}
-use Rattle.semantics.specs.declared.search.Limit.{Limit}
 use Rattle.semantics.specs.declared.refusal.SearchRefusal.TheVariants as Search
-use Rattle.semantics.specs.Limits.{base, slot_length, max_edges}
+use Rattle.semantics.specs.Limits.{base, slot_length, max_edges, Limit}
 use Rattle.semantics.specs.Graph.{Graph, view_of}
 use Rattle.semantics.specs.Path.{Path}
 use Rattle.semantics.specs.Direct.{judge, tries}
@@ -13,7 +12,7 @@ use Rattle.storage.specs.Index.{EDGES, Loaded}
 use Rattle.storage.specs.Index.Use.{out-bounded}
 use Rattle.path.specs.Replays.Calls.{few-edges}
 use Rattle.search_state.specs.declared.search.Search as S
-use Rattle.search_state.specs.declared.search.Going.{Going}
+use Rattle.search_state.specs.Searches.{Going}
 use Rattle.search_state.specs.Items.{Carries}
 use Rattle.search_state.specs.Items.Laws.{carries-slot}
 use Rattle.search_state.specs.Retraces.{Retraces, Retraced}

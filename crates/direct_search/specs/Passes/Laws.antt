@@ -1,20 +1,19 @@
 -- Edges that lead nowhere, one after another, and the search behind them: what is counted and pushed is what the enumeration does.
 -- Serves document 01, "Answer".
-use Rattle.std.specs.Prelude.{ℕ, suc, ◌+◌, ◌-◌, ◌<◌, ◌≤◌, ◌≡◌, Bool, true, false, List, [], ltb, length, take, drop}
+use Rattle.std.specs.Prelude.{ℕ, suc, ◌+◌, ◌-◌, ◌<◌, ◌≤◌, ◌≡◌, Bool, true, false, List, [], ltb, length, take, drop, Ok, Err}
 use Rattle.std.proofs.Common.{arith, ◌∙◌, lt-ltb, le-ltb, ltb-true}
 use Rattle.std.proofs.Math.Path.{refl, sym, ap, subst}
-use Rattle.semantics.specs.declared.search.Limit.{Limit}
 use Rattle.semantics.specs.declared.refusal.SearchRefusal.{SearchRefusal}
 use Rattle.semantics.specs.declared.refusal.SearchRefusal.TheVariants as Search
 use Rattle.semantics.specs.Lists.{pick, has}
-use Rattle.semantics.specs.Limits.{within, looked_ever, max_edges, slot_length}
+use Rattle.semantics.specs.Limits.{within, looked_ever, max_edges, slot_length, Limit}
 use Rattle.semantics.specs.Graph.{view_of}
 use Rattle.storage.specs.Index.{EDGES, node_row, edge_row, next_row}
 use Rattle.storage.specs.Index.Use.{left, runs-follow}
 use Rattle.stepping.specs.Judged.{Ready, judged_of}
 use Rattle.path_budget.specs.declared.budget.Budget.{Budget}
 use Rattle.search_state.specs.declared.search.Search as S
-use Rattle.search_state.specs.declared.search.Going.{Going}
+use Rattle.search_state.specs.Searches.{Going}
 use Rattle.search_state.specs.declared.dead_ends.DeadEnds.{DeadEnds}
 use Rattle.search_state.specs.Items.{with_edge}
 use Rattle.search_state.specs.declared.progress.Frame.{Frame}
@@ -81,7 +80,7 @@ module _ {most : ℕ} {index steps item₀ : List ℕ} {k : ℕ} {s : S.Search} 
     unfolding mid-given
     one_more t j next e {link'} q = on-trial t j e
       where
-        again : (w : DeadEnds) → w ≡ next → Tried Most index steps item k (passed_by p on) ws rs given (link - 1) (Going.On (passed_by w on)) item ws rs → Mid most index steps item₀ k s ws₀ rs₀ v (passed_by next on) item ws rs link'
+        again : (w : DeadEnds) → w ≡ next → Tried Most index steps item k (passed_by p on) ws rs given (link - 1) (Ok (passed_by w on)) item ws rs → Mid most index steps item₀ k s ws₀ rs₀ v (passed_by next on) item ws rs link'
         again w z d =
             subst (λ (y : DeadEnds). Mid most index steps item₀ k s ws₀ rs₀ v (passed_by y on) item ws rs link') z
             (mid-again most index steps item₀ k s ws₀ rs₀ v mid h small d (passed_by w on) refl q)
@@ -110,10 +109,10 @@ module _ {most : ℕ} {index steps item₀ : List ℕ} {k : ℕ} {s : S.Search} 
     beyond-next : beyond_row index link ≡ next_row index (link - 1)
     beyond-next = rw (lt-ltb 0 link h)
 
-    onward-on : (next : S.Search) {item' ws' rs' : List ℕ} → Tried Most index steps item k (passed_by p on) ws rs given (link - 1) (Going.On next) item' ws' rs' → Mid most index steps item₀ k s ws₀ rs₀ v next item' ws' rs' (beyond_row index link)
+    onward-on : (next : S.Search) {item' ws' rs' : List ℕ} → Tried Most index steps item k (passed_by p on) ws rs given (link - 1) (Ok next) item' ws' rs' → Mid most index steps item₀ k s ws₀ rs₀ v next item' ws' rs' (beyond_row index link)
     onward-on next {item'} {ws'} {rs'} d = mid-again most index steps item₀ k s ws₀ rs₀ v mid h small d next refl beyond-next
 
-    onward-refused : (z : SearchRefusal) {item' ws' rs' : List ℕ} → Tried Most index steps item k (passed_by p on) ws rs given (link - 1) (Going.Refused z) item' ws' rs' → Expanded most index steps item₀ k s ws₀ rs₀ v (Going.Refused z) ws' rs'
+    onward-refused : (z : SearchRefusal) {item' ws' rs' : List ℕ} → Tried Most index steps item k (passed_by p on) ws rs given (link - 1) (Err z) item' ws' rs' → Expanded most index steps item₀ k s ws₀ rs₀ v (Err z) ws' rs'
     onward-refused z {item'} {ws'} {rs'} d = mid-refused most index steps item₀ k s ws₀ rs₀ v mid h small d z refl
 
 -- ---- the loop over edges that lead nowhere
@@ -189,14 +188,14 @@ module _ {r : Pass} {item : List ℕ} {k : ℕ} {on : S.Search} {ws rs : List �
   pub turn-rejected : on.state.rejected + r.passed.rejected ≤ looked_ever
   turn-rejected = few-rejected x.small r.passed on x.mid
 
-  pub turned-end : r.led ≡ Led.End → {w : S.Search} → w ≡ behind → Turned r item k on ws rs x (Going.On w) item ws rs
+  pub turned-end : r.led ≡ Led.End → {w : S.Search} → w ≡ behind → Turned r item k on ws rs x (Ok w) item ws rs
   turned-end e q =
       let z : r.link ≡ 0 = subst Ledˣ e x.led in
       let b : r.link ≡ beyond_row x.index r.link = z ∙ sym (ap (λ (c : Bool). pick c (next_row x.index (r.link - 1)) 0) (le-ltb 0 r.link (omega (arith, z)))) in
       subst (λ (u : S.Search). Mid x.most x.index x.steps x.item₀ k x.s x.ws₀ x.rs₀ x.v u item ws rs (beyond_row x.index r.link)) (sym q)
       (subst (λ (n : ℕ). Mid x.most x.index x.steps x.item₀ k x.s x.ws₀ x.rs₀ x.v behind item ws rs n) b x.mid)
 
-  pub turned-bound : r.led ≡ Led.TooLong → Turned r item k on ws rs x (Going.Refused Search.TooLong) item ws rs
+  pub turned-bound : r.led ≡ Led.TooLong → Turned r item k on ws rs x (Err Search.TooLong) item ws rs
   unfolding mid-given
   turned-bound e =
       let l = subst Ledˣ e x.led in
@@ -227,12 +226,12 @@ module _ {r : Pass} {item : List ℕ} {k : ℕ} {on : S.Search} {ws rs : List �
       tried a y = tried-extended Most x.index x.steps item k behind ws rs givenˣ (r.link - 1) b judgedˣ q a ws' rs' y
 
       pub turned-extended : (a : Going) → {w : S.Search} → w ≡ behind → ExtendsTo w b ws rs item' a ws' rs' → Turned r item k on ws rs x a item' ws' rs'
-      turned-extended (Going.On next) z y =
+      turned-extended (Ok next) z y =
           onward-on x.small r.passed on x.mid turn-link next
-          (tried (Going.On next) (subst (λ (u : S.Search). ExtendsTo u b ws rs item' (Going.On next) ws' rs') z y))
-      turned-extended (Going.Refused u) z y =
+          (tried (Ok next) (subst (λ (u : S.Search). ExtendsTo u b ws rs item' (Ok next) ws' rs') z y))
+      turned-extended (Err u) z y =
           onward-refused x.small r.passed on x.mid turn-link u
-          (tried (Going.Refused u) (subst (λ (o : S.Search). ExtendsTo o b ws rs item' (Going.Refused u) ws' rs') z y))
+          (tried (Err u) (subst (λ (o : S.Search). ExtendsTo o b ws rs item' (Err u) ws' rs') z y))
 
 -- ---- both, round the loop of an expansion
 

@@ -1,16 +1,13 @@
 -- The judgement in code is that of the definitions, and so is a trial.
 -- Serves document 01, "Answer", and document 02, order 4.
-use Rattle.std.specs.Prelude.{ℕ, suc, ◌+◌, ◌<◌, ◌≤◌, ◌≡◌, refl, Bool, List, ltb, length}
+use Rattle.std.specs.Prelude.{ℕ, suc, ◌+◌, ◌<◌, ◌≤◌, ◌≡◌, refl, Bool, List, ltb, length, Err, Ok}
 use Rattle.std.proofs.Common.{arith, sym, subst, ◌∙◌, ltb→lt}
 use Rattle.std.proofs.Math.Path.{ap}
 use Rattle.std.proofs.Math.Bool.{true, false}
 use Rattle.std.proofs.Math.Dec.{T}
 use Rattle.semantics.specs.declared.graph.Node.{Node}
-use Rattle.semantics.specs.declared.search.Limit.{Limit}
 use Rattle.semantics.specs.Lists.{has}
-use Rattle.semantics.specs.Limits.{base, within, max_edges, steps_length}
-use Rattle.semantics.specs.declared.judgement.EdgeJudgement.{EdgeJudgement}
-use Rattle.semantics.specs.declared.judgement.EdgeJudgement.TheVariants as Judgement
+use Rattle.semantics.specs.Limits.{base, within, max_edges, steps_length, Limit}
 use Rattle.semantics.specs.Answer.{ok}
 use Rattle.semantics.specs.Graph.{Graph, View, view_of, is_reference}
 use Rattle.semantics.specs.Path.{Path, append, is_complete}
@@ -21,8 +18,8 @@ use Rattle.semantics.specs.Enumeration.{cut, overlong, reject, stop, go, tested}
 use Rattle.semantics.specs.Direct.{extended, judge}
 use Rattle.storage.specs.Index.{node_row, edge_row, Loaded}
 use Rattle.semantics.specs.declared.replayed.Step.{Step}
-use Rattle.stepping.specs.declared.step.Effect.{Effect}
-use Rattle.stepping.specs.declared.step.Effect.TheVariants.{Done, Refused}
+use Rattle.stepping.specs.Steps.{Effect}
+use Rattle.std.specs.Prelude.{Ok, Err}
 use Rattle.stepping.specs.StepWords.{with_step}
 use Rattle.stepping.specs.StepWords.Laws.{step_same}
 use Rattle.stepping.specs.Judged.{Stepped, judged_of, complete_step}
@@ -36,6 +33,7 @@ use Rattle.search_state.specs.Retraces.Laws.{effect-done, effect-refused}
 use Rattle.edge_trial.specs.declared.trial.EdgeTrial.{EdgeTrial}
 use Rattle.edge_trial.specs.declared.trial.EdgeTrial.TheVariants.{Cut, Overlong, Rejected, TooLong, Extended}
 use Rattle.edge_trial.specs.Trials.{judgement_by, tried_by, trial_by}
+use Rattle.semantics.specs.PublicAnswers.{EdgeJudgement}
 
 -- ---- outcomes in code
 
@@ -80,10 +78,10 @@ module _ {g : Graph} {index : List ℕ} (loaded : Loaded g index) {ws : List ℕ
   judgement-is = on (judged_of (node_row index) ws k e (edge_row index e)) refl ∙ sym (judgement-append (view_of g) p e)
     where
       on : (x : Effect) → x ≡ judged_of (node_row index) ws k e (edge_row index e) → judgement_by (node_row index) x ≡ judgement_of (view_of g) (append (view_of g) p e)
-      on (Refused z) is = sym (ap (judgement_of (view_of g)) (effect-refused loaded st (omega (arith, long, below)) e is z refl))
-      on (Done s) is =
+      on (Err z) is = sym (ap (judgement_of (view_of g)) (effect-refused loaded st (omega (arith, long, below)) e is z refl))
+      on (Ok s) is =
           let n = effect-done loaded st (omega (arith, long, below)) e is s refl in
-          ap Judgement.Extends (complete-same s n.appended n.stepped) ∙ sym (ap (judgement_of (view_of g)) n.appended)
+          ap Ok (complete-same s n.appended n.stepped) ∙ sym (ap (judgement_of (view_of g)) n.appended)
 
 module _ {R : Type 0} (too_long : R) (lim : Limit) {g : Graph} {index : List ℕ} (loaded : Loaded g index) {ws : List ℕ} {p : Path} (st : Stepped ws (length p.edges) p) (long : steps_length ≤ length ws)
     (starts : is_reference ((view_of g).node p.start) ≡ true) (e : ℕ) where
@@ -92,8 +90,8 @@ module _ {R : Type 0} (too_long : R) (lim : Limit) {g : Graph} {index : List ℕ
 
   judged : has e p.edges ≡ false → within (suc (length p.edges)) lim ≡ true → ltb (length p.edges) max_edges ≡ true → (j : EdgeJudgement) → judgement (view_of g) p e ≡ j → Judged too_long lim (view_of g) p e (tried_by j)
   unfolding judge tested extended
-  judged h k l (Judgement.Refused z) is = rw (h, k, l, judged-refused (view_of g) p e z is)
-  judged h k l (Judgement.Extends b) is =
+  judged h k l (Err z) is = rw (h, k, l, judged-refused (view_of g) p e z is)
+  judged h k l (Ok b) is =
       let x = judged-extends (view_of g) p e b is in
       (x.path, rw (h, k, l, x.appended) (ap (λ (c : Bool). go c x.path) x.is-complete), x.appended, l)
 

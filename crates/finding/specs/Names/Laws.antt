@@ -1,6 +1,6 @@
 -- The kept paths in the result slots, one reference after another, and the call.
 -- Serves document 02, order 1.
-use Rattle.std.specs.Prelude.{ℕ, zero, suc, ◌+◌, ◌-◌, ◌*◌, ◌<◌, ◌≤◌, ◌≡◌, Bool, eqb, ltb, get_or, take}
+use Rattle.std.specs.Prelude.{ℕ, zero, suc, ◌+◌, ◌-◌, ◌*◌, ◌<◌, ◌≤◌, ◌≡◌, Bool, eqb, ltb, get_or, take, Ok, Err, Some, None}
 use Rattle.std.proofs.Common.{mul-zero, mul-le-mul_left, not-suc-le-zero, le_of_suc-le-suc, add-one, arith, ◌∙◌, true≢false, ltb-true, ltb-false, drop_of_length-le, drop-drop, drop-cons}
 use Rattle.std.proofs.Math.Path.{refl, sym, ap, ap₂, subst}
 use Rattle.std.proofs.Math.Bool.{true, false}
@@ -11,13 +11,11 @@ use Rattle.std.proofs.Math.Seq.{drop_at}
 use Rattle.semantics.specs.declared.graph.Node.{Node}
 use Rattle.semantics.specs.declared.graph.Node.TheVariants as N
 use Rattle.semantics.specs.declared.graph.Edge.TheVariants as E
-use Rattle.semantics.specs.declared.search.Limit.{Limit}
 use Rattle.semantics.specs.declared.search.SearchOrder.TheVariants.{BreadthFirst}
 use Rattle.semantics.specs.declared.refusal.ImageRefusal.{ImageRefusal}
 use Rattle.semantics.specs.declared.refusal.SearchRefusal.{SearchRefusal}
-use Rattle.semantics.specs.declared.answer.Finding.{Finding}
 use Rattle.semantics.specs.Lists.{cons_if}
-use Rattle.semantics.specs.Limits.{base, max_edges, slot_length}
+use Rattle.semantics.specs.Limits.{base, max_edges, slot_length, Limit}
 use Rattle.semantics.specs.Answer.{Answer, ok, refuse}
 use Rattle.semantics.specs.Graph.{Graph, view_of, traits, is_reference, is_definition}
 use Rattle.semantics.specs.Graph.Laws.{view_of-lawful}
@@ -40,12 +38,13 @@ use Rattle.reply.specs.ResultSlots.ClosingUp.{closing-kept, closing_end}
 use Rattle.search_state.specs.declared.search.Finished.{Finished}
 use Rattle.search_state.specs.declared.state.SearchState.{SearchState}
 use Rattle.search_state.specs.Reps.{Counts}
-use Rattle.search_rounds.specs.declared.conclusion.SearchEnd.{SearchEnd}
+use Rattle.search_rounds.specs.Drives.{SearchEnd}
 use Rattle.search_rounds.specs.Drives.{Ends}
 use Rattle.search_rounds.specs.Finishes.{ends-over, ends-refused}
 use Rattle.semantics.specs.Entries.{Does}
-use Rattle.finding.specs.declared.name.Tried.{Tried}
-use Rattle.finding.specs.Names.{leads_to, slot_to, FirstIn, only_slot, Tells, search_of, tried_of, walked_of, answer_of, left_of, turned_back, loaded_of}
+use Rattle.finding.specs.Names.{Tried, leads_to, slot_to, FirstIn, only_slot, Tells, search_of, tried_of, walked_of, answer_of, left_of, turned_back, loaded_of}
+use Rattle.semantics.specs.PublicAnswers.{Finding}
+use Rattle.semantics.specs.declared.answer.FindingRefusal.{FindingRefusal}
 
 -- ---- the paths of a list by number
 
@@ -144,11 +143,11 @@ module _ (index : List ℕ) (g : Graph) (loaded : Loaded g index) (lim : Limit) 
   setting_to = search_setting BreadthFirst (only_length lim) (whole_slots slot_length w) (whole_slots slot_length o)
 
   module _ (d : SearchEnd) (rs : List ℕ) (ends : Ends d rs (search_of g lim w o r)) where
-    pub tried-refused : (x : SearchRefusal) → d ≡ SearchEnd.Refused x → (rs' : List ℕ) → Tells (Tried.Refused x) rs' (tried_of g lim w o n r true)
+    pub tried-refused : (x : SearchRefusal) → d ≡ Err x → (rs' : List ℕ) → Tells (Err x) rs' (tried_of g lim w o n r true)
     unfolding find_in
     tried-refused x e rs' = rw (ends-refused d rs (search_of g lim w o r) x ends e) refl
 
-    module _ (fin : Finished) (e : d ≡ SearchEnd.Over fin) where
+    module _ (fin : Finished) (e : d ≡ Ok fin) where
       abbrev st : SearchState
       st = fin.state
 
@@ -205,14 +204,14 @@ module _ (index : List ℕ) (g : Graph) (loaded : Loaded g index) (lim : Limit) 
           ∙ ap (λ (k : ℕ). zeros (length rs - slot_length * k)) many
 
       module _ (at : ℕ) (f : FirstIn (slot_to index rs n) st.kept at) where
-        pub tried-without : st.kept ≤ at → (rs' : List ℕ) → length rs' ≡ length rs → rs' ≡ clear_slots slot_length 0 st.kept rs → Tells Tried.Without rs' (tried_of g lim w o n r true)
+        pub tried-without : st.kept ≤ at → (rs' : List ℕ) → length rs' ≡ length rs → rs' ≡ clear_slots slot_length 0 st.kept rs → Tells (Ok None) rs' (tried_of g lim w o n r true)
         unfolding find_in named
         tried-without h rs' len q =
             let z : first_to n kept_of ≡ none = first-missing n kept_of (slot_to index rs n) kept_test (λ j i. f.before j (omega (arith, i, h, over.2.kept))) in
             let y : rs' ≡ zeros (length rs') = q ∙ none-area slot_length st.kept rs over-slots behind-kept ∙ ap zeros (sym len) in
             rw (over.1, first-kept n base lim setting_to (view_of g) (view_of-lawful g) r over.0 over.1, z) y
 
-        pub tried-found : at < st.kept → (rs' : List ℕ) → length rs' ≡ length rs → rs' ≡ only_slot slot_length at st.kept rs → Tells (Tried.Found r) rs' (tried_of g lim w o n r true)
+        pub tried-found : at < st.kept → (rs' : List ℕ) → length rs' ≡ length rs → rs' ≡ only_slot slot_length at st.kept rs → Tells (Ok (Some r)) rs' (tried_of g lim w o n r true)
         unfolding find_in named area
         tried-found h rs' len q =
             let z = first_found n kept_of (slot_to index rs n) kept_test at f.before (omega (arith, h, over.2.kept)) (f.here h) in
@@ -222,20 +221,20 @@ module _ (index : List ℕ) (g : Graph) (loaded : Loaded g index) (lim : Limit) 
 
 -- ---- what is told, turned round
 
-tells-found : (r : ℕ) (rs : List ℕ) (t : Answer SearchRefusal (Option Name)) → Tells (Tried.Found r) rs t → (m : Name) × (t ≡ ok (some m)) × (r ≡ m.reference) × (rs ≡ area slot_length (length rs) (m.edges ∷ []))
+tells-found : (r : ℕ) (rs : List ℕ) (t : Answer SearchRefusal (Option Name)) → Tells (Ok (Some r)) rs t → (m : Name) × (t ≡ ok (some m)) × (r ≡ m.reference) × (rs ≡ area slot_length (length rs) (m.edges ∷ []))
 tells-found r rs (ok (some m)) h = (m, refl, h.0, h.1)
 tells-found r rs (ok none) h = absurd h
 tells-found r rs (refuse y) h = absurd h
 
-tells-without : (rs : List ℕ) (t : Answer SearchRefusal (Option Name)) → Tells Tried.Without rs t → (t ≡ ok none) × (rs ≡ zeros (length rs))
+tells-without : (rs : List ℕ) (t : Answer SearchRefusal (Option Name)) → Tells (Ok None) rs t → (t ≡ ok none) × (rs ≡ zeros (length rs))
 tells-without rs (ok (some m)) h = absurd h
 tells-without rs (ok none) h = (refl, h)
 tells-without rs (refuse y) h = absurd h
 
-pub tells-cleared : (rs : List ℕ) (t : Answer SearchRefusal (Option Name)) → Tells Tried.Without rs t → rs ≡ zeros (length rs)
+pub tells-cleared : (rs : List ℕ) (t : Answer SearchRefusal (Option Name)) → Tells (Ok None) rs t → rs ≡ zeros (length rs)
 tells-cleared rs t h = (tells-without rs t h).1
 
-tells-refused : (x : SearchRefusal) (rs : List ℕ) (t : Answer SearchRefusal (Option Name)) → Tells (Tried.Refused x) rs t → t ≡ refuse x
+tells-refused : (x : SearchRefusal) (rs : List ℕ) (t : Answer SearchRefusal (Option Name)) → Tells (Err x) rs t → t ≡ refuse x
 tells-refused x rs (ok (some m)) h = absurd h
 tells-refused x rs (ok none) h = absurd h
 tells-refused x rs (refuse y) h = ap refuse (sym h)
@@ -246,7 +245,7 @@ told_here g lim w w' o o' n r b rs x y s t e h =
     subst (λ (i : ℕ). Tells t rs (tried_of g lim i o' n r b)) x (subst (λ (i : ℕ). Tells t rs (tried_of g lim w i n r b)) y (subst (λ (q : Tried). Tells q rs (tried_of g lim w o n r b)) e h))
 
 -- ---- a node that is no reference
-pub passed_over : (g : Graph) (lim : Limit) (w o n r : ℕ) (b : Bool) → b ≡ false → (rs : List ℕ) → rs ≡ zeros (length rs) → Tells Tried.Without rs (tried_of g lim w o n r b)
+pub passed_over : (g : Graph) (lim : Limit) (w o n r : ℕ) (b : Bool) → b ≡ false → (rs : List ℕ) → rs ≡ zeros (length rs) → Tells (Ok None) rs (tried_of g lim w o n r b)
 unfolding find_in
 passed_over g lim w o n r b e rs z = rw e z
 
@@ -264,26 +263,26 @@ module _ (g : Graph) (lim : Limit) (w o n : ℕ) where
     unfolding references_from view_of
     here = ap (λ (l : List Node). find_in (search_of g lim w o) n (references_from i l)) (sym (drop-cons g.nodes i N.Removed h)) ∙ left
 
-    pub walk-again : Tells Tried.Without rs (tried_of g lim w o n i is_one) → Left (i + 1)
+    pub walk-again : Tells (Ok None) rs (tried_of g lim w o n i is_one) → Left (i + 1)
     walk-again t = rw add-one (sym (one_on (search_of g lim w o) n i (references_from (suc i) (drop (suc i) g.nodes)) is_one (tells-without rs (tried_of g lim w o n i is_one) t).0) ∙ here)
 
-    pub walk-found : (r : ℕ) → Tells (Tried.Found r) rs (tried_of g lim w o n i is_one) → Tells (Tried.Found r) rs (walked_of g lim w o n)
+    pub walk-found : (r : ℕ) → Tells (Ok (Some r)) rs (tried_of g lim w o n i is_one) → Tells (Ok (Some r)) rs (walked_of g lim w o n)
     walk-found r t =
         let k = tells-found r rs (tried_of g lim w o n i is_one) t in
         let z : walked_of g lim w o n ≡ ok (some k.0) = sym here ∙ one_found (search_of g lim w o) n i (references_from (suc i) (drop (suc i) g.nodes)) is_one k.0 k.1 in
-        subst (λ (a : Answer SearchRefusal (Option Name)). Tells (Tried.Found r) rs a) (sym z) (k.2, k.3)
+        subst (λ (a : Answer SearchRefusal (Option Name)). Tells (Ok (Some r)) rs a) (sym z) (k.2, k.3)
 
-    pub walk_refused : (x : SearchRefusal) → Tells (Tried.Refused x) rs (tried_of g lim w o n i is_one) → Tells (Tried.Refused x) rs (walked_of g lim w o n)
+    pub walk_refused : (x : SearchRefusal) → Tells (Err x) rs (tried_of g lim w o n i is_one) → Tells (Err x) rs (walked_of g lim w o n)
     walk_refused x t =
         let k = tells-refused x rs (tried_of g lim w o n i is_one) t in
         let z : walked_of g lim w o n ≡ refuse x = sym here ∙ one-refused (search_of g lim w o) n i (references_from (suc i) (drop (suc i) g.nodes)) is_one x k in
-        subst (λ (a : Answer SearchRefusal (Option Name)). Tells (Tried.Refused x) rs a) (sym z) refl
+        subst (λ (a : Answer SearchRefusal (Option Name)). Tells (Err x) rs a) (sym z) refl
 
-  pub walk_end : (i : ℕ) → Left i → length g.nodes ≤ i → (rs : List ℕ) → rs ≡ zeros (length rs) → Tells Tried.Without rs (walked_of g lim w o n)
+  pub walk_end : (i : ℕ) → Left i → length g.nodes ≤ i → (rs : List ℕ) → rs ≡ zeros (length rs) → Tells (Ok None) rs (walked_of g lim w o n)
   unfolding find_in references_from
   walk_end i left h rs clear =
       let z : walked_of g lim w o n ≡ ok none = sym left ∙ ap (λ (l : List Node). find_in (search_of g lim w o) n (references_from i l)) (drop_of_length-le g.nodes h) in
-      subst (λ (a : Answer SearchRefusal (Option Name)). Tells Tried.Without rs a) (sym z) clear
+      subst (λ (a : Answer SearchRefusal (Option Name)). Tells (Ok None) rs a) (sym z) clear
 
 -- ---- THE CALL
 definition-there : (x : Node) → is_definition x ≡ true → (traits x).removed ≡ false
@@ -301,11 +300,11 @@ module _ (g : Graph) (q : FindRequest) where
   found-does : (t : Tried) (rs : List ℕ) → length rs ≡ q.result → Tells t rs (walked_of g q.length q.work q.result q.node) → (a : Finding) (ws' rs' : List ℕ) → a ≡ answer_of t → ws' ≡ zeros q.work → rs' ≡ left_of t rs
       → Does (found_as base q (walked_of g q.length q.work q.result q.node)) a ws' rs'
   unfolding found_as
-  found-does (Tried.Found r) rs l t a ws' rs' e w h =
+  found-does (Ok (Some r)) rs l t a ws' rs' e w h =
       let k = tells-found r rs (walked_of g q.length q.work q.result q.node) t in
-      rw k.1 (e ∙ ap (λ (i : ℕ). Finding.Found (record { 0 = i })) k.2, w, h ∙ k.3 ∙ ap (λ (m : ℕ). area slot_length m (k.0.edges ∷ [])) l)
-  found-does Tried.Without rs l t a ws' rs' e w h = let k = tells-without rs (walked_of g q.length q.work q.result q.node) t in rw k.0 (e, w, h ∙ k.1 ∙ ap zeros l)
-  found-does (Tried.Refused x) rs l t a ws' rs' e w h = rw (tells-refused x rs (walked_of g q.length q.work q.result q.node) t) (e, w, h ∙ ap zeros l)
+      rw k.1 (e ∙ ap (λ (i : ℕ). Ok (Some (record { 0 = i }))) k.2, w, h ∙ k.3 ∙ ap (λ (m : ℕ). area slot_length m (k.0.edges ∷ [])) l)
+  found-does (Ok None) rs l t a ws' rs' e w h = let k = tells-without rs (walked_of g q.length q.work q.result q.node) t in rw k.0 (e, w, h ∙ k.1 ∙ ap zeros l)
+  found-does (Err x) rs l t a ws' rs' e w h = rw (tells-refused x rs (walked_of g q.length q.work q.result q.node) t) (e, w, h ∙ ap zeros l)
 
   module _ (b : Bool) (is : b ≡ is_definition ((view_of g).node q.node)) where
     pub definition-does : b ≡ true → (t : Tried) (rs : List ℕ) → length rs ≡ q.result → Tells t rs (walked_of g q.length q.work q.result q.node) → (a : Finding) (ws' rs' : List ℕ) → a ≡ answer_of t → ws' ≡ zeros q.work → rs' ≡ left_of t rs
@@ -324,7 +323,7 @@ module _ (g : Graph) (q : FindRequest) where
         on1 false k = let v = rw k at x in rw (k, sym is ∙ e) (v, y, z)
 
 module _ (q : FindRequest) (y : Answer ImageRefusal Graph) where
-  pub image-refused : (x : ImageRefusal) → y ≡ refuse x → (ws rs : List ℕ) → ws ≡ zeros q.work → rs ≡ zeros q.result → Does (find_call base y q) (Finding.Image x) ws rs
+  pub image-refused : (x : ImageRefusal) → y ≡ refuse x → (ws rs : List ℕ) → ws ≡ zeros q.work → rs ≡ zeros q.result → Does (find_call base y q) (Err (FindingRefusal.Image x)) ws rs
   unfolding find_call
   image-refused x e ws rs w r = rw e (refl, w, r)
 

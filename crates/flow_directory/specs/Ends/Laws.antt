@@ -5,9 +5,8 @@ use Rattle.std.proofs.Common.{not-suc-le-zero, le_of_suc-le-suc, arith, sym, ap,
 use mathlib.Core.List.{List, [], ◌∷◌, Memᴰ}
 use Rattle.std.proofs.Math.ListN.{length}
 use Rattle.semantics.specs.declared.graph.Edge.TheVariants as E
-use Rattle.semantics.specs.declared.search.Limit.{Limit}
 use Rattle.semantics.specs.declared.answer.Definitions.{Definitions}
-use Rattle.semantics.specs.Limits.{base, max_edges, slot_length}
+use Rattle.semantics.specs.Limits.{base, max_edges, slot_length, Limit}
 use Rattle.semantics.specs.Graph.{Graph, view_of}
 use Rattle.semantics.specs.Path.{Path, is_complete}
 use Rattle.semantics.proofs.Theorems.Path.Laws.{begun, replay-ok, append_all-bound}

@@ -1,6 +1,6 @@
 -- A search that has ended, the checks before it, and the image.
 -- Serves document 02, order 11.
-use Rattle.std.specs.Prelude.{ℕ, Bool, eqb, length}
+use Rattle.std.specs.Prelude.{ℕ, Bool, eqb, length, Ok, Err}
 use Rattle.std.proofs.Common.{arith, subst, ◌∙◌, ⊎_elim, eqb-true}
 use Rattle.std.proofs.Math.Path.{◌≡◌, refl, sym, ap, ap₂}
 use Rattle.std.proofs.Math.Bool.{true, false}
@@ -11,7 +11,6 @@ use Rattle.semantics.specs.declared.search.SearchStats.{SearchStats}
 use Rattle.semantics.specs.declared.refusal.ImageRefusal.{ImageRefusal}
 use Rattle.semantics.specs.declared.refusal.SearchRefusal.{SearchRefusal}
 use Rattle.semantics.specs.declared.answer.Definitions.{Definitions}
-use Rattle.semantics.specs.declared.answer.Flow.{Flow}
 use Rattle.semantics.specs.Lists.{and}
 use Rattle.semantics.specs.Lists.Laws.{and-true}
 use Rattle.semantics.specs.Limits.{base, slot_length, isin_bytes}
@@ -38,15 +37,17 @@ use Rattle.reply.specs.Ends.{Stand}
 use Rattle.reply.specs.Replies.{Replied}
 use Rattle.reply.specs.ResultSlots.{AllFitting, Lists}
 use Rattle.reply.specs.Ends.Laws.{stand-lists}
-use Rattle.search_rounds.specs.declared.conclusion.SearchEnd.{SearchEnd}
+use Rattle.search_rounds.specs.Drives.{SearchEnd}
 use Rattle.search_rounds.specs.Finishes.{ends-over, ends-refused}
 use Rattle.direct_search.specs.DirectAnswers.{direct_of}
 use Rattle.direct_search.specs.DirectAnswers.Laws.{kept-replays}
-use Rattle.flow_directory.specs.declared.rows.Looked.{Looked}
-use Rattle.flow_directory.specs.Keys.{looked_of}
+use Rattle.flow_directory.specs.declared.rows.LookUpRefusal.TheVariants.{Missing, Disordered}
+use Rattle.flow_directory.specs.Keys.{Looked, looked_of}
 use Rattle.flow_directory.specs.Ends.{slot_end, Ending}
 use Rattle.flow_directory.specs.Ends.Laws.{stand-fits, stand-definitions}
 use Rattle.flow_directory.specs.Flows.{Ended, resolved_of, listed_of}
+use Rattle.semantics.specs.PublicAnswers.{Flow, flowed}
+use Rattle.semantics.specs.declared.answer.FlowRefusal.{FlowRefusal}
 
 -- ---- a returned path was kept
 
@@ -68,12 +69,12 @@ module _ {index : List ℕ} {d : SearchEnd} {rs : List ℕ} (v : Ended index d r
   abbrev graph_of : Graph
   graph_of = v.there.graph
 
-  pub refused-does : (q : FlowRequest) → length rs ≡ q.result → (x : SearchRefusal) → d ≡ SearchEnd.Refused x → {ws' rs' : List ℕ} → ws' ≡ zeros q.work → rs' ≡ zeros (length rs)
-      → Does (flow_outcome base q (direct_of graph_of v.request)) (Flow.Refused x) ws' rs'
+  pub refused-does : (q : FlowRequest) → length rs ≡ q.result → (x : SearchRefusal) → d ≡ Err x → {ws' rs' : List ℕ} → ws' ≡ zeros q.work → rs' ≡ zeros (length rs)
+      → Does (flow_outcome base q (direct_of graph_of v.request)) (Err (FlowRefusal.Refused x)) ws' rs'
   unfolding flow_outcome
   refused-does q long x e w r = rw (ends-refused d rs (direct_of graph_of v.request) x v.ends e) (refl, w, r ∙ ap zeros long)
 
-  module _ (n : Finished) (e : d ≡ SearchEnd.Over n) where
+  module _ (n : Finished) (e : d ≡ Ok n) where
     over : (u : State Path) × (direct_of graph_of v.request ≡ ok u) × Counts n.state rs u × (n.waited ≡ u.tally.waited)
     over = ends-over d rs (direct_of graph_of v.request) n v.ends e
 
@@ -97,13 +98,13 @@ module _ {index : List ℕ} {d : SearchEnd} {rs : List ℕ} (v : Ended index d r
       over-fits = stand-fits index graph_of v.there.loaded v.request.limits.length v.request.node (returned over.0) good r rs' left
 
       pub over-does : (x : Definitions) → Ending (slot_end index rs') r x → (q : FlowRequest) → length rs' ≡ length rs → length rs ≡ q.result → {ws' : List ℕ} → ws' ≡ zeros q.work → {t : SearchStats} → t ≡ report_in n
-          → Does (flow_outcome base q (direct_of graph_of v.request)) (Flow.Done x r t) ws' rs'
+          → Does (flow_outcome base q (direct_of graph_of v.request)) (flowed x r t) ws' rs'
       unfolding flow_outcome
       over-does x h q k long w {t} s =
           let y : x ≡ definitions_of (ends_of (returned over.0)) = stand-definitions index graph_of v.there.loaded v.request.limits.length v.request.node (returned over.0) good r rs' left x h in
           let c : t ≡ report_of over.0 = s ∙ ap₂ figured over.3 over.2.stats in
           rw over.1 (
-            ap (λ (z : Definitions). Flow.Done z r t) y ∙ ap (λ (m : ℕ). Flow.Done (definitions_of (ends_of (returned over.0))) m t) left.count ∙ ap (Flow.Done (definitions_of (ends_of (returned over.0))) (length (returned over.0))) c,
+            ap (λ (z : Definitions). flowed z r t) y ∙ ap (λ (m : ℕ). flowed (definitions_of (ends_of (returned over.0))) m t) left.count ∙ ap (flowed (definitions_of (ends_of (returned over.0))) (length (returned over.0))) c,
             w,
             left.words ∙ ap (λ (m : ℕ). area slot_length m (edge_lists (returned over.0))) (k ∙ long),
           )
@@ -111,7 +112,7 @@ module _ {index : List ℕ} {d : SearchEnd} {rs : List ℕ} (v : Ended index d r
 never : ◌≡◌ {A = ℕ} 0 1 → ⊥
 never e = omega (arith, e)
 
-found-inj : (x y : ℕ) → Looked.Found x ≡ Looked.Found y → x ≡ y
+found-inj : (x y : ℕ) → ◌≡◌ {A = Looked} (Ok x) (Ok y) → x ≡ y
 found-inj x y e = cc
 
 -- ---- BEFORE IT: 41, 42, 43
@@ -120,7 +121,7 @@ unfolding is_isin
 isin-long cs h = eqb-true (length cs) isin_bytes (and-true (eqb (length cs) isin_bytes) (and (in_form 0 cs) (is_checked cs)) h).0
 
 module _ (g : Graph) (rows : List ℕ) (q : FlowRequest) where
-  pub malformed-does : is_isin q.key.isin ≡ false → (a : Flow) → a ≡ Flow.MalformedIsin → (ws rs : List ℕ) → ws ≡ zeros q.work → rs ≡ zeros q.result → Does (listed_of g rows q) a ws rs
+  pub malformed-does : is_isin q.key.isin ≡ false → (a : Flow) → a ≡ Err FlowRefusal.MalformedIsin → (ws rs : List ℕ) → ws ≡ zeros q.work → rs ≡ zeros q.result → Does (listed_of g rows q) a ws rs
   unfolding flow_call if_isin
   malformed-does h a e ws rs w r = rw h (e, w, r)
 
@@ -141,41 +142,41 @@ module _ (g : Graph) (rows : List ℕ) (q : FlowRequest) where
   found-is x = refl
 
   module _ (isin : is_isin q.key.isin ≡ true) (l : Looked) (is : l ≡ looked_of (is_directory rows) (looked_up rows q.key)) where
-    found-there : (r : ℕ) → l ≡ Looked.Found r → listed_of g rows q ≡ resolved_of g q r
+    found-there : (r : ℕ) → l ≡ Ok r → listed_of g rows q ≡ resolved_of g q r
     found-there r e = on (is_directory rows) (looked_up rows q.key) refl refl
       where
         on : (b : Bool) (o : Option ℕ) → is_directory rows ≡ b → looked_up rows q.key ≡ o → listed_of g rows q ≡ resolved_of g q r
         on true (some x) f k =
-            let z : Looked.Found r ≡ Looked.Found x = sym e ∙ is ∙ ap₂ looked_of f k in
+            let z : ◌≡◌ {A = Looked} (Ok r) (Ok x) = sym e ∙ is ∙ ap₂ looked_of f k in
             let y : x ≡ r = found-inj x r (sym z) in
             listed-is ∙ ap (λ (b : Bool). if_isin base b rows g q) isin ∙ isin-is ∙ ap (λ (b : Bool). if_directory base b rows g q) f ∙ directory-is ∙ ap (λ (o : Option ℕ). if_found base o g q) k ∙ found-is x ∙ ap (λ (i : ℕ). resolved_of g q i) y
-        on true none f k = absurd (let z : Looked.Found r ≡ Looked.Missing = sym e ∙ is ∙ ap₂ looked_of f k in let y : ◌≡◌ {A = ℕ} 0 1 = cc in never y)
-        on false o f k = absurd (let z : Looked.Found r ≡ Looked.Disordered = sym e ∙ is ∙ ap₂ looked_of f k in let y : ◌≡◌ {A = ℕ} 0 1 = cc in never y)
+        on true none f k = absurd (let z : ◌≡◌ {A = Looked} (Ok r) (Err Missing) = sym e ∙ is ∙ ap₂ looked_of f k in let y : ◌≡◌ {A = ℕ} 0 1 = cc in never y)
+        on false o f k = absurd (let z : ◌≡◌ {A = Looked} (Ok r) (Err Disordered) = sym e ∙ is ∙ ap₂ looked_of f k in let y : ◌≡◌ {A = ℕ} 0 1 = cc in never y)
 
-    pub found-does : (r : ℕ) → l ≡ Looked.Found r → (a : Flow) (ws rs : List ℕ) → Does (resolved_of g q r) a ws rs → Does (listed_of g rows q) a ws rs
+    pub found-does : (r : ℕ) → l ≡ Ok r → (a : Flow) (ws rs : List ℕ) → Does (resolved_of g q r) a ws rs → Does (listed_of g rows q) a ws rs
     found-does r e a ws rs h = rw (found-there r e) h
 
-    pub missing-does : l ≡ Looked.Missing → (a : Flow) → a ≡ Flow.UnknownKey → (ws rs : List ℕ) → ws ≡ zeros q.work → rs ≡ zeros q.result → Does (listed_of g rows q) a ws rs
+    pub missing-does : l ≡ Err Missing → (a : Flow) → a ≡ Err FlowRefusal.UnknownKey → (ws rs : List ℕ) → ws ≡ zeros q.work → rs ≡ zeros q.result → Does (listed_of g rows q) a ws rs
     unfolding if_directory if_found flow_call if_isin
     missing-does e a j ws rs w r = on (is_directory rows) (looked_up rows q.key) refl refl
       where
         on : (b : Bool) (o : Option ℕ) → is_directory rows ≡ b → looked_up rows q.key ≡ o → Does (listed_of g rows q) a ws rs
         on true none f k = rw (isin, f, k) (j, w, r)
-        on true (some x) f k = absurd (let z : Looked.Missing ≡ Looked.Found x = sym e ∙ is ∙ ap₂ looked_of f k in let y : ◌≡◌ {A = ℕ} 0 1 = cc in never y)
-        on false o f k = absurd (let z : Looked.Missing ≡ Looked.Disordered = sym e ∙ is ∙ ap₂ looked_of f k in let y : ◌≡◌ {A = ℕ} 0 1 = cc in never y)
+        on true (some x) f k = absurd (let z : ◌≡◌ {A = Looked} (Err Missing) (Ok x) = sym e ∙ is ∙ ap₂ looked_of f k in let y : ◌≡◌ {A = ℕ} 0 1 = cc in never y)
+        on false o f k = absurd (let z : ◌≡◌ {A = Looked} (Err Missing) (Err Disordered) = sym e ∙ is ∙ ap₂ looked_of f k in let y : ◌≡◌ {A = ℕ} 0 1 = cc in never y)
 
-    pub disordered-does : l ≡ Looked.Disordered → (a : Flow) → a ≡ Flow.Disordered → (ws rs : List ℕ) → ws ≡ zeros q.work → rs ≡ zeros q.result → Does (listed_of g rows q) a ws rs
+    pub disordered-does : l ≡ Err Disordered → (a : Flow) → a ≡ Err FlowRefusal.Disordered → (ws rs : List ℕ) → ws ≡ zeros q.work → rs ≡ zeros q.result → Does (listed_of g rows q) a ws rs
     unfolding if_directory if_found flow_call if_isin
     disordered-does e a j ws rs w r = on (is_directory rows) (looked_up rows q.key) refl refl
       where
         on : (b : Bool) (o : Option ℕ) → is_directory rows ≡ b → looked_up rows q.key ≡ o → Does (listed_of g rows q) a ws rs
         on false o f k = rw (isin, f) (j, w, r)
-        on true none f k = absurd (let z : Looked.Disordered ≡ Looked.Missing = sym e ∙ is ∙ ap₂ looked_of f k in let y : ◌≡◌ {A = ℕ} 0 1 = cc in never y)
-        on true (some x) f k = absurd (let z : Looked.Disordered ≡ Looked.Found x = sym e ∙ is ∙ ap₂ looked_of f k in let y : ◌≡◌ {A = ℕ} 0 1 = cc in never y)
+        on true none f k = absurd (let z : ◌≡◌ {A = Looked} (Err Disordered) (Err Missing) = sym e ∙ is ∙ ap₂ looked_of f k in let y : ◌≡◌ {A = ℕ} 0 1 = cc in never y)
+        on true (some x) f k = absurd (let z : ◌≡◌ {A = Looked} (Err Disordered) (Ok x) = sym e ∙ is ∙ ap₂ looked_of f k in let y : ◌≡◌ {A = ℕ} 0 1 = cc in never y)
 
 -- ---- THE IMAGE
 module _ (rows : List ℕ) (q : FlowRequest) (y : Answer ImageRefusal Graph) where
-  pub image-refused : (x : ImageRefusal) → y ≡ refuse x → (a : Flow) → a ≡ Flow.Image x → (ws rs : List ℕ) → ws ≡ zeros q.work → rs ≡ zeros q.result → Does (flow_call base y rows q) a ws rs
+  pub image-refused : (x : ImageRefusal) → y ≡ refuse x → (a : Flow) → a ≡ Err (FlowRefusal.Image x) → (ws rs : List ℕ) → ws ≡ zeros q.work → rs ≡ zeros q.result → Does (flow_call base y rows q) a ws rs
   unfolding flow_call
   image-refused x e a f ws rs w r = rw e (f, w, r)
 

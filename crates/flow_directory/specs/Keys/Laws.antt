@@ -14,8 +14,9 @@ use Rattle.semantics.specs.Bytes.{long, wide}
 use Rattle.semantics.specs.Bytes.Laws.{room, wide-add, wide-long, wide-double}
 use Rattle.semantics.specs.Entries.{key_of}
 use Rattle.semantics.specs.Directory.{FlowKey, key_at, isin_at, tranche_at, leg_at, reference_at, rises_at, ascends, is_directory, is_at, found_in, looked_up}
-use Rattle.flow_directory.specs.declared.rows.Looked.{Looked}
-use Rattle.flow_directory.specs.Keys.{mark, looked_of}
+use Rattle.std.specs.Prelude as Code
+use Rattle.flow_directory.specs.declared.rows.LookUpRefusal.TheVariants.{Missing, Disordered}
+use Rattle.flow_directory.specs.Keys.{Looked, given, looked_of}
 
 -- ---- two halves
 
@@ -115,7 +116,7 @@ unfolding ascends
 ascends-stays rows k zero a = rw zero-add a
 ascends-stays rows k (suc n) a = rw suc-add (ap (λ (x : Bool). and x (rises_at rows (n + k))) (ascends-stays rows k n a))
 
-pub disordered : (rows : List ℕ) (k : ℕ) → k ≤ length rows / row_bytes → ascends rows k ≡ false → (o : Option ℕ) → Looked.Disordered ≡ looked_of (is_directory rows) o
+pub disordered : (rows : List ℕ) (k : ℕ) → k ≤ length rows / row_bytes → ascends rows k ≡ false → (o : Option ℕ) → Code.Err Disordered ≡ looked_of (is_directory rows) o
 unfolding is_directory
 disordered rows k h a o =
     let n : ℕ = length rows / row_bytes in
@@ -127,42 +128,35 @@ disordered rows k h a o =
     and_no true = refl
     and_no false = refl
 
-pub left_over : (rows : List ℕ) → 0 < length rows % row_bytes → (o : Option ℕ) → Looked.Disordered ≡ looked_of (is_directory rows) o
+pub left_over : (rows : List ℕ) → 0 < length rows % row_bytes → (o : Option ℕ) → Code.Err Disordered ≡ looked_of (is_directory rows) o
 unfolding is_directory
 left_over rows h o = sym (ap (λ (b : Bool). looked_of (and b (ascends rows (length rows / row_bytes))) o) (ne_eqb (length rows % row_bytes) 0 (λ (e : length rows % row_bytes ≡ 0). omega (arith, h, e))))
 
--- the reference of the row that has the key, as a number
-pub found-more : (rows : List ℕ) (k : FlowKey) (i found r : ℕ) → found ≡ mark (found_in rows k i) → r ≡ pick (is_at rows k i) (reference_at rows i + 1) found → r ≡ mark (found_in rows k (i + 1))
+-- the reference of the row that has the key
+pub found-more : (rows : List ℕ) (k : FlowKey) (i : ℕ) (found r : Code.Option ℕ) → found ≡ given (found_in rows k i) → r ≡ pick (is_at rows k i) (Code.Some (reference_at rows i)) found → r ≡ given (found_in rows k (i + 1))
 unfolding found_in
-found-more rows k i found r e h = rw add-one (h ∙ ap (pick (is_at rows k i) (reference_at rows i + 1)) e ∙ on (is_at rows k i))
+found-more rows k i found r e h = rw add-one (h ∙ ap (pick (is_at rows k i) (Code.Some (reference_at rows i))) e ∙ on (is_at rows k i))
   where
-    on : (b : Bool) → pick b (reference_at rows i + 1) (mark (found_in rows k i)) ≡ mark (pick b (some (reference_at rows i)) (found_in rows k i))
+    on : (b : Bool) → pick b (Code.Some (reference_at rows i)) (given (found_in rows k i)) ≡ given (pick b (some (reference_at rows i)) (found_in rows k i))
     on true = refl
     on false = refl
 
-pub found_none : (rows : List ℕ) (k : FlowKey) → 0 ≡ mark (found_in rows k 0)
+pub found_none : (rows : List ℕ) (k : FlowKey) → Code.None ≡ given (found_in rows k 0)
 unfolding found_in
 found_none rows k = refl
 
-module _ (rows : List ℕ) (k : FlowKey) (i found : ℕ) (whole : length rows % row_bytes ≤ 0) (end : i ≡ length rows / row_bytes) (up : ascends rows i ≡ true) (is : found ≡ mark (found_in rows k i)) where
+module _ (rows : List ℕ) (k : FlowKey) (i : ℕ) (found : Code.Option ℕ) (whole : length rows % row_bytes ≤ 0) (end : i ≡ length rows / row_bytes) (up : ascends rows i ≡ true) (is : found ≡ given (found_in rows k i)) where
   in_order : is_directory rows ≡ true
   unfolding is_directory
   in_order = let z : length rows % row_bytes ≡ 0 = omega arith in ap (λ (b : Bool). and b (ascends rows (length rows / row_bytes))) (eq-eqb (length rows % row_bytes) 0 z) ∙ ap (ascends rows) (sym end) ∙ up
 
-  here : found ≡ mark (looked_up rows k)
+  here : found ≡ given (looked_up rows k)
   unfolding looked_up
-  here = is ∙ ap (λ (n : ℕ). mark (found_in rows k n)) end
+  here = is ∙ ap (λ (n : ℕ). given (found_in rows k n)) end
 
-  pub looked-found : 0 < found → Looked.Found (found - 1) ≡ looked_of (is_directory rows) (looked_up rows k)
-  looked-found h = on (looked_up rows k) here ∙ sym (ap (λ (b : Bool). looked_of b (looked_up rows k)) in_order)
+  pub looked-there : Code.ok_or found Missing ≡ looked_of (is_directory rows) (looked_up rows k)
+  looked-there = ap (λ (o : Code.Option ℕ). Code.ok_or o Missing) here ∙ on (looked_up rows k) ∙ sym (ap (λ (b : Bool). looked_of b (looked_up rows k)) in_order)
     where
-      on : (o : Option ℕ) → found ≡ mark o → Looked.Found (found - 1) ≡ looked_of true o
-      on none e = absurd (omega (arith, h, e))
-      on (some r) e = ap (λ (x : ℕ). Looked.Found x) (omega (arith, e))
-
-  pub looked-missing : found ≤ 0 → Looked.Missing ≡ looked_of (is_directory rows) (looked_up rows k)
-  looked-missing h = on (looked_up rows k) here ∙ sym (ap (λ (b : Bool). looked_of b (looked_up rows k)) in_order)
-    where
-      on : (o : Option ℕ) → found ≡ mark o → Looked.Missing ≡ looked_of true o
-      on none e = refl
-      on (some r) e = absurd (omega (arith, h, e))
+      on : (o : Option ℕ) → Code.ok_or (given o) Missing ≡ looked_of true o
+      on none = refl
+      on (some r) = refl

@@ -1,6 +1,6 @@
 -- A part of the check goes on or is refused, never both.
 -- Serves document 01, "Turned back".
-use Rattle.std.specs.Prelude.{ℕ, ◌+◌, ◌<◌, ◌≤◌, Bool, not, List, eqb, ◌≡◌}
+use Rattle.std.specs.Prelude.{ℕ, ◌+◌, ◌<◌, ◌≤◌, Bool, not, List, eqb, ◌≡◌, Result, Ok, Err}
 use Rattle.std.proofs.Math.Bool.{true, false}
 use Rattle.std.proofs.lemmas.Bool.{false≢true}
 use borrow.Author.Tests.{lt-ltb, le-ltb, eq-eqb, ne_eqb, ltb-false}
@@ -15,12 +15,11 @@ use Rattle.std.proofs.Common.{arith, sym, ap, ◌∙◌}
 use Rattle.std.proofs.Math.Path.{refl}
 use Rattle.semantics.specs.Answer.{Answer, ok, refuse, and_then}
 use Rattle.semantics.specs.declared.refusal.ImageRefusal.{ImageRefusal}
-use Rattle.image.specs.declared.reached.Reached.TheVariants.{Next, Refused}
 
-pub never : {r : ImageRefusal} {x : ℕ} → Refused r ≡ Next x → ⊥
-never {r} {x} e = let z : ◌≡◌ {A = ℕ} 0 1 = cc in omega arith
+pub never : {r : ImageRefusal} {x : ℕ} → Err r ≡ Ok x → ⊥
+never {r} {x} e = cc
 
-pub next-inj : {x y : ℕ} → Next x ≡ Next y → x ≡ y
+pub next-inj : {x y : ℕ} → ◌≡◌ {A = Result ℕ ImageRefusal} (Ok x) (Ok y) → x ≡ y
 next-inj {x} {y} e = cc
 
 -- one part of the check behind another

@@ -1,6 +1,6 @@
 -- From the start of a linear search to its answer.
 -- Serves document 01, "Answer"; 10, 11 and 20 of "Turned back".
-use Rattle.std.specs.Prelude.{ℕ, ◌*◌, ◌/◌, ◌≤◌, ◌≡◌, Bool}
+use Rattle.std.specs.Prelude.{ℕ, ◌*◌, ◌/◌, ◌≤◌, ◌≡◌, Bool, Ok, Err}
 use native.Mathlib.Omega.{arith}
 use Rattle.std.proofs.Math.Path.{refl, sym, ap, subst}
 use Rattle.std.proofs.Common.{◌∙◌}
@@ -11,15 +11,13 @@ use Rattle.std.proofs.Math.ListN.{length}
 use Rattle.std.proofs.lemmas.List.{length-replicate}
 use Rattle.semantics.specs.Entries.{linear_request_of, DoesLinear}
 use Rattle.semantics.specs.declared.graph.Node.{Node}
-use Rattle.semantics.specs.declared.search.Limit.{Limit}
 use Rattle.semantics.specs.declared.search.SearchLimits.{SearchLimits}
 use Rattle.semantics.specs.declared.search.SearchStats.{SearchStats}
 use Rattle.semantics.specs.declared.refusal.PathRefusal.{PathRefusal}
 use Rattle.semantics.specs.declared.refusal.LinearRefusal.{LinearRefusal}
 use Rattle.semantics.specs.declared.refusal.LinearRefusal.TheVariants as Linear
 use Rattle.semantics.specs.declared.refusal.ImageRefusal.{ImageRefusal}
-use Rattle.semantics.specs.declared.answer.LinearResolution.{LinearResolution}
-use Rattle.semantics.specs.Limits.{Bounds, base, slot_length, steps_length, max_expansions}
+use Rattle.semantics.specs.Limits.{Bounds, base, slot_length, steps_length, max_expansions, Limit}
 use Rattle.semantics.proofs.Theorems.Limits.Laws.{within-zero}
 use Rattle.semantics.specs.Answer.{Answer, ok, refuse, wrap}
 use Rattle.semantics.specs.Answer.Laws.{and_then-ok, wrap-ok}
@@ -39,8 +37,8 @@ use Rattle.semantics.specs.Recorded.{edge_lists}
 use Rattle.semantics.specs.Calls.{LinearRequest, linear_outcome, linear_call}
 use Rattle.storage.specs.Index.{node_row, Loaded}
 use Rattle.semantics.specs.declared.replayed.Step.{Step}
-use Rattle.stepping.specs.declared.step.Effect.{Effect}
-use Rattle.stepping.specs.declared.step.Effect.TheVariants.{Done, Refused}
+use Rattle.stepping.specs.Steps.{Effect}
+use Rattle.std.specs.Prelude.{Ok, Err}
 use Rattle.path.specs.Shadows.Laws.{JumpAt}
 use Rattle.stepping.specs.StepWords.{with_step}
 use Rattle.stepping.specs.Judged.{Stepped, begun_of}
@@ -56,9 +54,10 @@ use Rattle.reply.specs.Ends.{Stand}
 use Rattle.reply.specs.Ends.Laws.{stand-lists}
 use Rattle.reply.specs.ResultSlots.{Lists}
 use Rattle.reply.specs.Replies.{reply_of, Replied}
-use Rattle.linear_search.specs.declared.linear.Walked.{Walked}
-use Rattle.linear_search.specs.Walks.{frame_of, setting_of, Walking, Ends, WalkedTo}
+use Rattle.linear_search.specs.Walks.{Walked, frame_of, setting_of, Walking, Ends, WalkedTo}
 use Rattle.linear_search.specs.LinearAnswers.{linear_of, walked_of}
+use Rattle.semantics.specs.PublicAnswers.{LinearResolution, resolved}
+use Rattle.semantics.specs.declared.answer.TurnedBack.{TurnedBack}
 
 -- ---- the definition, from the first push on
 
@@ -90,12 +89,12 @@ module _ {index : List ℕ} {g : Graph} (loaded : Loaded g index) (l : SearchLim
   begun-in = sym (is ∙ ap (λ (f : ℕ → Node). begun_of f n) (nodes-are g index loaded))
 
   -- 10 and 11
-  pub begin-refused : (rs' : List ℕ) (z : PathRefusal) → x ≡ Refused z → Ends (Walked.Refused (Linear.Path z)) rs' (linear_of g q)
+  pub begin-refused : (rs' : List ℕ) (z : PathRefusal) → x ≡ Err z → Ends (Err (Linear.Path z)) rs' (linear_of g q)
   begin-refused rs' z e =
-      subst (λ (y : Answer LinearRefusal (State Path)). Ends (Walked.Refused (Linear.Path z)) rs' y)
+      subst (λ (y : Answer LinearRefusal (State Path)). Ends (Err (Linear.Path z)) rs' y)
       (sym (linear-refused base l.length l (length rs / slot_length) (view_of g) n z (begun-refused (view_of g) (zeros steps_length) empty-room n z (begun-in ∙ e)))) refl
 
-  module _ (s : Step) (e : x ≡ Done s) where
+  module _ (s : Step) (e : x ≡ Ok s) where
     abbrev start : Begun (view_of g) (zeros steps_length) empty-room n s
     start = begun-done (view_of g) (zeros steps_length) empty-room n s (begun-in ∙ e)
 
@@ -204,22 +203,22 @@ module _ (g : Graph) (l : SearchLimits) (rs : List ℕ) (n : ℕ) (u : State Pat
 
 -- ---- the end
 
-over-refused : (st : SearchState) (x : LinearRefusal) → Walked.Over st ≡ Walked.Refused x → ⊥
+over-refused : (st : SearchState) (x : LinearRefusal) → Ok st ≡ Err x → ⊥
 over-refused st x e = let z : ◌≡◌ {A = ℕ} 0 1 = cc in omega arith
 
-ends-over : (d : Walked) (rs : List ℕ) (t : Answer LinearRefusal (State Path)) (st : SearchState) → Ends d rs t → d ≡ Walked.Over st → (u : State Path) × (t ≡ ok u) × Counts st rs u
-ends-over (Walked.Over s) rs (ok u) st h e = let z : s ≡ st = cc in (u, refl, subst (λ (x : SearchState). Counts x rs u) z h)
-ends-over (Walked.Over s) rs (refuse y) st h e = absurd h
-ends-over (Walked.Refused x) rs t st h e = absurd (over-refused st x (sym e))
+ends-over : (d : Walked) (rs : List ℕ) (t : Answer LinearRefusal (State Path)) (st : SearchState) → Ends d rs t → d ≡ Ok st → (u : State Path) × (t ≡ ok u) × Counts st rs u
+ends-over (Ok s) rs (ok u) st h e = let z : s ≡ st = cc in (u, refl, subst (λ (x : SearchState). Counts x rs u) z h)
+ends-over (Ok s) rs (refuse y) st h e = absurd h
+ends-over (Err x) rs t st h e = absurd (over-refused st x (sym e))
 
-ends-refused : (d : Walked) (rs : List ℕ) (t : Answer LinearRefusal (State Path)) (x : LinearRefusal) → Ends d rs t → d ≡ Walked.Refused x → t ≡ refuse x
-ends-refused (Walked.Over s) rs t x h e = absurd (over-refused s x e)
-ends-refused (Walked.Refused y) rs (ok u) x h e = absurd h
-ends-refused (Walked.Refused y) rs (refuse z) x h e = let w : y ≡ x = cc in ap (λ (v : LinearRefusal). refuse v) (sym h ∙ w)
+ends-refused : (d : Walked) (rs : List ℕ) (t : Answer LinearRefusal (State Path)) (x : LinearRefusal) → Ends d rs t → d ≡ Err x → t ≡ refuse x
+ends-refused (Ok s) rs t x h e = absurd (over-refused s x e)
+ends-refused (Err y) rs (ok u) x h e = absurd h
+ends-refused (Err y) rs (refuse z) x h e = let w : y ≡ x = cc in ap (λ (v : LinearRefusal). refuse v) (sym h ∙ w)
 
 module _ {index : List ℕ} (reply : Reply) (l : SearchLimits) (rs : List ℕ) (n : ℕ) {d : Walked} (rs' : List ℕ) (long : length rs' ≡ length rs) {g : Graph} (loaded : Loaded g index)
     (h : Ends d rs' (linear_of g (linear_request_of l rs n))) where
-  module _ (st : SearchState) (e : d ≡ Walked.Over st) where
+  module _ (st : SearchState) (e : d ≡ Ok st) where
     over : (u : State Path) × (linear_of g (linear_request_of l rs n) ≡ ok u) × Counts st rs' u
     over = ends-over d rs' (linear_of g (linear_request_of l rs n)) st h e
 
@@ -230,21 +229,21 @@ module _ {index : List ℕ} (reply : Reply) (l : SearchLimits) (rs : List ℕ) (
     over-lists = stand-lists base (view_of g) (kept-replays g l rs n over.0 over.1) stand
 
     pub over-does : JumpAt (view_of g) → (r : ℕ) (rs'' : List ℕ) → length rs'' ≡ length rs' → Replied index reply st.kept rs' r rs'' → {t : SearchStats} → t ≡ stats_in st
-        → DoesLinear (walked_of g reply (linear_request_of l rs n)) (LinearResolution.Done r t) rs''
+        → DoesLinear (walked_of g reply (linear_request_of l rs n)) (resolved r t) rs''
     unfolding linear_outcome
     over-does j r rs'' k f {t} s =
         let z = f g over.0 loaded j (kept-replays g l rs n over.0 over.1) stand in
         let c : t ≡ figured 0 over.0.stats = s ∙ ap (figured 0) over.2.stats in
-        rw over.1 (ap (λ (m : ℕ). LinearResolution.Done m t) z.count ∙ ap (LinearResolution.Done (length (reply_of reply over.0))) c, z.words ∙ ap (λ (m : ℕ). area slot_length m (edge_lists (reply_of reply over.0))) (k ∙ long))
+        rw over.1 (ap (λ (m : ℕ). resolved m t) z.count ∙ ap (resolved (length (reply_of reply over.0))) c, z.words ∙ ap (λ (m : ℕ). area slot_length m (edge_lists (reply_of reply over.0))) (k ∙ long))
 
-  pub refused-does : (x : LinearRefusal) → d ≡ Walked.Refused x → {rs'' : List ℕ} → rs'' ≡ zeros (length rs') → DoesLinear (walked_of g reply (linear_request_of l rs n)) (LinearResolution.Refused x) rs''
+  pub refused-does : (x : LinearRefusal) → d ≡ Err x → {rs'' : List ℕ} → rs'' ≡ zeros (length rs') → DoesLinear (walked_of g reply (linear_request_of l rs n)) (Err (TurnedBack.Refused x)) rs''
   unfolding linear_outcome
   refused-does x e r = rw (ends-refused d rs' (linear_of g (linear_request_of l rs n)) x h e) (refl, r ∙ ap zeros long)
 
 -- ---- the image
 
 module _ (reply : Reply) (q : LinearRequest) {y : Answer ImageRefusal Graph} where
-  pub image-refused : (x : ImageRefusal) → y ≡ refuse x → {rs : List ℕ} → rs ≡ zeros q.result → DoesLinear (linear_call base (reply_of reply) y q) (LinearResolution.Image x) rs
+  pub image-refused : (x : ImageRefusal) → y ≡ refuse x → {rs : List ℕ} → rs ≡ zeros q.result → DoesLinear (linear_call base (reply_of reply) y q) (Err (TurnedBack.Image x)) rs
   unfolding linear_call
   image-refused x e r = rw e (refl, r)
 

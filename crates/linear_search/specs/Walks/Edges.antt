@@ -2,7 +2,7 @@
 -- Serves document 01, "Answer": "Linear stops at a second appendable edge of one node".
 use Prim.Native.Nat.{ℕ, suc, ◌+◌, ◌-◌, ◌<◌, ◌≤◌}
 use Rattle.std.proofs.Common.{arith, ◌∙◌}
-use Rattle.std.specs.Prelude.{◌≡◌, Bool}
+use Rattle.std.specs.Prelude.{◌≡◌, Bool, Some, None, Ok, Err}
 use Rattle.std.proofs.Math.Path.{refl, sym, ap, subst}
 use Rattle.std.proofs.Math.Logic.{inl}
 use Rattle.std.proofs.Math.Bool.{true, false}
@@ -23,7 +23,6 @@ use Rattle.storage.specs.Index.Use.{runs-end, runs-next, left, left_less, out-bo
 use Rattle.search_state.specs.Items.{Carries}
 use Rattle.search_state.specs.Reps.{Counts, Few}
 use Rattle.linear_search.specs.declared.linear.Expansion.{Expansion}
-use Rattle.linear_search.specs.declared.linear.Pace.{Pace}
 use Rattle.linear_search.specs.Walks.{Frame, frame_of, setting_of, rest_tries, Track, Standing, Walk, judge_of, Paced}
 
 -- an expansion that begins
@@ -111,15 +110,15 @@ module _ {index steps item₀ : List ℕ} {k end : ℕ} {on₀ : Expansion} {rs�
         ∙ answer-is h mid.frame r.0 (q r.0)
 
     module _ (h : 0 < link) (item' rs' : List ℕ) where
-      pub mid-second : Paced looked_ever index steps item k link on rs (mid-walk h) Pace.Second item' rs' → expansion_of ≡ refuse (Linear.MultipleEdges (node_id end))
+      pub mid-second : Paced looked_ever index steps item k link on rs (mid-walk h) (Ok None) item' rs' → expansion_of ≡ refuse (Linear.MultipleEdges (node_id end))
       unfolding mid-walk
       mid-second p = whole h (refuse (Linear.MultipleEdges (node_id v.track.path.end))) (λ ts. p (map (judge_of v.track.graph on₀.state v.track.path) ts)) ∙ ap (λ (i : ℕ). refuse (Linear.MultipleEdges (node_id i))) (sym v.at)
 
-      pub mid-refused : (x : LinearRefusal) → Paced looked_ever index steps item k link on rs (mid-walk h) (Pace.Refused x) item' rs' → expansion_of ≡ refuse x
+      pub mid-refused : (x : LinearRefusal) → Paced looked_ever index steps item k link on rs (mid-walk h) (Err x) item' rs' → expansion_of ≡ refuse x
       unfolding mid-walk
       mid-refused x p = whole h (refuse x) (λ ts. p (map (judge_of v.track.graph on₀.state v.track.path) ts))
 
-      pub mid-again : (n : Expansion) → Paced looked_ever index steps item k link on rs (mid-walk h) (Pace.On n) item' rs' → {link' : ℕ} → link' ≡ next_row index (link - 1) → Mid n item' rs' link'
+      pub mid-again : (n : Expansion) → Paced looked_ever index steps item k link on rs (mid-walk h) (Ok (Some n)) item' rs' → {link' : ℕ} → link' ≡ next_row index (link - 1) → Mid n item' rs' link'
       unfolding mid-walk
       mid-again n p q =
           let r = runs-next index link mid.edges h mid.runs in

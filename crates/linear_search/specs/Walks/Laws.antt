@@ -2,7 +2,7 @@
 -- Serves document 01, "Answer"; 20, 30 and 32 of "Turned back".
 use Prim.Native.Nat.{ℕ, suc, ◌+◌, ◌-◌, ◌<◌, ◌≤◌, ◌^◌}
 use Rattle.std.proofs.Common.{arith, sym, ◌∙◌, inr, ⊎_elim, lt-ltb, le-ltb, ltb→lt}
-use Rattle.std.specs.Prelude.{◌≡◌, Bool, List, [], ◌∷◌, ◌++◌, T, ltb, length, take, drop}
+use Rattle.std.specs.Prelude.{◌≡◌, Bool, List, [], ◌∷◌, ◌++◌, T, ltb, length, take, drop, Option, Some, None, Ok, Err}
 use Rattle.std.proofs.Math.Path.{refl, ap, subst}
 use Rattle.std.proofs.Math.Bool.{true, false}
 use Rattle.semantics.specs.declared.search.SearchStats.{SearchStats}
@@ -23,8 +23,6 @@ use Rattle.stepping.specs.Judged.{Ready, Stepped, judged_of}
 use Rattle.path.specs.Replays.Calls.{from-a-reference, few-edges}
 use Rattle.path_budget.specs.Budget.Laws.{lengthening-limits, lengthening-refused}
 use Rattle.search_state.specs.declared.state.SearchState.{SearchState}
-use Rattle.search_state.specs.declared.state.Recorded.{Recorded}
-use Rattle.search_state.specs.declared.state.Recorded.TheVariants.{Done, Full}
 use Rattle.search_state.specs.Items.{with_edge, Carries}
 use Rattle.search_state.specs.Items.Laws.{carries-edge}
 use Rattle.search_state.specs.Retraces.Laws.{ready_of}
@@ -34,15 +32,14 @@ use Rattle.search_state.specs.Reps.Laws.{Records, record-tells}
 use Rattle.edge_trial.specs.declared.trial.EdgeTrial.{EdgeTrial}
 use Rattle.edge_trial.specs.declared.trial.EdgeTrial.TheVariants.{Cut, Overlong, Rejected, TooLong, Extended}
 use Rattle.linear_search.specs.declared.linear.Expansion.{Expansion}
-use Rattle.linear_search.specs.declared.linear.Pace.{Pace}
 use Rattle.edge_trial.specs.Trials.{trial_by}
 use Rattle.edge_trial.specs.Trials.Laws.{Judged, trial-tells}
 use Rattle.search_state.specs.Runs.{each-one}
-use Rattle.linear_search.specs.Walks.{with_state, frame_of, setting_of, rest_tries, Choosing, Chooses, Chosen, Track, Walk, Goes, Paced}
+use Rattle.linear_search.specs.Walks.{Chose, pace_of, with_state, frame_of, setting_of, rest_tries, Choosing, Chooses, Chosen, Track, Walk, Goes, Paced}
 
 -- ---- recording
 
-pub choose-only : (s : SearchState) (link : ℕ) (rs item : List ℕ) → Chosen s link false rs item (Pace.On (record { state = s; found = link })) rs
+pub choose-only : (s : SearchState) (link : ℕ) (rs item : List ℕ) → Chosen s link false rs item (Ok (record { state = s; found = link })) rs
 unfolding keep
 choose-only s link rs item m q c e = (
   refl,
@@ -53,21 +50,21 @@ choose-only s link rs item m q c e = (
   },
 )
 
-module _ (s : SearchState) (link : ℕ) (rs item : List ℕ) {b : Recorded} {rs' : List ℕ} (is : b ≡ recorded_by s) (w : rs' ≡ result_after s item rs) where
+module _ (s : SearchState) (link : ℕ) (rs item : List ℕ) {b : Option SearchState} {rs' : List ℕ} (is : b ≡ recorded_by s) (w : rs' ≡ result_after s item rs) where
   told : {m : State Path} (q : Path) (c : Counts s rs m) → item ≡ slot_of q → Records (setting_of (frame_of s)) Linear.NoResultSlot refl refl c q b rs' (keep true (setting_of (frame_of s)) m q)
   told {m} q c e = record-tells (setting_of (frame_of s)) Linear.NoResultSlot refl refl c q is (w ∙ ap (λ (i : List ℕ). result_after s i rs) e)
 
-  pub choose-kept : (n : SearchState) → b ≡ Done n → Chosen s link true rs item (Pace.On (record { state = n; found = link })) rs'
-  choose-kept n d m q c e = on (keep true (setting_of (frame_of s)) m q) (subst (λ (y : Recorded). Records (setting_of (frame_of s)) Linear.NoResultSlot refl refl c q y rs' (keep true (setting_of (frame_of s)) m q)) d (told q c e))
+  pub choose-kept : (n : SearchState) → b ≡ Some n → Chosen s link true rs item (Ok (record { state = n; found = link })) rs'
+  choose-kept n d m q c e = on (keep true (setting_of (frame_of s)) m q) (subst (λ (y : Option SearchState). Records (setting_of (frame_of s)) Linear.NoResultSlot refl refl c q y rs' (keep true (setting_of (frame_of s)) m q)) d (told q c e))
     where
-      on : (t : Answer LinearRefusal (State Path)) → Records (setting_of (frame_of s)) Linear.NoResultSlot refl refl c q (Done n) rs' t → Chooses s link m (Pace.On (record { state = n; found = link })) rs' t
+      on : (t : Answer LinearRefusal (State Path)) → Records (setting_of (frame_of s)) Linear.NoResultSlot refl refl c q (Some n) rs' t → Chooses s link m (Ok (record { state = n; found = link })) rs' t
       on (ok u) h = (refl, h)
       on (refuse y) h = absurd h
 
-  pub choose-full : b ≡ Full → Chosen s link true rs item (Pace.Refused Linear.NoResultSlot) rs'
-  choose-full d m q c e = on (keep true (setting_of (frame_of s)) m q) (subst (λ (y : Recorded). Records (setting_of (frame_of s)) Linear.NoResultSlot refl refl c q y rs' (keep true (setting_of (frame_of s)) m q)) d (told q c e))
+  pub choose-full : b ≡ None → Chosen s link true rs item (Err Linear.NoResultSlot) rs'
+  choose-full d m q c e = on (keep true (setting_of (frame_of s)) m q) (subst (λ (y : Option SearchState). Records (setting_of (frame_of s)) Linear.NoResultSlot refl refl c q y rs' (keep true (setting_of (frame_of s)) m q)) d (told q c e))
     where
-      on : (t : Answer LinearRefusal (State Path)) → Records (setting_of (frame_of s)) Linear.NoResultSlot refl refl c q Full rs' t → Chooses s link m (Pace.Refused Linear.NoResultSlot) rs' t
+      on : (t : Answer LinearRefusal (State Path)) → Records (setting_of (frame_of s)) Linear.NoResultSlot refl refl c q None rs' t → Chooses s link m (Err Linear.NoResultSlot) rs' t
       on (ok u) h = absurd h
       on (refuse y) h = sym h
 
@@ -146,7 +143,7 @@ module _ {most : ℕ} {index steps item : List ℕ} {k link : ℕ} {on : Expansi
 
   -- ---- the edge is counted, and nothing else
 
-  pub paced-cut : Says Cut → {w : Expansion} → w ≡ with_state (cut_one on.state) on → Paced most index steps item k link on rs v (Pace.On w) item rs
+  pub paced-cut : Says Cut → {w : Expansion} → w ≡ with_state (cut_one on.state) on → Paced most index steps item k link on rs v (Ok (Some w)) item rs
   unfolding one judged
   paced-cut j q = subst (λ (x : Expansion). Goes most index steps item k link on rs v x item rs) (sym q) (record {
     state = with_stats looked (add_cycle v.model.stats);
@@ -161,7 +158,7 @@ module _ {most : ℕ} {index steps item : List ℕ} {k link : ℕ} {on : Expansi
     onward = λ ts. rw j (pass-cut (setting_of (frame_of on.state)) v.model (with_stats looked (add_cycle v.model.stats)) v.track.path.end ts (ltb 0 on.found) refl);
   })
 
-  pub paced-rejected : Says Rejected → {w : Expansion} → w ≡ with_state (rejected_one on.state) on → Paced most index steps item k link on rs v (Pace.On w) item rs
+  pub paced-rejected : Says Rejected → {w : Expansion} → w ≡ with_state (rejected_one on.state) on → Paced most index steps item k link on rs v (Ok (Some w)) item rs
   unfolding one judged
   paced-rejected j q = subst (λ (x : Expansion). Goes most index steps item k link on rs v x item rs) (sym q) (record {
     state = with_stats looked (add_rejected v.model.stats);
@@ -176,7 +173,7 @@ module _ {most : ℕ} {index steps item : List ℕ} {k link : ℕ} {on : Expansi
     onward = λ ts. rw j (pass-reject (setting_of (frame_of on.state)) v.model (with_stats looked (add_rejected v.model.stats)) v.track.path.end ts (ltb 0 on.found) refl);
   })
 
-  pub paced-overlong : Says Overlong → {w : Expansion} → w ≡ with_state (overlong_by (k + 1) on.state) on → Paced most index steps item k link on rs v (Pace.On w) item rs
+  pub paced-overlong : Says Overlong → {w : Expansion} → w ≡ with_state (overlong_by (k + 1) on.state) on → Paced most index steps item k link on rs v (Ok (Some w)) item rs
   unfolding one judged
   paced-overlong j q =
       let n : suc (length v.track.path.edges) ≡ k + 1 = omega (arith, v.track.count) in
@@ -194,12 +191,12 @@ module _ {most : ℕ} {index steps item : List ℕ} {k link : ℕ} {on : Expansi
         onward = λ ts. rw j.0 (pass-overlong (setting_of (frame_of on.state)) v.model (with_tally (with_stats looked (flag_length v.model.stats)) (add_overlong looked.tally)) v.track.path.end ts (ltb 0 on.found) refl);
       })
 
-  pub paced-bound : Says TooLong → (item' rs' : List ℕ) → Paced most index steps item k link on rs v (Pace.Refused Linear.TooLong) item' rs'
+  pub paced-bound : Says TooLong → (item' rs' : List ℕ) → Paced most index steps item k link on rs v (Err Linear.TooLong) item' rs'
   paced-bound j item' rs' ts = rw j (stop-any (setting_of (frame_of on.state)) v.model v.track.path.end ts Linear.TooLong (ltb 0 on.found))
 
   -- ---- the edge can be appended
   module _ (b : Bool) (j : Says (Extended b)) where
-    pub paced-second : 0 < on.found → (item' rs' : List ℕ) → Paced most index steps item k link on rs v Pace.Second item' rs'
+    pub paced-second : 0 < on.found → (item' rs' : List ℕ) → Paced most index steps item k link on rs v (Ok None) item' rs'
     paced-second h item' rs' ts = rw (j.1, lt-ltb 0 on.found h) (stop-second (setting_of (frame_of on.state)) v.model v.track.path.end ts b j.0)
 
     pub paced-short : k < max_edges
@@ -230,14 +227,14 @@ module _ {most : ℕ} {index steps item : List ℕ} {k link : ℕ} {on : Expansi
     keep-expanded : (u : State Path) → keep b (setting_of (frame_of on.state)) looked j.0 ≡ ok u → u.stats.expanded ≡ v.model.stats.expanded
     keep-expanded u e = (one-moved (setting_of (frame_of on.state)) v.model (with_pending j.0 u) (go b j.0) (chosen-one u e)).expansions
 
-    pub paced-chosen : on.found ≤ 0 → {item' : List ℕ} → item' ≡ with_edge item k (link - 1) → (a : Pace) (rs' : List ℕ) → Chosen on.state link b rs item' a rs' → Paced most index steps item k link on rs v a item' rs'
+    pub paced-chosen : on.found ≤ 0 → {item' : List ℕ} → item' ≡ with_edge item k (link - 1) → (a : Chose) (rs' : List ℕ) → Chosen on.state link b rs item' a rs' → Paced most index steps item k link on rs v (pace_of a) item' rs'
     paced-chosen h {item'} q a rs' c = on' a (keep b (setting_of (frame_of on.state)) looked j.0) refl (c looked j.0 looked-counts (q ∙ grown))
       where
         z : ltb 0 on.found ≡ false
         z = le-ltb 0 on.found h
 
-        on' : (a : Pace) (t : Answer LinearRefusal (State Path)) → keep b (setting_of (frame_of on.state)) looked j.0 ≡ t → Chooses on.state link looked a rs' t → Paced most index steps item k link on rs v a item' rs'
-        on' (Pace.On n) (ok u) e x = record {
+        on' : (a : Chose) (t : Answer LinearRefusal (State Path)) → keep b (setting_of (frame_of on.state)) looked j.0 ≡ t → Chooses on.state link looked a rs' t → Paced most index steps item k link on rs v (pace_of a) item' rs'
+        on' (Ok n) (ok u) e x = record {
           state = with_pending j.0 u;
           counted = record { stats = x.1.counts.stats; kept = x.1.counts.kept; fits = x.1.counts.fits; room = x.1.counts.room; words = x.1.counts.words };
           fewer = subst (λ (i : ℕ). Few i u.stats) (ap (λ (i : Tally). i.looked) (sym x.1.same.tally)) (x.1.few v.model.tally.looked v.few);
@@ -249,7 +246,6 @@ module _ {most : ℕ} {index steps item : List ℕ} {k link : ℕ} {on : Expansi
           expanded = ap (λ (i : SearchStats). i.expanded) x.1.counts.stats ∙ keep-expanded u e ∙ sym (ap (λ (i : SearchStats). i.expanded) v.counts.stats);
           onward = λ ts. rw (j.1, z, ap (λ (i : ℕ). ltb 0 i) x.0 ∙ lt-ltb 0 link v.linked) (pass-first (setting_of (frame_of on.state)) v.model (with_pending j.0 u) v.track.path.end ts b j.0 (chosen-one u e));
         }
-        on' (Pace.On n) (refuse y) e x = absurd x
-        on' Pace.Second t e x = absurd x
-        on' (Pace.Refused y) (ok u) e x = absurd x
-        on' (Pace.Refused y) (refuse r) e x = λ ts. rw (j.1, z) (stop-kept (setting_of (frame_of on.state)) v.model v.track.path.end ts b j.0 y (refused-one y (e ∙ ap (λ (i : LinearRefusal). refuse i) (sym x))))
+        on' (Ok n) (refuse y) e x = absurd x
+        on' (Err y) (ok u) e x = absurd x
+        on' (Err y) (refuse r) e x = λ ts. rw (j.1, z) (stop-kept (setting_of (frame_of on.state)) v.model v.track.path.end ts b j.0 y (refused-one y (e ∙ ap (λ (i : LinearRefusal). refuse i) (sym x))))

@@ -1,6 +1,6 @@
 -- The expansions of a linear search: the run from here is the run from the start.
 -- Serves document 01, "Answer" and "Budget and frontier".
-use Rattle.std.specs.Prelude.{ℕ, ◌+◌, ◌-◌, ◌*◌, ◌<◌, ◌≤◌, ◌≡◌, Bool, true, false, T, ltb}
+use Rattle.std.specs.Prelude.{ℕ, ◌+◌, ◌-◌, ◌*◌, ◌<◌, ◌≤◌, ◌≡◌, Bool, true, false, T, ltb, Ok, Err}
 use Rattle.std.proofs.Common.{arith, sym, ◌∙◌, ltb→lt}
 use Rattle.std.proofs.Math.Path.{refl, ap, ap₂, subst}
 use Rattle.std.proofs.Math.Logic.{⊎_elim}
@@ -8,11 +8,10 @@ use mathlib.Core.List.{List, [], ◌∷◌, ◌++◌}
 use Rattle.std.proofs.Math.ListN.{length}
 use Rattle.semantics.specs.ReplayedPaths.{step_at}
 use Rattle.semantics.specs.declared.search.SearchStats.{SearchStats}
-use Rattle.semantics.specs.declared.search.Limit.{Limit}
 use Rattle.semantics.specs.declared.refusal.PathRefusal.{PathRefusal}
 use Rattle.semantics.specs.declared.refusal.ReplayRefusal.TheVariants as Replay
 use Rattle.semantics.specs.declared.refusal.LinearRefusal.{LinearRefusal}
-use Rattle.semantics.specs.Limits.{base, below, max_expansions, max_edges, step_length, slot_length}
+use Rattle.semantics.specs.Limits.{base, below, max_expansions, max_edges, step_length, slot_length, Limit}
 use Rattle.semantics.specs.Answer.{Answer, ok, refuse, wrap}
 use Rattle.semantics.specs.Answer.Laws.{ok-inj, ok-refuse}
 use Rattle.semantics.specs.Graph.{view_of}
@@ -21,8 +20,8 @@ use Rattle.semantics.proofs.Theorems.Path.Laws.{append-ok, append_under-is, repl
 use Rattle.semantics.specs.Enumeration.{State, Try, expand, each, turn, popped, admit, run, merge, add_expanded, flag_count}
 use Rattle.semantics.specs.Linear.{only_tries}
 use Rattle.storage.specs.Index.{node_row, edge_row}
-use Rattle.stepping.specs.declared.step.Effect.{Effect}
-use Rattle.stepping.specs.declared.step.Effect.TheVariants.{Done, Refused}
+use Rattle.stepping.specs.Steps.{Effect}
+use Rattle.std.specs.Prelude.{Ok, Err}
 use Rattle.stepping.specs.StepWords.{with_step}
 use Rattle.stepping.specs.Judged.{Ready, Stepped, judged_of}
 use Rattle.stepping.specs.Judged.Remaking.{Accepted}
@@ -37,7 +36,6 @@ use Rattle.search_state.specs.Retraces.Laws.{ready_of, effect-done, effect-refus
 use Rattle.search_state.specs.States.{with_budget}
 use Rattle.search_state.specs.Reps.{slot_of, Counts, Few, Replayed}
 use Rattle.linear_search.specs.declared.linear.Expansion.{Expansion}
-use Rattle.linear_search.specs.declared.linear.Walked.{Walked}
 use Rattle.search_state.specs.Runs.{run-over, run-round, run-refused}
 use Rattle.linear_search.specs.Walks.{Frame, frame_of, setting_of, Standing, Walking, Ends, run_of, WalkedTo}
 use Rattle.linear_search.specs.Walks.Edges.{Opening, expansion_of, Mid, mid-end}
@@ -105,7 +103,7 @@ module _ {index steps₀ item₀ : List ℕ} {s₀ : SearchState} {rs₀ : List 
           ap (popped (setting_of (frame_of s₀)) t.model) t.waits
           ∙ ap (λ (x : Bool). admit x t.model t.path []) (ap₂ (λ (x : ℕ) (y : Limit). below x y) (ap (λ (z : SearchStats). z.expanded) (sym t.counts.stats)) (ap (λ (f : Frame). f.limits.expansions) (sym t.frame)) ∙ below-is e)
 
-      pub turn-over : a.allowed ≡ false → WalkedTo index steps₀ item₀ s₀ rs₀ v (Walked.Over n) rs
+      pub turn-over : a.allowed ≡ false → WalkedTo index steps₀ item₀ s₀ rs₀ v (Ok n) rs
       unfolding admit
       turn-over e =
           let u : State Path = record { rest = []; pending = []; kept = t.model.kept; stats = flag_count t.model.stats; tally = t.model.tally } in
@@ -117,7 +115,7 @@ module _ {index steps₀ item₀ : List ℕ} {s₀ : SearchState} {rs₀ : List 
             room = t.counts.room;
             words = t.counts.words;
           } in
-          subst (λ (y : Answer LinearRefusal (State Path)). Ends (Walked.Over n) rs y) (sym (sym t.same ∙ w)) (subst (λ (x : SearchState). Counts x rs u) (sym next-is) c)
+          subst (λ (y : Answer LinearRefusal (State Path)). Ends (Ok n) rs y) (sym (sym t.same ∙ w)) (subst (λ (x : SearchState). Counts x rs u) (sym next-is) c)
 
       module _ (yes : a.allowed ≡ true) where
         abbrev opened : State Path
@@ -173,11 +171,11 @@ module _ {index steps₀ item₀ : List ℕ} {s₀ : SearchState} {rs₀ : List 
           unfolding turn-opening
           expansion-is {x} h = subst (λ (f : Frame). E f ≡ x) frame-next h
 
-          pub turn-refused : (x : LinearRefusal) → expansion_of (turn-opening at) ≡ refuse x → (rs' : List ℕ) → WalkedTo index steps₀ item₀ s₀ rs₀ v (Walked.Refused x) rs'
+          pub turn-refused : (x : LinearRefusal) → expansion_of (turn-opening at) ≡ refuse x → (rs' : List ℕ) → WalkedTo index steps₀ item₀ s₀ rs₀ v (Err x) rs'
           turn-refused x h rs' =
               let l = turn-short in
               let w = run-refused (setting_of (frame_of s₀)) (tries_of (frame_of s₀)) (max_expansions - k) t.model t.path opened x opens (omega (arith, l)) (expansion-is h) in
-              subst (λ (y : Answer LinearRefusal (State Path)). Ends (Walked.Refused x) rs' y) (sym (sym t.same ∙ w)) refl
+              subst (λ (y : Answer LinearRefusal (State Path)). Ends (Err x) rs' y) (sym (sym t.same ∙ w)) refl
 
           module _ {on : Expansion} {item' rs' : List ℕ} {link : ℕ} (mid : Mid (turn-opening at) on item' rs' link) (none : link ≤ 0) where
             done : run_from (frame_of s₀) (max_expansions - k - 1) (merge (setting_of (frame_of s₀)).order mid.state) ≡ run_of index steps₀ item₀ s₀ rs₀ v
@@ -191,14 +189,14 @@ module _ {index steps₀ item₀ : List ℕ} {s₀ : SearchState} {rs₀ : List 
             stands_here = mid.stands
 
             -- no edge was appended
-            pub turn-none : on.found ≤ 0 → WalkedTo index steps₀ item₀ s₀ rs₀ v (Walked.Over on.state) rs'
+            pub turn-none : on.found ≤ 0 → WalkedTo index steps₀ item₀ s₀ rs₀ v (Ok on.state) rs'
             unfolding merge turn popped
             turn-none h =
                 let p : mid.state.pending ≡ [] = ⊎_elim (λ (x : (on.found ≡ 0) × (mid.state.pending ≡ [])). x.1) (λ (x : (0 < on.found) × (q : Path) × (mid.state.pending ≡ q ∷ []) × (append (view_of v.graph) t.path (on.found - 1) ≡ ok q) × (item' ≡ slot_of q) × (ltb (length t.path.edges) max_edges ≡ true)). absurd (omega (arith, h, x.0))) stands_here in
                 let m = merge (setting_of (frame_of s₀)).order mid.state in
                 let e : m.rest ≡ [] = ap₂ (λ (x y : List Path). x ++ y) mid.rest p in
                 let w = run-over (setting_of (frame_of s₀)) (tries_of (frame_of s₀)) (max_expansions - k - 1) m m (ap (popped (setting_of (frame_of s₀)) m) e) in
-                subst (λ (y : Answer LinearRefusal (State Path)). Ends (Walked.Over on.state) rs' y) (sym (sym done ∙ w)) (record { stats = mid.counted.stats; kept = mid.counted.kept; fits = mid.counted.fits; room = mid.counted.room; words = mid.counted.words })
+                subst (λ (y : Answer LinearRefusal (State Path)). Ends (Ok on.state) rs' y) (sym (sym done ∙ w)) (record { stats = mid.counted.stats; kept = mid.counted.kept; fits = mid.counted.fits; room = mid.counted.room; words = mid.counted.words })
 
             module _ (some : 0 < on.found) where
               next : (q : Path) × (mid.state.pending ≡ q ∷ []) × (append (view_of v.graph) t.path (on.found - 1) ≡ ok q) × (item' ≡ slot_of q) × (ltb (length t.path.edges) max_edges ≡ true)
@@ -215,8 +213,8 @@ module _ {index steps₀ item₀ : List ℕ} {s₀ : SearchState} {rs₀ : List 
               turn-accepted = told (judged_of (node_row index) steps k (on.found - 1) (edge_row index (on.found - 1))) refl
                 where
                   told : (x : Effect) → judged_of (node_row index) steps k (on.found - 1) (edge_row index (on.found - 1)) ≡ x → Accepted index steps k (on.found - 1)
-                  told (Done s) h = record { step = s; judged = h }
-                  told (Refused z) h = absurd (ok-refuse z next.0 (sym next.2 ∙ effect-refused v.loaded t.stepped turn-room (on.found - 1) (sym h) z refl))
+                  told (Ok s) h = record { step = s; judged = h }
+                  told (Err z) h = absurd (ok-refuse z next.0 (sym next.2 ∙ effect-refused v.loaded t.stepped turn-room (on.found - 1) (sym h) z refl))
 
               pub turn-again : (a : Accepted index steps k (on.found - 1)) {steps' : List ℕ} → steps' ≡ with_step steps (k + 1) a.step → Turning on.state (k + 1) steps' item' rs'
               unfolding merge turn-opening

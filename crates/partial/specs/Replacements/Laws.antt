@@ -2,7 +2,7 @@
 -- Serves document 01, "Partial paths"; 21, 33, 34 and 35 of "Turned back"; document 02, order 5.
 use Prim.Native.Nat.{ℕ, ◌+◌, ◌-◌, ◌/◌, ◌<◌, ◌≤◌, ◌^◌}
 use Rattle.std.proofs.Common.{arith, ◌∙◌, ⊎_elim}
-use Rattle.std.specs.Prelude.{◌≡◌, Bool, true, leb}
+use Rattle.std.specs.Prelude.{◌≡◌, Bool, true, leb, Option, Some, None, Result, Ok, Err}
 use Rattle.std.proofs.Math.Path.{refl, sym, ap, subst}
 use Rattle.std.proofs.Math.Bool.{false}
 use mathlib.Core.List.Memᴰ
@@ -12,16 +12,14 @@ use Rattle.std.proofs.Math.Dec.{eqb}
 use Rattle.std.proofs.Math.ListN.{length, take}
 use Rattle.semantics.specs.Entries.{Changes, Leaves}
 use Rattle.semantics.specs.declared.graph.FileId.{FileId}
-use Rattle.semantics.specs.declared.search.Limit.{Limit}
 use Rattle.semantics.specs.declared.search.SearchStats.{SearchStats}
 use Rattle.semantics.specs.declared.search.PartialPathStats.{PartialPathStats}
 use Rattle.semantics.specs.declared.refusal.ImageRefusal.{ImageRefusal}
 use Rattle.semantics.specs.declared.refusal.DatabaseRefusal.{DatabaseRefusal}
 use Rattle.semantics.specs.declared.refusal.PartialPathRefusal.{PartialPathRefusal}
 use Rattle.semantics.specs.declared.refusal.PartialPathRefusal.TheVariants.{UnknownFile}
-use Rattle.semantics.specs.declared.answer.Replacement.{Replacement}
 use Rattle.semantics.specs.Lists.{pick}
-use Rattle.semantics.specs.Limits.{Bounds, base, slot_length, max_expansions, nobody}
+use Rattle.semantics.specs.Limits.{Bounds, base, slot_length, max_expansions, nobody, Limit}
 use Rattle.semantics.specs.Answer.{Answer, ok, refuse}
 use Rattle.semantics.specs.Answer.Laws.{ok-inj, refuse-ok, and_then-ok}
 use Rattle.semantics.specs.Graph.{file_id, Graph, view_of}
@@ -35,7 +33,6 @@ use Rattle.semantics.specs.Database.{used_in, capacity, record_place, known_owne
 use Rattle.semantics.specs.Calls.{FileRequest, file_setting_of, filing_outcome, computation_outcome, replacement_outcome, alias_outcome, replace_call, alias_call}
 use Rattle.storage.specs.Index.{Loaded}
 use Rattle.path_frontier.specs.Frontier.Stands.{stands-blank}
-use Rattle.database.specs.declared.check.Inspected.{Inspected}
 use Rattle.database.specs.Checks.{inspected}
 use Rattle.database.specs.Checks.Laws.{capacity-most, capacity-fits, formed-used, formed-whole, inspected-refused, inspected-sound}
 use Rattle.database.specs.Records.{Whole}
@@ -51,14 +48,12 @@ use Rattle.path_frontier.specs.Frontier.{short_slot}
 use Rattle.partial_state.specs.Extractions.{Computation, Course, goes, stops, new_computation}
 use Rattle.partial_state.specs.Reps.{frame_of, setting_of, Rep, Untouched, Tells}
 use Rattle.partial_state.specs.Reps.Laws.{tells-on, tells-refused}
-use Rattle.partial.specs.declared.compute.Computed.{Computed}
-use Rattle.partial.specs.declared.compute.Computed.TheVariants.{Done, Refused}
-use Rattle.partial.specs.declared.replace.Owner.{Owner}
-use Rattle.partial.specs.declared.replace.Owner.TheVariants.{File, Nobody}
-use Rattle.partial.specs.declared.replace.Sizes.{Sizes}
+use Rattle.semantics.specs.declared.answer.Counts.{Counts}
 use Rattle.partial.specs.Rounds.{Driving, Ends, run_from, DrivenTo}
 use Rattle.partial_trial.specs.Seeds.{starts_of, Seeding, Seeded}
 use Rattle.partial.specs.Replacements.{asked_by, number_of, routes_of, Computing, ComputedTo, FiledTo, Storing, Few, Replacing, computed_on, replaced_on, inspected_on, call_for}
+use Rattle.semantics.specs.PublicAnswers.{Replacement}
+use Rattle.semantics.specs.declared.answer.ReplacementRefusal.{ReplacementRefusal}
 
 -- ---- seeding counts nothing
 
@@ -135,10 +130,10 @@ module _ {index : List ℕ} {g : Graph} (loaded : Loaded g index) (f : Filing) (
     unfolding begins
     told = subst (λ (y : Computation). Tells (view_of g) f db (frame_of y) a ws' db (Enumeration.seed (setting_of (frame_of y)) blank (starts_of g f.file))) made s
 
-    pub compute-refused : (y : PartialPathRefusal) → a ≡ stops y → Ends f db (Refused y) db (routes_of g asks)
+    pub compute-refused : (y : PartialPathRefusal) → a ≡ stops y → Ends f db (Err y) db (routes_of g asks)
     compute-refused y e =
         let u = tells-refused (view_of g) f db (frame_of fresh) a ws' db seeds y told e in
-        subst (λ (t : Answer PartialPathRefusal (State Route)). Ends f db (Refused y) db t) (sym (routes-refused base c.length (file_setting_of base asks) g f.file y u.0)) (refl, λ q. refl)
+        subst (λ (t : Answer PartialPathRefusal (State Route)). Ends f db (Err y) db t) (sym (routes-refused base c.length (file_setting_of base asks) g f.file y u.0)) (refl, λ q. refl)
 
     module _ (on : Computation) (e : a ≡ goes on) where
       begun : (m : State Route) × (seeds ≡ ok m) × (frame_of on ≡ frame_of fresh) × Rep (view_of g) f db on ws' db m
@@ -157,7 +152,7 @@ module _ {index : List ℕ} {g : Graph} (loaded : Loaded g index) (f : Filing) (
           let q = (seed-quiet (file_setting_of base asks) blank u.0 (starts_of g f.file) u.1).0 in
           record { graph = g; loaded = loaded; origin = db; slot = l; fits = h; model = u.0; rep = u.3; looked = omega (arith, q); expanded = omega (arith, z) }
 
-      pub compute-ends : (item' : List ℕ) (l : length item' ≡ slot_length) (h : Fits f db) (r : Computed) (db' : List ℕ) → DrivenTo index f item' on ws' db (drives item' l h) r db' → Ends f db r db' (routes_of g asks)
+      pub compute-ends : (item' : List ℕ) (l : length item' ≡ slot_length) (h : Fits f db) (r : Result PartialPathStats PartialPathRefusal) (db' : List ℕ) → DrivenTo index f item' on ws' db (drives item' l h) r db' → Ends f db r db' (routes_of g asks)
       unfolding drives
       compute-ends item' l h r db' d =
           let u = begun in
@@ -169,39 +164,39 @@ module _ {index : List ℕ} {g : Graph} (loaded : Loaded g index) (f : Filing) (
 
 -- ---- what an answer says
 
-done_refused : (s : PartialPathStats) (r : PartialPathRefusal) → Done s ≡ Refused r → ⊥
+done_refused : (s : PartialPathStats) (r : PartialPathRefusal) → ◌≡◌ {A = Result PartialPathStats PartialPathRefusal} (Ok s) (Err r) → ⊥
 done_refused s r e = let z : ◌≡◌ {A = ℕ} 0 1 = cc in omega arith
 
 module _ (f : Filing) (db db' : List ℕ) where
   -- a computation that is not refused files what it found
-  ends-filed : (a : Computed) (t : Answer PartialPathRefusal (State Route)) (u : State Route) → Ends f db a db' t → t ≡ ok u → db' ≡ filed_in f u.kept db
-  ends-filed (Done s) (ok m) u h e = let z = ok-inj m u e in h.1 ∙ ap (λ (y : State Route). filed_in f y.kept db) z
-  ends-filed (Done s) (refuse r) u h e = absurd (refuse-ok r u e)
-  ends-filed (Refused r) (ok m) u h e = absurd h
-  ends-filed (Refused r) (refuse y) u h e = absurd (refuse-ok y u e)
+  ends-filed : (a : Result PartialPathStats PartialPathRefusal) (t : Answer PartialPathRefusal (State Route)) (u : State Route) → Ends f db a db' t → t ≡ ok u → db' ≡ filed_in f u.kept db
+  ends-filed (Ok s) (ok m) u h e = let z = ok-inj m u e in h.1 ∙ ap (λ (y : State Route). filed_in f y.kept db) z
+  ends-filed (Ok s) (refuse r) u h e = absurd (refuse-ok r u e)
+  ends-filed (Err r) (ok m) u h e = absurd h
+  ends-filed (Err r) (refuse y) u h e = absurd (refuse-ok y u e)
 
-  ends-refused : (a : Computed) (t : Answer PartialPathRefusal (State Route)) (r : PartialPathRefusal) → Ends f db a db' t → a ≡ Refused r → (t ≡ refuse r) × Untouched f db db'
-  ends-refused (Done s) t r h e = absurd (done_refused s r e)
-  ends-refused (Refused y) (ok m) r h e = absurd h
-  ends-refused (Refused y) (refuse z) r h e = let w : y ≡ r = cc in (ap (λ (k : PartialPathRefusal). refuse k) (sym h.0 ∙ w), h.1)
+  ends-refused : (a : Result PartialPathStats PartialPathRefusal) (t : Answer PartialPathRefusal (State Route)) (r : PartialPathRefusal) → Ends f db a db' t → a ≡ Err r → (t ≡ refuse r) × Untouched f db db'
+  ends-refused (Ok s) t r h e = absurd (done_refused s r e)
+  ends-refused (Err y) (ok m) r h e = absurd h
+  ends-refused (Err y) (refuse z) r h e = let w : y ≡ r = cc in (ap (λ (k : PartialPathRefusal). refuse k) (sym h.0 ∙ w), h.1)
 
   -- without room the counts are those of the whole
-  ends-done : f.room ≡ 0 → (a : Computed) (t : Answer PartialPathRefusal (State Route)) (s : PartialPathStats) → Ends f db a db' t → a ≡ Done s → (u : State Route) × (t ≡ ok u) × (s ≡ partial_stats u) × (s.found ≡ length u.kept) × (db' ≡ filed_in f u.kept db)
-  ends-done none (Done y) (ok m) s h e = let z : y ≡ s = cc in let k = h.0 none in (m, refl, sym z ∙ k.0, ap (λ (x : PartialPathStats). x.found) (sym z) ∙ k.1, h.1)
-  ends-done none (Done y) (refuse r) s h e = absurd (omega (arith, h, none))
-  ends-done none (Refused r) t s h e = absurd (done_refused s r (sym e))
+  ends-done : f.room ≡ 0 → (a : Result PartialPathStats PartialPathRefusal) (t : Answer PartialPathRefusal (State Route)) (s : PartialPathStats) → Ends f db a db' t → a ≡ Ok s → (u : State Route) × (t ≡ ok u) × (s ≡ partial_stats u) × (s.found ≡ length u.kept) × (db' ≡ filed_in f u.kept db)
+  ends-done none (Ok y) (ok m) s h e = let z : y ≡ s = cc in let k = h.0 none in (m, refl, sym z ∙ k.0, ap (λ (x : PartialPathStats). x.found) (sym z) ∙ k.1, h.1)
+  ends-done none (Ok y) (refuse r) s h e = absurd (omega (arith, h, none))
+  ends-done none (Err r) t s h e = absurd (done_refused s r (sym e))
 
 -- ---- the found paths filed
 
 module _ (index : List ℕ) (nodes : ℕ) (f : Filing) (c : Config) (ws db : List ℕ) where
-  pub filed-by : (a : Computed) (db' : List ℕ) → ComputedTo index nodes f c ws db a db' → FiledTo index nodes f c ws db db'
+  pub filed-by : (a : Result PartialPathStats PartialPathRefusal) (db' : List ℕ) → ComputedTo index nodes f c ws db a db' → FiledTo index nodes f c ws db db'
   filed-by a db' h g loaded counted u e = ends-filed f db db' a (routes_of g (asked_by c ws f.file)) u (h g loaded counted) e
 
   -- without room no computation is needed
   pub filed-without : f.room ≡ 0 → FiledTo index nodes f c ws db db
   filed-without z g loaded counted u e = sym (filed-nowhere f u.kept db z)
 
-module _ {index : List ℕ} {n : Sizes} {f : Filing} {c : Config} {ws db : List ℕ} (v : Storing index n f c ws db) where
+module _ {index : List ℕ} {n : Counts} {f : Filing} {c : Config} {ws db : List ℕ} (v : Storing index n f c ws db) where
   pub store-clears : Whole base db
   store-clears = omega (arith, v.first, v.fits.inside)
 
@@ -233,7 +228,7 @@ module _ {index : List ℕ} {n : Sizes} {f : Filing} {c : Config} {ws db : List 
 abbrev pub filing_of : ℕ → ℕ → ℕ → Filing
 filing_of file first room = record { file = file; first = first; room = room }
 
-module _ {index : List ℕ} {n : Sizes} (owner : ℕ) (c : Config) (ws : List ℕ) {db : List ℕ} (v : Replacing index n db) (named : owner + 1 < 2 ^ 32) {first : ℕ} (used : first ≡ used_in db) where
+module _ {index : List ℕ} {n : Counts} (owner : ℕ) (c : Config) (ws : List ℕ) {db : List ℕ} (v : Replacing index n db) (named : owner + 1 < 2 ^ 32) {first : ℕ} (used : first ≡ used_in db) where
   abbrev q : FileRequest
   q = asked_by c ws owner
 
@@ -243,15 +238,15 @@ module _ {index : List ℕ} {n : Sizes} (owner : ℕ) (c : Config) (ws : List �
     fits = record { inside = let h = capacity-fits base db (used_in db) v.long v.used in omega (arith, h, used); named = named };
   }
 
-  module _ (a : Computed) (db₁ : List ℕ) (h : ComputedTo index n.nodes (filing_of owner first 0) c ws db a db₁) where
+  module _ (a : Result PartialPathStats PartialPathRefusal) (db₁ : List ℕ) (h : ComputedTo index n.nodes (filing_of owner first 0) c ws db a db₁) where
     ends : Ends (filing_of owner first 0) db a db₁ (routes_of v.sized.holds.graph q)
     ends = h v.sized.holds.graph v.sized.holds.loaded v.sized.node-count
 
-    pub replaced-refused : (r : PartialPathRefusal) → a ≡ Refused r → Leaves (computed_on v.sized.holds.graph q db) (Replacement.Refused r) db₁
+    pub replaced-refused : (r : PartialPathRefusal) → a ≡ Err r → Leaves (computed_on v.sized.holds.graph q db) (Err (ReplacementRefusal.Refused r)) db₁
     unfolding computation_outcome
     replaced-refused r e = let u = ends-refused (filing_of owner first 0) db db₁ a (routes_of v.sized.holds.graph q) r ends e in rw u.0 (refl, u.1 refl)
 
-    module _ (s : PartialPathStats) (e : a ≡ Done s) where
+    module _ (s : PartialPathStats) (e : a ≡ Ok s) where
       counted : (u : State Route) × (routes_of v.sized.holds.graph q ≡ ok u) × (s ≡ partial_stats u) × (s.found ≡ length u.kept) × (db₁ ≡ filed_in (filing_of owner first 0) u.kept db)
       counted = ends-done (filing_of owner first 0) db db₁ refl a (routes_of v.sized.holds.graph q) s ends e
 
@@ -269,7 +264,7 @@ module _ {index : List ℕ} {n : Sizes} (owner : ℕ) (c : Config) (ws : List �
             f₀ : Filing
             f₀ = filing_of owner first 0
 
-        pub replaced-full : b ≡ false → Leaves (computed_on v.sized.holds.graph q db) Replacement.Full db₁
+        pub replaced-full : b ≡ false → Leaves (computed_on v.sized.holds.graph q db) (Err ReplacementRefusal.Full) db₁
         unfolding computation_outcome filing_outcome
         replaced-full z = let u = counted in rw (u.1, sym room-told ∙ z) (refl, counted_same)
 
@@ -294,16 +289,16 @@ module _ {index : List ℕ} {n : Sizes} (owner : ℕ) (c : Config) (ws : List �
                 fits = record { inside = omega (arith, t, i); named = named };
               }
 
-          pub replaced-done : {db₂ : List ℕ} → db₂ ≡ replace_words base storing.sized.holds.graph owner storing.found db₁ → Leaves (computed_on v.sized.holds.graph q db) (Replacement.Done s) db₂
+          pub replaced-done : {db₂ : List ℕ} → db₂ ≡ replace_words base storing.sized.holds.graph owner storing.found db₁ → Leaves (computed_on v.sized.holds.graph q db) (Ok s) db₂
           unfolding computation_outcome filing_outcome storing
           replaced-done y =
               let u = counted in
-              rw (u.1, sym room-told ∙ z) (ap (λ (t : PartialPathStats). Replacement.Done t) u.2, y ∙ ap (replace_words base v.sized.holds.graph owner u.0) counted_same)
+              rw (u.1, sym room-told ∙ z) (ap (λ (t : PartialPathStats). Ok t) u.2, y ∙ ap (replace_words base v.sized.holds.graph owner u.0) counted_same)
 
 -- ---- 21 before it
 
-module _ {index : List ℕ} {n : Sizes} (file : ℕ) (c : Config) (ws : List ℕ) {db : List ℕ} (v : Replacing index n db) where
-  pub replaced-unknown : n.files ≤ file → Leaves (replaced_on v.sized.holds.graph (asked_by c ws file) db) (Replacement.Refused (UnknownFile (file_id file))) db
+module _ {index : List ℕ} {n : Counts} (file : ℕ) (c : Config) (ws : List ℕ) {db : List ℕ} (v : Replacing index n db) where
+  pub replaced-unknown : n.files ≤ file → Leaves (replaced_on v.sized.holds.graph (asked_by c ws file) db) (Err (ReplacementRefusal.Refused (UnknownFile (file_id file)))) db
   unfolding computation_outcome file_partials if_known
   replaced-unknown h = rw (le-ltb file v.sized.holds.graph.files (omega (arith, h, v.sized.file-count))) (refl, refl)
 
@@ -315,25 +310,25 @@ module _ {index : List ℕ} {n : Sizes} (file : ℕ) (c : Config) (ws : List ℕ
 
 -- ---- 35 and 34 before that
 
-module _ {index : List ℕ} (n : Sizes) (o : Owner) (c : Config) (ws db : List ℕ) (v : Few index n) (a : Inspected) (is : (g : Graph) → n.nodes ≡ length g.nodes → n.files ≡ g.files → a ≡ inspected (check_database base known_owners g db)) where
+module _ {index : List ℕ} (n : Counts) (o : Option FileId) (c : Config) (ws db : List ℕ) (v : Few index n) (a : Result (Unit {0}) DatabaseRefusal) (is : (g : Graph) → n.nodes ≡ length g.nodes → n.files ≡ g.files → a ≡ inspected (check_database base known_owners g db)) where
   abbrev graph : Graph
   graph = v.sized.holds.graph
 
   found_in : a ≡ inspected (check_database base known_owners graph db)
   found_in = is graph v.sized.node-count v.sized.file-count
 
-  pub inspected-not : (r : DatabaseRefusal) → a ≡ Inspected.Refused r → Leaves (inspected_on o graph (asked_by c ws (number_of o)) db) (Replacement.Database r) db
+  pub inspected-not : (r : DatabaseRefusal) → a ≡ Err r → Leaves (inspected_on o graph (asked_by c ws (number_of o)) db) (Err (ReplacementRefusal.Database r)) db
   unfolding replacement_outcome alias_outcome
   inspected-not r e = on o
     where
       z : check_database base known_owners graph db ≡ refuse r
       z = inspected-refused base known_owners graph db r (sym e ∙ found_in)
 
-      on : (x : Owner) → Leaves (inspected_on x graph (asked_by c ws (number_of x)) db) (Replacement.Database r) db
-      on (File f) = rw z (refl, refl)
-      on Nobody = rw z (refl, refl)
+      on : (x : Option FileId) → Leaves (inspected_on x graph (asked_by c ws (number_of x)) db) (Err (ReplacementRefusal.Database r)) db
+      on (Some f) = rw z (refl, refl)
+      on None = rw z (refl, refl)
 
-  module _ (e : a ≡ Inspected.Sound) where
+  module _ (e : a ≡ Ok tt) where
     formed : (well_formed base known_owners db ≡ true) × (check_database base known_owners graph db ≡ ok (slots_in base db))
     formed = inspected-sound base known_owners graph db (sym e ∙ found_in)
 
@@ -344,17 +339,17 @@ module _ {index : List ℕ} (n : Sizes) (o : Owner) (c : Config) (ws db : List �
       used = formed-used base known_owners db formed.0;
     }
 
-    pub inspected-file : (f : FileId) → o ≡ File f → (r : Replacement) (db' : List ℕ) → Leaves (replaced_on inspected-replaces.sized.holds.graph (asked_by c ws f.0) db) r db'
+    pub inspected-file : (f : FileId) → o ≡ Some f → (r : Replacement) (db' : List ℕ) → Leaves (replaced_on inspected-replaces.sized.holds.graph (asked_by c ws f.0) db) r db'
         → Leaves (inspected_on o graph (asked_by c ws (number_of o)) db) r db'
     unfolding replacement_outcome inspected-replaces
-    inspected-file f is r db' h = subst (λ (x : Owner). Leaves (inspected_on x graph (asked_by c ws (number_of x)) db) r db') (sym is) (rw formed.1 h)
+    inspected-file f is r db' h = subst (λ (x : Option FileId). Leaves (inspected_on x graph (asked_by c ws (number_of x)) db) r db') (sym is) (rw formed.1 h)
 
-    pub inspected-nobody : o ≡ Nobody → (r : Replacement) (db' : List ℕ) → Leaves (computed_on inspected-replaces.sized.holds.graph (asked_by c ws nobody) db) r db'
+    pub inspected-nobody : o ≡ None → (r : Replacement) (db' : List ℕ) → Leaves (computed_on inspected-replaces.sized.holds.graph (asked_by c ws nobody) db) r db'
         → Leaves (inspected_on o graph (asked_by c ws (number_of o)) db) r db'
     unfolding alias_outcome inspected-replaces
     inspected-nobody is r db' h =
         let k = routes-alias base c.length (file_setting_of base (asked_by c ws nobody)) graph nobody refl in
-        subst (λ (x : Owner). Leaves (inspected_on x graph (asked_by c ws (number_of x)) db) r db') (sym is)
+        subst (λ (x : Option FileId). Leaves (inspected_on x graph (asked_by c ws (number_of x)) db) r db') (sym is)
         (rw formed.1 (subst (λ (t : Answer PartialPathRefusal (State Route)). Leaves (computation_outcome base graph (asked_by c ws nobody) db t) r db') (sym k) h))
 
 -- ---- the image before that
@@ -380,19 +375,19 @@ unfolding alias_outcome
 alias-work g q db (ok slots) = computed-work g q db (alias_routes base q.length (file_setting_of base q) g)
 alias-work g q db (refuse r) = refl
 
-module _ (o : Owner) {x : Answer ImageRefusal Graph} (q : FileRequest) (db : List ℕ) {ws : List ℕ} (z : ws ≡ zeros q.work) where
-  pub image-refused : (r : ImageRefusal) → x ≡ refuse r → Changes (call_for o x q db) (Replacement.Image r) ws db
+module _ (o : Option FileId) {x : Answer ImageRefusal Graph} (q : FileRequest) (db : List ℕ) {ws : List ℕ} (z : ws ≡ zeros q.work) where
+  pub image-refused : (r : ImageRefusal) → x ≡ refuse r → Changes (call_for o x q db) (Err (ReplacementRefusal.Image r)) ws db
   unfolding replace_call alias_call
   image-refused r e = on o
     where
-      on : (y : Owner) → Changes (call_for y x q db) (Replacement.Image r) ws db
-      on (File f) = rw e (refl, z, refl)
-      on Nobody = rw e (refl, z, refl)
+      on : (y : Option FileId) → Changes (call_for y x q db) (Err (ReplacementRefusal.Image r)) ws db
+      on (Some f) = rw e (refl, z, refl)
+      on None = rw e (refl, z, refl)
 
   pub image-accepted : (g : Graph) → x ≡ ok g → (a : Replacement) (db' : List ℕ) → Leaves (inspected_on o g q db) a db' → Changes (call_for o x q db) a ws db'
   unfolding replace_call alias_call
   image-accepted g e a db' h = on o h
     where
-      on : (y : Owner) → Leaves (inspected_on y g q db) a db' → Changes (call_for y x q db) a ws db'
-      on (File f) h = rw e (h.0, z ∙ sym (file-work g q db (check_database base known_owners g db)), h.1)
-      on Nobody h = rw e (h.0, z ∙ sym (alias-work g q db (check_database base known_owners g db)), h.1)
+      on : (y : Option FileId) → Leaves (inspected_on y g q db) a db' → Changes (call_for y x q db) a ws db'
+      on (Some f) h = rw e (h.0, z ∙ sym (file-work g q db (check_database base known_owners g db)), h.1)
+      on None h = rw e (h.0, z ∙ sym (alias-work g q db (check_database base known_owners g db)), h.1)

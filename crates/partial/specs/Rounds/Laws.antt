@@ -34,11 +34,11 @@ use Rattle.partial_state.specs.Routes.{held, ends_in, ends_of, Waiting}
 use Rattle.partial_state.specs.Routes.Laws.{held-long, held-count, held-carries, held-padded, held-ends}
 use Rattle.database.specs.Filing.{put_routes}
 use Rattle.partial_state.specs.Filings.{filed_in}
-use Rattle.partial_state.specs.Extractions.{Computation, Course, goes, stops, Opening, closing, opening, exceeding, partial_of, with_frontier, slotted_by, Taking}
+use Rattle.partial_state.specs.Extractions.{Computation, Course, goes, stops, Opening, closing, opening, refusing, partial_of, with_frontier, slotted_by, Taking}
 use Rattle.partial_state.specs.Reps.{Counts, frame_of, setting_of, Rep, Tells}
 use Rattle.partial_state.specs.Reps.Laws.{untouched, tells-on, tells-refused, rep-wider, rep-grows}
 use Rattle.partial_state.specs.Reps.Rounds.{Opened, round-over, round-expand, round-many}
-use Rattle.partial.specs.declared.compute.Computed.TheVariants.{Done, Refused}
+use Rattle.std.specs.Prelude.{Ok, Err}
 use Rattle.partial_trial.specs.Expansions.{Roomy, Expanding, tries_of, Expanded}
 use Rattle.partial.specs.Rounds.Kept.{merged-kept}
 use Rattle.partial.specs.Rounds.{is_filed, Grown, MadeRoom, Rounding, Rounded, Driving, Ends, run_from, DrivenTo}
@@ -239,13 +239,13 @@ module _ {index : List ℕ} {f : Filing} {item₀ : List ℕ} {x : Computation} 
     pub same : run_from (frame_of on) v.graph f.file (max_expansions - on.budget.expanded) state ≡ whole
 
   -- as many are found as there is room for: no other is filed behind them
-  pub turn-filed : {on : Computation} {ws db : List ℕ} → Turning on ws db → 0 < f.room → f.room ≤ on.found → (s : PartialPathStats) → DrivenTo index f item₀ x ws₀ db₀ v (Done s) db
+  pub turn-filed : {on : Computation} {ws db : List ℕ} → Turning on ws db → 0 < f.room → f.room ≤ on.found → (s : PartialPathStats) → DrivenTo index f item₀ x ws₀ db₀ v (Ok s) db
   turn-filed {on} {db} t h k s = told whole t.same
     where
       more : (l : List Route) (r : Route) → (f.room ≤ length l) × (take f.room l ≡ take f.room t.state.kept) → (f.room ≤ length (l ++ (r ∷ []))) × (take f.room (l ++ (r ∷ [])) ≡ take f.room t.state.kept)
       more l r p = (omega (arith, p.0, length-append l (r ∷ [])), take-append-le f.room l (r ∷ []) p.0 ∙ p.1)
 
-      told : (y : Answer PartialPathRefusal (State Route)) → run_from (frame_of on) v.graph f.file (max_expansions - on.budget.expanded) t.state ≡ y → Ends f v.origin (Done s) db y
+      told : (y : Answer PartialPathRefusal (State Route)) → run_from (frame_of on) v.graph f.file (max_expansions - on.budget.expanded) t.state ≡ y → Ends f v.origin (Ok s) db y
       told (refuse r) e = h
       told (ok u) e =
           let c : f.room ≤ length t.state.kept = omega (arith, k, t.stood.counts.found) in
@@ -256,18 +256,18 @@ module _ {index : List ℕ} {f : Filing} {item₀ : List ℕ} {x : Computation} 
   turn-start = record { state = v.model; stood = v.rep; looked = v.looked; expanded = v.expanded; same = refl }
 
   module _ {on : Computation} {ws db : List ℕ} (t : Turning on ws db) {a : Opening} {item' ws' : List ℕ} (k : Taking on ws a item' ws') where
-    pub turn-over : (n : Computation) → a ≡ closing n → {s : PartialPathStats} → s ≡ partial_of n → DrivenTo index f item₀ x ws₀ db₀ v (Done s) db
+    pub turn-over : (n : Computation) → a ≡ closing n → {s : PartialPathStats} → s ≡ partial_of n → DrivenTo index f item₀ x ws₀ db₀ v (Ok s) db
     turn-over n e {s} q =
         let d = round-over g f v.origin on ws db t.state t.stood a item' ws' n k e in
         let w = run-over (setting_of (frame_of on)) (trying (frame_of on)) (max_expansions - on.budget.expanded) (merge on.frontier.order t.state) d.model d.round in
-        subst (λ (y : Answer PartialPathRefusal (State Route)). Ends f v.origin (Done s) db y) (sym (sym t.same ∙ w))
+        subst (λ (y : Answer PartialPathRefusal (State Route)). Ends f v.origin (Ok s) db y) (sym (sym t.same ∙ w))
         (λ z. (q ∙ finished d.counts d.waited, ap (λ (y : PartialPathStats). y.found) q ∙ d.counts.found), t.stood.filed ∙ ap (λ (l : List Route). filed_in f l v.origin) (sym d.kept))
 
-    pub turn_many : a ≡ exceeding → DrivenTo index f item₀ x ws₀ db₀ v (Refused TooManyExpansions) db
-    turn_many e =
-        let d = round-many g f v.origin on ws db t.state t.stood a item' ws' k e in
-        let w = run-many (setting_of (frame_of on)) (trying (frame_of on)) (max_expansions - on.budget.expanded) (merge on.frontier.order t.state) d.route d.model d.round (omega (arith, d.before)) in
-        subst (λ (y : Answer PartialPathRefusal (State Route)). Ends f v.origin (Refused TooManyExpansions) db y) (sym (sym t.same ∙ w)) (refl, untouched t.stood)
+    pub turn_many : (r : PartialPathRefusal) → a ≡ refusing r → DrivenTo index f item₀ x ws₀ db₀ v (Err r) db
+    turn_many r e =
+        let d = round-many g f v.origin on ws db t.state t.stood a item' ws' r k e in
+        let w = run-many (setting_of (frame_of on)) (trying (frame_of on)) (max_expansions - on.budget.expanded) (merge on.frontier.order t.state) d.1.route d.1.model d.1.round (omega (arith, d.1.before)) in
+        subst (λ (y : Answer PartialPathRefusal (State Route)). Ends f v.origin (Err r) db y) (sym (sym t.same ∙ w)) (d.0, untouched t.stood)
 
     module _ (next : Computation) (e : a ≡ opening next) (long : length db ≡ length db₀) where
       opened : Opened g f v.origin on ws db t.state t.stood item' ws' next
@@ -322,12 +322,12 @@ module _ {index : List ℕ} {f : Filing} {item₀ : List ℕ} {x : Computation} 
         onto : Tells g f v.origin (frame_of y) b ws'' db' (each (setting_of (frame_of on)) opening-is.model (trying (frame_of on) opening-is.route))
         onto = subst (λ (z : ExtractionFrame). Tells g f v.origin (frame_of y) b ws'' db' (each (setting_of z) opening-is.model (trying z opening-is.route))) framed told
 
-        pub turn-refused : (z : PartialPathRefusal) → b ≡ stops z → DrivenTo index f item₀ x ws₀ db₀ v (Refused z) db'
+        pub turn-refused : (z : PartialPathRefusal) → b ≡ stops z → DrivenTo index f item₀ x ws₀ db₀ v (Err z) db'
         turn-refused z d =
             let o = opening-is in
             let u = tells-refused g f v.origin (frame_of y) b ws'' db' (each (setting_of (frame_of on)) o.model (trying (frame_of on) o.route)) z onto d in
             let w = run-refused (setting_of (frame_of on)) (trying (frame_of on)) (max_expansions - on.budget.expanded) (merge on.frontier.order t.state) o.route o.model z o.round (omega (arith, o.before)) u.0 in
-            subst (λ (q : Answer PartialPathRefusal (State Route)). Ends f v.origin (Refused z) db' q) (sym (sym t.same ∙ w)) (refl, u.1)
+            subst (λ (q : Answer PartialPathRefusal (State Route)). Ends f v.origin (Err z) db' q) (sym (sym t.same ∙ w)) (refl, u.1)
 
         module _ (n : Computation) (d : b ≡ goes n) where
           going : (m : State Route) × (each (setting_of (frame_of on)) opening-is.model (trying (frame_of on) opening-is.route) ≡ ok m) × (frame_of n ≡ frame_of y) × Rep g f v.origin n ws'' db' m

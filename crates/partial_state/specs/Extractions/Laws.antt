@@ -1,17 +1,15 @@
 -- Outcomes of the operations on a computation: what is handed on in code, put into its frame, is the whole computation after the operation.
 -- Serves document 01, "Partial paths" and "Budget and frontier".
-use Rattle.std.specs.Prelude.{ℕ, ◌+◌, ◌<◌, ◌≤◌, ◌^◌, ◌≡◌, Bool, List}
+use Rattle.std.specs.Prelude.{ℕ, ◌+◌, ◌<◌, ◌≤◌, ◌^◌, ◌≡◌, Bool, List, Option, Some, None}
 use Rattle.std.proofs.Math.Path.{refl}
 use Rattle.std.proofs.Common.{sym, ap, subst, ◌∙◌, le-leb}
 use Rattle.std.proofs.Math.Bool.{true, false}
 use Rattle.std.proofs.lemmas.Bool.{lt-leb}
-use Rattle.semantics.specs.declared.refusal.PartialPathRefusal.TheVariants.{NoWaitingSlot}
+use Rattle.semantics.specs.declared.refusal.PartialPathRefusal.TheVariants.{NoWaitingSlot, TooManyExpansions}
 use Rattle.semantics.specs.Limits.{within, below, max_expansions}
 use Rattle.path_budget.specs.declared.budget.Budget.{Budget}
 use Rattle.path_budget.specs.declared.budget.Admitted.{Admitted}
 use Rattle.path_frontier.specs.declared.frontier.Frontier.{Frontier}
-use Rattle.path_frontier.specs.declared.frontier.Pushed.{Pushed}
-use Rattle.path_frontier.specs.declared.frontier.Popped.{Popped}
 use Rattle.path_budget.specs.Budget.{answer_by, one_expanded, refused_count, refused_length, expansion, lengthening}
 use Rattle.words.specs.Slots.{IsSlot}
 use Rattle.path_frontier.specs.Frontier.{Framed, Pushes, Pops, Wider, Widens}
@@ -19,7 +17,7 @@ use Rattle.path_frontier.specs.Frontier.Laws.{push-frame, pop-frame}
 use Rattle.partial_state.specs.declared.extraction.Config.{Config}
 use Rattle.partial_state.specs.declared.extraction.ExtractionFrame.{ExtractionFrame}
 use Rattle.partial_state.specs.declared.extraction.Extraction.{Extraction}
-use Rattle.partial_state.specs.Extractions.{Computation, goes, stops, closing, opening, exceeding, frame_with, nothing_yet, at, new_computation, counted_by, placed_by, with_budget, with_frontier, course_of, opening_of, Extends, Taking, slotted_by, Grows}
+use Rattle.partial_state.specs.Extractions.{Computation, goes, stops, closing, opening, refusing, frame_with, nothing_yet, at, new_computation, counted_by, placed_by, with_budget, with_frontier, course_of, opening_of, Extends, Taking, slotted_by, Grows}
 
 module _ (fr : ExtractionFrame) (p : Extraction) where
   -- ---- what is left behind by a frontier, and by a budget
@@ -58,28 +56,28 @@ module _ (fr : ExtractionFrame) (p : Extraction) where
   expansion-given is h = subst (λ (y : Budget). y.expanded + 1 < 2 ^ 64) (sym is) h
 
   -- ---- a push
-  module _ {f : Frontier} (is : f ≡ (at fr p).frontier) {ws item : List ℕ} {a : Pushed} {ws' : List ℕ} (h : Pushes f ws item a ws') where
+  module _ {f : Frontier} (is : f ≡ (at fr p).frontier) {ws item : List ℕ} {a : Option Frontier} {ws' : List ℕ} (h : Pushes f ws item a ws') where
     pushes : Pushes (at fr p).frontier ws item a ws'
     pushes = subst (λ (y : Frontier). Pushes y ws item a ws') is h
 
-    pub push_goes : (n : Frontier) → a ≡ Pushed.Done n → {q : Extraction} → q ≡ placed_by n p → Extends (at fr p) ws item (goes (at fr q)) ws'
+    pub push_goes : (n : Frontier) → a ≡ Some n → {q : Extraction} → q ≡ placed_by n p → Extends (at fr p) ws item (goes (at fr q)) ws'
     push_goes n e made =
         let k = (push-frame (at fr p).frontier ws item a ws' pushes n e).1 in
         let w : at fr (placed_by n p) ≡ with_frontier n (at fr p) = placed-is n (ap (λ (y : Frontier). y.order) k) (ap (λ (y : Frontier). y.length) k) (ap (λ (y : Frontier). y.capacity) k) in
         record { pushed = a; pushes = pushes; is = ap (λ (y : Computation). goes y) (ap (at fr) made ∙ w) ∙ sym (ap (course_of (at fr p)) e) }
 
-    pub push-stops : a ≡ Pushed.Full → Extends (at fr p) ws item (stops NoWaitingSlot) ws'
+    pub push-stops : a ≡ None → Extends (at fr p) ws item (stops NoWaitingSlot) ws'
     push-stops e = record { pushed = a; pushes = pushes; is = sym (ap (course_of (at fr p)) e) }
 
   -- ---- the top of a round
-  module _ {f : Frontier} (is : f ≡ (at fr p).frontier) {ws : List ℕ} {a : Popped} {item ws' : List ℕ} (h : Pops f ws a item ws') where
+  module _ {f : Frontier} (is : f ≡ (at fr p).frontier) {ws : List ℕ} {a : Option Frontier} {item ws' : List ℕ} (h : Pops f ws a item ws') where
     pops : Pops (at fr p).frontier ws a item ws'
     pops = subst (λ (y : Frontier). Pops y ws a item ws') is h
 
-    pub take-empty : a ≡ Popped.Empty → Taking (at fr p) ws (closing (at fr p)) item ws'
+    pub take-empty : a ≡ None → Taking (at fr p) ws (closing (at fr p)) item ws'
     take-empty e = record { popped = a; pops = pops; is = sym (ap (opening_of (at fr p)) e) }
 
-    module _ (n : Frontier) (e : a ≡ Popped.Item n) {b : Budget} (same : b ≡ (at fr p).budget) {d : Admitted} (asked : d ≡ expansion b) {q : Extraction} (made : q ≡ counted_by d.budget p) where
+    module _ (n : Frontier) (e : a ≡ Some n) {b : Budget} (same : b ≡ (at fr p).budget) {d : Admitted} (asked : d ≡ expansion b) {q : Extraction} (made : q ≡ counted_by d.budget p) where
       admitted : d ≡ expansion (at fr p).budget
       admitted = asked ∙ ap expansion same
 
@@ -89,13 +87,13 @@ module _ (fr : ExtractionFrame) (p : Extraction) where
       after_is : at fr q ≡ with_budget (expansion (at fr p).budget).budget (at fr p)
       after_is = ap (at fr) (made ∙ ap (λ (y : Admitted). counted_by y.budget p) admitted) ∙ expanded-is
 
-      pub take-many : d.allowed ≡ true → max_expansions ≤ p.expanded → Taking (at fr p) ws exceeding item ws'
+      pub take-many : d.allowed ≡ true → max_expansions ≤ p.expanded → Taking (at fr p) ws (refusing TooManyExpansions) item ws'
       take-many k m = record { popped = a; pops = pops; is = rw (e, answers k, le-leb max_expansions p.expanded m) }
 
       pub take-over : d.allowed ≡ false → Taking (at fr p) ws (closing (at fr q)) item ws'
       take-over k = record { popped = a; pops = pops; is = rw (e, answers k) (ap (λ (y : Computation). closing y) after_is) }
 
-module _ (fr : ExtractionFrame) (p : Extraction) {f : Frontier} (is : f ≡ (at fr p).frontier) {ws : List ℕ} {a : Popped} {item ws' : List ℕ} (h : Pops f ws a item ws') (n : Frontier) (e : a ≡ Popped.Item n) {b : Budget} (same : b ≡ (at fr p).budget) {d : Admitted} (asked : d ≡ expansion b) {q : Extraction}
+module _ (fr : ExtractionFrame) (p : Extraction) {f : Frontier} (is : f ≡ (at fr p).frontier) {ws : List ℕ} {a : Option Frontier} {item ws' : List ℕ} (h : Pops f ws a item ws') (n : Frontier) (e : a ≡ Some n) {b : Budget} (same : b ≡ (at fr p).budget) {d : Admitted} (asked : d ≡ expansion b) {q : Extraction}
     (made : q ≡ counted_by d.budget p) where
   pub take-expand : d.allowed ≡ true → p.expanded < max_expansions → {r : Extraction} → r ≡ placed_by n q → Taking (at fr p) ws (opening (at fr r)) item ws'
   take-expand k m {r} put =

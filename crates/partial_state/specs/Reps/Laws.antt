@@ -1,6 +1,6 @@
 -- A computation in code goes on as the enumeration does: what is looked at, counted, filed and pushed.
 -- Serves document 01, "Partial paths" and "Budget and frontier"; 31 of "Turned back".
-use Rattle.std.specs.Prelude.{ℕ, ◌+◌, ◌-◌, ◌<◌, ◌≤◌, ◌≡◌, ◌⊎◌, true, false, length, take, drop, get_or}
+use Rattle.std.specs.Prelude.{ℕ, ◌+◌, ◌-◌, ◌<◌, ◌≤◌, ◌≡◌, ◌⊎◌, true, false, Option, Some, None, length, take, drop, get_or}
 use Rattle.std.proofs.Common.{arith, sym, ap, ap₂, subst, ◌∙◌, inl, inr, ⊎_elim, length-append}
 use Rattle.std.proofs.Math.Path.{refl}
 use mathlib.Core.List.Memᴰ
@@ -14,7 +14,6 @@ use Rattle.semantics.specs.Enumeration.{State, keep, keep_if, place, push_item, 
 use Rattle.semantics.specs.PartialPaths.{Route}
 use Rattle.words.specs.Slots.{IsSlot, padded}
 use Rattle.path_frontier.specs.declared.frontier.Frontier.{Frontier}
-use Rattle.path_frontier.specs.declared.frontier.Pushed.{Pushed}
 use Rattle.path_budget.specs.Budget.{lengthening}
 use Rattle.path_budget.specs.Budget.Laws.{lengthening-refused}
 use Rattle.path_frontier.specs.Frontier.{Framed, pushed, Waits, Wider}
@@ -97,8 +96,8 @@ module _ {g : View} {f : Filing} {origin : List ℕ} {x : Computation} {ws db : 
     pub push-tells : {a : Course} {ws' : List ℕ} → Extends x ws (held x.frontier.length q) a ws' → Tells g f origin (frame_of x) a ws' db (push_item (setting_of (frame_of x)) q m)
     push-tells {ws'} h = subst (λ (y : Course). Tells g f origin (frame_of x) y ws' db (push_item (setting_of (frame_of x)) q m)) (sym h.is) (on h.pushed refl)
       where
-        on : (p : Pushed) → h.pushed ≡ p → Tells g f origin (frame_of x) (course_of x p) ws' db (push_item (setting_of (frame_of x)) q m)
-        on (Pushed.Done n) e =
+        on : (p : Option Frontier) → h.pushed ≡ p → Tells g f origin (frame_of x) (course_of x p) ws' db (push_item (setting_of (frame_of x)) q m)
+        on (Some n) e =
             let d = stands-done (held x.frontier.length) (setting_of (frame_of x)) NoWaitingSlot x.frontier refl ws m q h.pushed ws' h.pushes rep.stands n e in
             let k = push-frame x.frontier ws (held x.frontier.length q) h.pushed ws' h.pushes n e in
             subst (λ (z : Frontier). Tells g f origin (frame_of x) (goes (with_frontier z x)) ws' db (push_item (setting_of (frame_of x)) q m)) (sym k.1)
@@ -113,7 +112,7 @@ module _ {g : View} {f : Filing} {origin : List ℕ} {x : Computation} {ws db : 
                 traced = in-snoc;
               },
             ))
-        on Pushed.Full e =
+        on None e =
             subst (λ (y : Answer PartialPathRefusal (State Route)). Tells g f origin (frame_of x) (stops NoWaitingSlot) ws' db y) (sym (stands-full (held x.frontier.length) (setting_of (frame_of x)) NoWaitingSlot x.frontier refl ws m q h.pushed ws' h.pushes rep.stands e)) (refl, untouched)
 
 -- ---- the waiting slots get more words

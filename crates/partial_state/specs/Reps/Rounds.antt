@@ -1,6 +1,6 @@
 -- The top of a round: the computation is over, or the next route in the order of taking is to be expanded, or it would be one expansion too many.
 -- Serves document 01, "Budget and frontier"; 36 of "Turned back".
-use Rattle.std.specs.Prelude.{ℕ, ◌+◌, ◌*◌, ◌<◌, ◌≤◌, ◌≡◌, ◌⊎◌, Bool}
+use Rattle.std.specs.Prelude.{ℕ, ◌+◌, ◌*◌, ◌<◌, ◌≤◌, ◌≡◌, ◌⊎◌, Bool, Option, Some, None}
 use Rattle.std.proofs.Common.{arith, ◌∙◌, inl, inr, ⊎_elim, leb→le}
 use Rattle.std.proofs.Math.Path.{refl, sym, ap, subst}
 use Rattle.std.proofs.Math.Bool.{true, false, not}
@@ -12,12 +12,13 @@ use Rattle.semantics.specs.declared.search.SearchOrder.{SearchOrder}
 use Rattle.semantics.specs.declared.search.SearchOrder.TheVariants.{BreadthFirst, DepthFirst}
 use Rattle.semantics.specs.declared.search.SearchStats.{SearchStats}
 use Rattle.semantics.specs.Lists.{pick}
+use Rattle.semantics.specs.declared.refusal.PartialPathRefusal.{PartialPathRefusal}
+use Rattle.semantics.specs.declared.refusal.PartialPathRefusal.TheVariants.{TooManyExpansions}
 use Rattle.semantics.specs.Limits.{below, max_expansions, slot_length}
 use Rattle.semantics.specs.Graph.{View}
 use Rattle.semantics.specs.PartialPaths.{Route}
 use Rattle.semantics.specs.Enumeration.{State, Turn, over, expand, turn, popped, admit, merge, add_expanded, flag_count}
 use Rattle.path_frontier.specs.declared.frontier.Frontier.{Frontier}
-use Rattle.path_frontier.specs.declared.frontier.Popped.{Popped}
 use Rattle.path_budget.specs.Budget.{expansion}
 use Rattle.path_budget.specs.Budget.Laws.{expansion-allowed, expansion-limits, expansion-granted, expansion-refused}
 use Rattle.path_frontier.specs.Frontier.{merged, greatest_in, Waits}
@@ -25,7 +26,7 @@ use Rattle.path_frontier.specs.Frontier.Laws.{merge-is, pop-frame}
 use Rattle.path_frontier.specs.Frontier.Stands.{stands-item, stands-empty}
 use Rattle.partial_state.specs.declared.filing.Filing.{Filing}
 use Rattle.partial_state.specs.Routes.{held, Waiting}
-use Rattle.partial_state.specs.Extractions.{Computation, Opening, closing, opening, exceeding, with_budget, with_frontier, counting, opening_of, Taking}
+use Rattle.partial_state.specs.Extractions.{Computation, Opening, closing, opening, refusing, with_budget, with_frontier, counting, opening_of, Taking}
 use Rattle.partial_state.specs.Reps.{Counts, frame_of, setting_of, Rep}
 
 mem-merged : (o : SearchOrder) (xs ys : List Route) (r : Route) → Memᴰ r (merged o xs ys) → Memᴰ r xs ⊎ Memᴰ r ys
@@ -67,7 +68,7 @@ module _ (g : View) (f : Filing) (origin : List ℕ) (x : Computation) (ws db : 
   abbrev Rounds : Opening → List ℕ → List ℕ → Type 0
   Rounds (closing n) item ws' = Ended n
   Rounds (opening n) item ws' = Opened item ws' n
-  Rounds exceeding item ws' = Exceeded
+  Rounds (refusing r) item ws' = (r ≡ TooManyExpansions) × Exceeded
 
   abbrev opened : State Route
   opened = record { rest = merged x.frontier.order m.rest m.pending; pending = []; kept = m.kept; stats = m.stats; tally = m.tally }
@@ -146,8 +147,8 @@ module _ (g : View) (f : Filing) (origin : List ℕ) (x : Computation) (ws db : 
   unfolding turn popped
   round-tells a item ws' t = subst (λ (y : Opening). Rounds y item ws') (sym t.is) (on t.popped refl)
     where
-      on : (p : Popped) → t.popped ≡ p → Rounds (opening_of x p) item ws'
-      on Popped.Empty e = record {
+      on : (p : Option Frontier) → t.popped ≡ p → Rounds (opening_of x p) item ws'
+      on None e = record {
         model = opened;
         round =
             ap (turn (setting_of (frame_of x))) (merge-is x.frontier.order m)
@@ -156,10 +157,10 @@ module _ (g : View) (f : Filing) (origin : List ℕ) (x : Computation) (ws db : 
         kept = refl;
         waited = was.stands.1;
       }
-      on (Popped.Item n) e = told (expansion x.budget).allowed (leb max_expansions x.budget.expanded) refl refl
+      on (Some n) e = told (expansion x.budget).allowed (leb max_expansions x.budget.expanded) refl refl
         where
           told : (b d : Bool) → (expansion x.budget).allowed ≡ b → leb max_expansions x.budget.expanded ≡ d
-              → Rounds (pick b (pick d exceeding (opening (with_frontier n (with_budget (expansion x.budget).budget x)))) (closing (with_budget (expansion x.budget).budget x))) item ws'
+              → Rounds (pick b (pick d (refusing TooManyExpansions) (opening (with_frontier n (with_budget (expansion x.budget).budget x)))) (closing (with_budget (expansion x.budget).budget x))) item ws'
           told b d a h =
               let v = stands-item (held x.frontier.length) x.frontier ws m t.popped item ws' t.pops was.stands n e in
               let k = (pop-frame x.frontier ws t.popped item ws' t.pops n e).0.kept in
@@ -167,9 +168,9 @@ module _ (g : View) (f : Filing) (origin : List ℕ) (x : Computation) (ws db : 
             where
               by : (b d : Bool) → (expansion x.budget).allowed ≡ b → leb max_expansions x.budget.expanded ≡ d
                   → (w : Route) (us : List Route) → (merge x.frontier.order m).rest ≡ w ∷ us → held x.frontier.length w ≡ item → Waits n ws' (map (held x.frontier.length) us) [] → greatest_in n ≡ m.tally.waited → n.order ≡ x.frontier.order → n.capacity ≡ x.frontier.capacity → n.length ≡ x.frontier.length
-                  → Rounds (pick b (pick d exceeding (opening (with_frontier n (with_budget (expansion x.budget).budget x)))) (closing (with_budget (expansion x.budget).budget x))) item ws'
+                  → Rounds (pick b (pick d (refusing TooManyExpansions) (opening (with_frontier n (with_budget (expansion x.budget).budget x)))) (closing (with_budget (expansion x.budget).budget x))) item ws'
               by false d a h w us u i v y o c l = ended w us u a
-              by true true a h w us u i v y o c l = exceeded w us u a (leb→le max_expansions x.budget.expanded (subst T (sym h) tt))
+              by true true a h w us u i v y o c l = (refl, exceeded w us u a (leb→le max_expansions x.budget.expanded (subst T (sym h) tt)))
               by true false a h w us u i v y o c l = onward w us u n item ws' o c l t.pops.same_length i v y a (nleb→lt max_expansions x.budget.expanded (subst T (sym (ap not h)) tt))
 
   -- ---- what a caller draws from the answer
@@ -180,5 +181,5 @@ module _ (g : View) (f : Filing) (origin : List ℕ) (x : Computation) (ws db : 
   pub round-expand : (a : Opening) (item ws' : List ℕ) (n : Computation) → Taking x ws a item ws' → a ≡ opening n → Opened item ws' n
   round-expand a item ws' n t e = subst (λ (y : Opening). Rounds y item ws') e (round-tells a item ws' t)
 
-  pub round-many : (a : Opening) (item ws' : List ℕ) → Taking x ws a item ws' → a ≡ exceeding → Exceeded
-  round-many a item ws' t e = subst (λ (y : Opening). Rounds y item ws') e (round-tells a item ws' t)
+  pub round-many : (a : Opening) (item ws' : List ℕ) (r : PartialPathRefusal) → Taking x ws a item ws' → a ≡ refusing r → (r ≡ TooManyExpansions) × Exceeded
+  round-many a item ws' r t e = subst (λ (y : Opening). Rounds y item ws') e (round-tells a item ws' t)

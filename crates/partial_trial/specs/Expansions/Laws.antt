@@ -11,12 +11,11 @@ use Rattle.semantics.specs.declared.graph.NodeId.{NodeId}
 use Rattle.semantics.specs.declared.graph.Node.{Node}
 use Rattle.semantics.specs.declared.graph.Edge.{Edge}
 use Rattle.semantics.specs.declared.graph.Edge.TheVariants as E
-use Rattle.semantics.specs.declared.search.Limit.{Limit}
 use Rattle.semantics.specs.declared.search.SearchStats.{SearchStats}
 use Rattle.semantics.specs.declared.refusal.PartialPathRefusal.TheVariants.{TooLong}
 use Rattle.semantics.specs.Lists.{and, pick, has}
 use Rattle.semantics.specs.Lists.Laws.{length-snoc}
-use Rattle.semantics.specs.Limits.{base, within, max_edges, slot_length, nobody}
+use Rattle.semantics.specs.Limits.{base, within, max_edges, slot_length, nobody, Limit}
 use Rattle.semantics.specs.Graph.{node_id, View, view_of, file_of, is_file, lacks_file, is_endpoint}
 use Rattle.semantics.specs.Graph.Laws.{view_of-lawful}
 use Rattle.semantics.specs.Enumeration.{cut, overlong, stop, one, judged, tested}

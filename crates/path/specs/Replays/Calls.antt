@@ -1,6 +1,6 @@
 -- From the values to the calls of the definitions: replay, completeness, shadowing.
 -- Document 01, "Path".
-use Rattle.std.specs.Prelude.{ℕ, ◌+◌, ◌*◌, ◌≤◌, ◌≡◌, refl, Bool, true, false, List, [], ◌∷◌, length}
+use Rattle.std.specs.Prelude.{ℕ, ◌+◌, ◌*◌, ◌≤◌, ◌≡◌, refl, Bool, true, false, List, [], ◌∷◌, length, Err, Ok}
 use Rattle.std.proofs.Common.{arith, sym, ap, ◌∙◌, length-append}
 use Rattle.std.proofs.lemmas.List.{length-replicate}
 use Rattle.semantics.specs.ReplayedPaths.{step_at, read_path}
@@ -8,8 +8,6 @@ use Rattle.semantics.specs.declared.graph.Edge.{Edge}
 use Rattle.semantics.specs.declared.graph.Node.{Node}
 use Rattle.semantics.specs.declared.refusal.ImageRefusal.{ImageRefusal}
 use Rattle.semantics.specs.declared.refusal.ReplayRefusal.{ReplayRefusal}
-use Rattle.semantics.specs.declared.answer.Replayed.TheVariants as Replayed
-use Rattle.semantics.specs.declared.answer.Judgement.{Judgement}
 use Rattle.semantics.specs.Limits.{base, max_edges, step_length, steps_length}
 use Rattle.semantics.specs.Answer.{Answer, ok, refuse}
 use Rattle.semantics.specs.Answer.Laws.{ok-inj, and_then-ok}
@@ -36,6 +34,7 @@ use Rattle.path.specs.Values.{empty_path}
 use Rattle.path.specs.Values.Laws.{reads, reads-empty}
 use Rattle.path.specs.Replays.{value_of, replay_value, Answers, judged_as}
 use Rattle.path.specs.Replays.Laws.{nodes-are, edges_are, value_loaded}
+use Rattle.semantics.specs.declared.answer.TurnedBack.{TurnedBack}
 
 jump-at : (g : Graph) → accepts g ≡ true → JumpAt (view_of g)
 jump-at g a = record { there = jump-there g a; only = jump-only g a }
@@ -52,9 +51,9 @@ seen-jump see widths im g h = jump-at (seen see g) (seen-accepted see g (image-a
 abbrev Given : Answer ImageRefusal Graph → ℕ → List ℕ → R.ReplayOutcome → Type 0
 Given x n es y = (told_replayed y.answer ≡ told_replayed (replay_call base x n es).answer) × (read_path y.path ≡ (replay_call base x n es).path) × (y ≡ replay_value x n es)
 
-pub replay-image : {x : Answer ImageRefusal Graph} (r : ImageRefusal) → x ≡ refuse r → (n : ℕ) (es : List ℕ) {p : Path} → p ≡ empty_path → Given x n es (record { answer = Replayed.Image r; path = p })
+pub replay-image : {x : Answer ImageRefusal Graph} (r : ImageRefusal) → x ≡ refuse r → (n : ℕ) (es : List ℕ) {p : Path} → p ≡ empty_path → Given x n es (record { answer = Err (TurnedBack.Image r); path = p })
 unfolding replay_call replay_value
-replay-image r h n es k = rw h (refl, ap read_path k ∙ reads-empty, (λ i. record { answer = Replayed.Image r; path = k i }))
+replay-image r h n es k = rw h (refl, ap read_path k ∙ reads-empty, (λ i. record { answer = Err (TurnedBack.Image r); path = k i }))
 
 pub replay-answers : {index : List ℕ} {x : Answer ImageRefusal Graph} {g : Graph} → x ≡ ok g → Loaded g index → (n : ℕ) (es : List ℕ) {y : R.ReplayOutcome} → y ≡ value_of (node_row index) (edge_row index) n es
     → Answers y (replay base (view_of g) n es) → Given x n es y
@@ -110,17 +109,17 @@ complete-answers {index} {g} h l n es y a = rw h (on (replay base (view_of g) n 
     on (ok p) e a =
         let c = complete-is (view_of g) y.path.steps y.path.count p a.1.stepped (from-a-reference (view_of g) n es p e) in
         ap (λ r. judged_as r (complete_step (node_row index) (step_at y.path.steps y.path.count))) a.0
-        ∙ ap Judgement.Done (ap (λ (m : ℕ → Node). complete_step m (step_at y.path.steps y.path.count)) (nodes-are g index l) ∙ sym c)
+        ∙ ap Ok (ap (λ (m : ℕ → Node). complete_step m (step_at y.path.steps y.path.count)) (nodes-are g index l) ∙ sym c)
     on (refuse r) e a = ap (λ r. judged_as r (complete_step (node_row index) (step_at y.path.steps y.path.count))) a.0
 
 -- SHADOWING
-pub left-stops : (y : R.ReplayOutcome) (a b : Answer ReplayRefusal Model.Path) → Answers y a → (y.answer ≡ Replayed.Done → ⊥) → judged_as y.answer false ≡ left_first a b
+pub left-stops : (y : R.ReplayOutcome) (a b : Answer ReplayRefusal Model.Path) → Answers y a → (y.answer ≡ Ok tt → ⊥) → judged_as y.answer false ≡ left_first a b
 unfolding left_first
 left-stops y (ok p) b h k = absurd (k h.0)
 left-stops y (refuse r) b h k = ap (λ z. judged_as z false) h.0
 
 pub right-judged : {index : List ℕ} {g : Graph} → Loaded g index → JumpAt (view_of g) → (n m : ℕ) (ls rs : List ℕ) (x y : R.ReplayOutcome)
-    → Answers x (replay base (view_of g) n ls) → x.answer ≡ Replayed.Done → Answers y (replay base (view_of g) m rs)
+    → Answers x (replay base (view_of g) n ls) → x.answer ≡ Ok tt → Answers y (replay base (view_of g) m rs)
     → judged_as y.answer (shadows_edges (edge_row index) ls rs) ≡ left_first (replay base (view_of g) n ls) (replay base (view_of g) m rs)
 unfolding left_first shadows_answer
 right-judged {index} {g} l j n m ls rs x y a d b = on (replay base (view_of g) n ls) (replay base (view_of g) m rs) refl refl a b
@@ -128,16 +127,16 @@ right-judged {index} {g} l j n m ls rs x y a d b = on (replay base (view_of g) n
     on : (v w : Answer ReplayRefusal Model.Path) → replay base (view_of g) n ls ≡ v → replay base (view_of g) m rs ≡ w → Answers x v → Answers y w → judged_as y.answer (shadows_edges (edge_row index) ls rs) ≡ left_first v w
     on (ok p) (ok q) e f a b =
         ap (λ r. judged_as r (shadows_edges (edge_row index) ls rs)) b.0
-        ∙ ap Judgement.Done (ap (λ (m : ℕ → Edge). shadows_edges m ls rs) (edges_are g index l) ∙ sym (shadows-edges j base n m ls rs p q e f))
+        ∙ ap Ok (ap (λ (m : ℕ → Edge). shadows_edges m ls rs) (edges_are g index l) ∙ sym (shadows-edges j base n m ls rs p q e f))
     on (ok p) (refuse r) e f a b = ap (λ r. judged_as r (shadows_edges (edge_row index) ls rs)) b.0
     on (refuse r) w e f a b = absurd (let z : ◌≡◌ {A = ℕ} 0 1 = cc in omega arith)
 
 -- AN IMAGE that is turned back, or accepted
-pub complete-image : {x : Answer ImageRefusal Graph} (r : ImageRefusal) → x ≡ refuse r → (n : ℕ) (es : List ℕ) → Judgement.Image r ≡ complete_call base x n es
+pub complete-image : {x : Answer ImageRefusal Graph} (r : ImageRefusal) → x ≡ refuse r → (n : ℕ) (es : List ℕ) → Err (TurnedBack.Image r) ≡ complete_call base x n es
 unfolding complete_call
 complete-image r h n es = rw h refl
 
-pub shadows-image : {x : Answer ImageRefusal Graph} (r : ImageRefusal) → x ≡ refuse r → (n : ℕ) (ls : List ℕ) (m : ℕ) (rs : List ℕ) → Judgement.Image r ≡ shadows_call base x n ls m rs
+pub shadows-image : {x : Answer ImageRefusal Graph} (r : ImageRefusal) → x ≡ refuse r → (n : ℕ) (ls : List ℕ) (m : ℕ) (rs : List ℕ) → Err (TurnedBack.Image r) ≡ shadows_call base x n ls m rs
 unfolding shadows_call
 shadows-image r h n ls m rs = rw h refl
 

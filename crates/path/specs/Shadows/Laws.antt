@@ -23,9 +23,9 @@ use Rattle.semantics.specs.Path.{Step, along, jumped, Stacks, Path, apply, jump_
 use Rattle.semantics.proofs.Theorems.Path.Laws.{append-ok, append_under-ok, replay-ok}
 use Rattle.semantics.proofs.Theorems.Path.Rules.{start-begins}
 use Rattle.semantics.specs.Lists.Laws.{eqb-true}
-use Rattle.path.specs.Shadows.{alike, meet, yes, after, shadows_edges}
-use Rattle.path.specs.declared.shadows.Met.{Met}
-use Rattle.path.specs.declared.shadows.Met.TheVariants.{Decided, Onward}
+use Rattle.std.specs.Prelude.{Some, None, ◌⊎◌}
+use Rattle.std.proofs.Common.{inl, inr}
+use Rattle.path.specs.Shadows.{Met, alike, meet, after, shadows_edges}
 
 -- jump is node 1 and no other
 pub record JumpAt (g : View) : Type 0 where
@@ -76,7 +76,7 @@ module _ {g : View} (j : JumpAt g) where
   paired n m t b p q x y rest {steps} h k i l e =
       on (eqb n m) (lt_z q p) ∙ ap₂ (λ (u v : Edge). after (meet u v) rest) (sym h) (sym k)
     where
-      on : (a z : Bool) → pick a (pick z true steps) false ≡ after (pick a (pick z (Decided true) (alike (eqb t.0 1) (eqb b.0 1))) (Decided false)) rest
+      on : (a z : Bool) → pick a (pick z true steps) false ≡ after (pick a (pick z (Some true) (alike (eqb t.0 1) (eqb b.0 1))) (Some false)) rest
       on true true = refl
       on true false = e ∙ ap₂ (λ (u v : Bool). after (alike u v) rest) (sym i) (sym l)
       on false z = refl
@@ -180,38 +180,34 @@ module _ {g : View} (j : JumpAt g) (bd : Bounds) where
   unfolding shadows
   shadows-edges r s l m p q h k = walk_is j q.steps (replay-trail r l p h) (replay-trail s m q k)
 
--- THE LOOP: what is left to walk behind i edges
-module _ (edges : ℕ → Edge) (l r : List ℕ) where
-  pub walk-one : (i : ℕ) → i < length l → i < length r → shadows_edges edges (drop i l) (drop i r) ≡ after (meet (edges (get_or l i 0)) (edges (get_or r i 0))) (shadows_edges edges (drop (i + 1) l) (drop (i + 1) r))
+-- THE LOOP: what is left to walk
+module _ (edges : ℕ → Edge) {l r l' r' : List ℕ} {x y : ℕ} (h : l ≡ x ∷ l') (k : r ≡ y ∷ r') {m : Met} (is : m ≡ meet (edges x) (edges y)) where
+  walk-one : shadows_edges edges l r ≡ after m (shadows_edges edges l' r')
   unfolding shadows_edges
-  walk-one i h k = rw (add-one, drop-cons l i 0 h, drop-cons r i 0 k)
+  walk-one = ap₂ (shadows_edges edges) h k ∙ ap (λ (z : Met). after z (shadows_edges edges l' r')) (sym is)
 
-  pub walk-left : (i : ℕ) → length l ≤ i → shadows_edges edges (drop i l) (drop i r) ≡ false
-  unfolding shadows_edges
-  walk-left i h = rw (drop_of_length-le l h)
+  pub walk-decided : (b : Bool) → m ≡ Some b → b ≡ shadows_edges edges l r
+  walk-decided b e = sym (walk-one ∙ ap (λ (z : Met). after z (shadows_edges edges l' r')) e)
 
-  pub walk-right : (i : ℕ) → length r ≤ i → shadows_edges edges (drop i l) (drop i r) ≡ false
-  unfolding shadows_edges
-  walk-right i h = rw (drop_of_length-le r h) (on (drop i l))
-    where
-      on : (x : List ℕ) → shadows_edges edges x [] ≡ false
-      on [] = refl
-      on (y ∷ x) = refl
+  pub walk-onward : m ≡ None → shadows_edges edges l' r' ≡ shadows_edges edges l r
+  walk-onward e = sym (walk-one ∙ ap (λ (z : Met). after z (shadows_edges edges l' r')) e)
 
-  module _ {m : Met} (i : ℕ) (h : i < length l) (k : i < length r) (is : m ≡ meet (edges (get_or l i 0)) (edges (get_or r i 0))) where
-    pub walk-decided : (b : Bool) → m ≡ Decided b → yes m ≡ shadows_edges edges (drop i l) (drop i r)
-    walk-decided b e = ap yes e ∙ sym (walk-one i h k ∙ ap (λ (x : Met). after x (shadows_edges edges (drop (i + 1) l) (drop (i + 1) r))) (sym is ∙ e))
-
-    pub walk-onward : m ≡ Onward → shadows_edges edges (drop (i + 1) l) (drop (i + 1) r) ≡ shadows_edges edges (drop i l) (drop i r)
-    walk-onward e = sym (walk-one i h k ∙ ap (λ (x : Met). after x (shadows_edges edges (drop (i + 1) l) (drop (i + 1) r))) (sym is ∙ e))
+pub walk-over : (edges : ℕ → Edge) {l r : List ℕ} → (l ≡ []) ⊎ (r ≡ []) → false ≡ shadows_edges edges l r
+unfolding shadows_edges
+walk-over edges {l} {r} (inl h) = sym (ap (λ (z : List ℕ). shadows_edges edges z r) h)
+walk-over edges {l} {r} (inr h) = sym (ap (shadows_edges edges l) h ∙ on l)
+  where
+    on : (z : List ℕ) → shadows_edges edges z [] ≡ false
+    on [] = refl
+    on (w ∷ z) = refl
 
 -- TWO LIVE EDGES, by outcome
 module _ (s a t b : ℕ) (p q : ℤ) where
-  pub meet-apart : (s ≡ a → ⊥) → Decided false ≡ meet (E.Live (node_id s) (node_id t) p) (E.Live (node_id a) (node_id b) q)
+  pub meet-apart : (s ≡ a → ⊥) → Some false ≡ meet (E.Live (node_id s) (node_id t) p) (E.Live (node_id a) (node_id b) q)
   unfolding meet
   meet-apart h = rw (ne_eqb s a h)
 
-  pub meet-greater : s ≡ a → lt_z q p ≡ true → Decided true ≡ meet (E.Live (node_id s) (node_id t) p) (E.Live (node_id a) (node_id b) q)
+  pub meet-greater : s ≡ a → lt_z q p ≡ true → Some true ≡ meet (E.Live (node_id s) (node_id t) p) (E.Live (node_id a) (node_id b) q)
   unfolding meet
   meet-greater h k = rw (eq-eqb s a h, k)
 

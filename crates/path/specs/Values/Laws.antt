@@ -13,10 +13,9 @@ use Rattle.semantics.specs.Limits.{steps_length, step_length, max_edges}
 use Rattle.semantics.specs.ReplayedPaths.{step_at, scopes_from, symbols_from, passages_to, read_path}
 use Rattle.semantics.specs.declared.refusal.PathRefusal.{PathRefusal}
 use Rattle.semantics.specs.declared.replayed.Step.{Step}
-use Rattle.stepping.specs.declared.step.Effect.{Effect}
-use Rattle.stepping.specs.declared.step.Effect.TheVariants.{Done, Refused}
+use Rattle.stepping.specs.Steps.{Effect}
+use Rattle.std.specs.Prelude.{Ok, Err}
 use Rattle.semantics.specs.declared.replayed.Path.{Path}
-use Rattle.path.specs.declared.path.Grown as G
 use Rattle.semantics.specs.Lists.{cons_if}
 use Rattle.semantics.specs.Answer.{ok}
 use Rattle.semantics.specs.Graph.{View}
@@ -29,24 +28,25 @@ use Rattle.stepping.specs.StepWords.Laws.{step_same, step_other}
 use Rattle.stepping.specs.Judged.{begun_of}
 use Rattle.stepping.specs.Judged.Laws.{Begun, Grown}
 use Rattle.path.specs.Shadows.Laws.{JumpAt, Went, plainly, jumping, went}
+use Rattle.path.specs.Values as G
 use Rattle.path.specs.Values.{empty_path, is_jump_edge, started_by, longer_path, appended_by, Sized, Shows}
 
 -- THE VALUES THAT ARE BUILT
-pub started-refused : (r : ℕ) (E : Effect) (x : PathRefusal) {p : Path} → E ≡ Refused x → p ≡ empty_path → ◌≡◌ {A = G.Grown} (record { effect = E; path = p }) (started_by r E)
+pub started-refused : (r : ℕ) (E : Effect) (x : PathRefusal) {p : Path} → E ≡ Err x → p ≡ empty_path → ◌≡◌ {A = G.Grown} (record { effect = E; path = p }) (started_by r E)
 started-refused r E x h k = (λ i. record { effect = h i; path = k i }) ∙ ap (started_by r) (sym h)
 
 pub started-done : (r : ℕ) (s : Step) {x : Path} {w : List ℕ} → x ≡ empty_path → w ≡ with_step x.steps 0 s
-    → ◌≡◌ {A = G.Grown} (record { effect = Done s; path = record { start = r; end = r; count = x.count; edges = x.edges; jumps = x.jumps; steps = w } }) (started_by r (Done s))
+    → ◌≡◌ {A = G.Grown} (record { effect = Ok s; path = record { start = r; end = r; count = x.count; edges = x.edges; jumps = x.jumps; steps = w } }) (started_by r (Ok s))
 started-done r s {w} h k =
     let z : w ≡ with_step (replicate steps_length 0) 0 s = k ∙ ap (λ (y : Path). with_step y.steps 0 s) h in
-    λ i. record { effect = Done s; path = record { start = r; end = r; count = (h i).count; edges = (h i).edges; jumps = (h i).jumps; steps = z i } }
+    λ i. record { effect = Ok s; path = record { start = r; end = r; count = (h i).count; edges = (h i).edges; jumps = (h i).jumps; steps = z i } }
 
-pub appended-refused : (p : Path) (e : ℕ) (j : Bool) (E : Effect) (x : PathRefusal) → E ≡ Refused x → ◌≡◌ {A = G.Grown} (record { effect = E; path = p }) (appended_by p e j E)
+pub appended-refused : (p : Path) (e : ℕ) (j : Bool) (E : Effect) (x : PathRefusal) → E ≡ Err x → ◌≡◌ {A = G.Grown} (record { effect = E; path = p }) (appended_by p e j E)
 appended-refused p e j E x h = (λ i. record { effect = h i; path = p }) ∙ ap (appended_by p e j) (sym h)
 
 pub appended-done : (p : Path) (e : ℕ) (j : Bool) (s : Step) {w : List ℕ} → w ≡ with_step p.steps (p.count + 1) s
-    → ◌≡◌ {A = G.Grown} (record { effect = Done s; path = record { start = p.start; end = s.end; count = p.count + 1; edges = set p.edges p.count e; jumps = set p.jumps p.count j; steps = w } }) (appended_by p e j (Done s))
-appended-done p e j s k = λ i. record { effect = Done s; path = record { start = p.start; end = s.end; count = p.count + 1; edges = set p.edges p.count e; jumps = set p.jumps p.count j; steps = k i } }
+    → ◌≡◌ {A = G.Grown} (record { effect = Ok s; path = record { start = p.start; end = s.end; count = p.count + 1; edges = set p.edges p.count e; jumps = set p.jumps p.count j; steps = w } }) (appended_by p e j (Ok s))
+appended-done p e j s k = λ i. record { effect = Ok s; path = record { start = p.start; end = s.end; count = p.count + 1; edges = set p.edges p.count e; jumps = set p.jumps p.count j; steps = k i } }
 
 pub empty-long : {p : Path} → p ≡ empty_path → step_length ≤ length p.steps
 empty-long h = subst (λ (x : Path). step_length ≤ length x.steps) (sym h) (omega (arith, length-replicate {A = ℕ} steps_length 0))
@@ -77,14 +77,14 @@ append-passages {g} j p q e h =
 pub empty-room : step_length ≤ length (replicate {A = ℕ} steps_length 0)
 empty-room = omega (arith, length-replicate {A = ℕ} steps_length 0)
 
-pub start-sized : (r : ℕ) (s : Step) → Sized (started_by r (Done s)).path
+pub start-sized : (r : ℕ) (s : Step) → Sized (started_by r (Ok s)).path
 start-sized r s = record { edges = length-replicate {A = ℕ} max_edges 0; jumps = length-replicate {A = Bool} max_edges false; steps = length-step (replicate steps_length 0) 0 s ∙ length-replicate {A = ℕ} steps_length 0 }
 
 pub more-sized : {x : Path} (e : ℕ) (j : Bool) (s : Step) → Sized x → Sized (longer_path x e j s)
 more-sized {x} e j s z = record { edges = length-set x.edges x.count e ∙ z.edges; jumps = length-set x.jumps x.count j ∙ z.jumps; steps = length-step x.steps (x.count + 1) s ∙ z.steps }
 
 -- at the start
-pub shows-start : {g : View} {r : ℕ} {s : Step} → begun_of g.node r ≡ Done s → (b : Begun g (replicate steps_length 0) empty-room r s) → Shows (started_by r (Done s)).path b.path
+pub shows-start : {g : View} {r : ℕ} {s : Step} → begun_of g.node r ≡ Ok s → (b : Begun g (replicate steps_length 0) empty-room r s) → Shows (started_by r (Ok s)).path b.path
 unfolding passages_to
 shows-start {r} {s} h b = record {
   sized = start-sized r s;

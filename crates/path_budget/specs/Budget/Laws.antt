@@ -2,9 +2,8 @@
 -- Serves document 01, "Answer": a search's statistics and flags.
 use Rattle.std.specs.Prelude.{ℕ, ◌+◌, Bool, true, false, ◌≡◌, refl}
 use Rattle.std.proofs.Common.{ap, ◌∙◌}
-use Rattle.semantics.specs.declared.search.Limit.{Limit}
 use Rattle.semantics.specs.declared.search.SearchLimits.{SearchLimits}
-use Rattle.semantics.specs.Limits.{within, below}
+use Rattle.semantics.specs.Limits.{within, below, Limit}
 use Rattle.semantics.specs.Enumeration.{add_expanded, add_complete, add_rejected, add_cycle, flag_length, flag_count, flag_complete, no_stats}
 use Rattle.path_budget.specs.declared.budget.Budget.{Budget}
 use Rattle.path_budget.specs.Budget.{fresh, with_max_length, with_max_paths, with_max_complete, answer_by, one_expanded, one_complete, refused_count, refused_length, refused_complete, expansion, lengthening, completion, stats_of, limits_of, budget_of}

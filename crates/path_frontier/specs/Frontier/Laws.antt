@@ -14,10 +14,7 @@ use Rattle.words.specs.Reversal.{rev_range, rev_range-at}
 use Rattle.words.specs.Slots.{IsSlot, SlotsIn, put_slot}
 use Rattle.words.specs.Slots.Laws.{within, length-put}
 use Rattle.path_frontier.specs.declared.frontier.Frontier.{Frontier}
-use Rattle.path_frontier.specs.declared.frontier.Pushed.{Pushed}
-use Rattle.path_frontier.specs.declared.frontier.Pushed.TheVariants.{Done, Full}
-use Rattle.path_frontier.specs.declared.frontier.Popped.{Popped}
-use Rattle.path_frontier.specs.declared.frontier.Popped.TheVariants.{Item, Empty}
+use Rattle.std.specs.Prelude.{Option, Some, None}
 use Rattle.path_frontier.specs.Frontier.Held.{push-holds, framed-pushed}
 use Rattle.path_frontier.specs.Frontier.{merged, arrange, empty, pushed, Framed, held, Kept, Shrunk, Front, Back, Waits, PushFrame, Puts, Pushes, PopFrame, Takes, Pops}
 
@@ -89,15 +86,15 @@ module _ (f : Frontier) (ws : List ℕ) (rest pending : List (List ℕ)) (w : Wa
     holds = e ∙ ap (λ (x : List (List ℕ)). x ++ (s ∷ [])) w.holds ∙ sym (arrange-snoc f.order rest pending s);
   }
 
-  pub puts-done : Waits (pushed f) ws' rest (pending ++ (s ∷ [])) → f.count < f.capacity → Puts (Done (pushed f)) (ltb (length rest + length pending) f.capacity) ws' rest (pending ++ (s ∷ []))
+  pub puts-done : Waits (pushed f) ws' rest (pending ++ (s ∷ [])) → f.count < f.capacity → Puts (Some (pushed f)) (ltb (length rest + length pending) f.capacity) ws' rest (pending ++ (s ∷ []))
   puts-done v h = rw (lt-ltb (length rest + length pending) f.capacity (omega (arith, w.counts))) v
 
-  pub puts-full : f.capacity ≤ f.count → Puts Full (ltb (length rest + length pending) f.capacity) ws' rest (pending ++ (s ∷ []))
+  pub puts-full : f.capacity ≤ f.count → Puts None (ltb (length rest + length pending) f.capacity) ws' rest (pending ++ (s ∷ []))
   puts-full h = rw (le-ltb (length rest + length pending) f.capacity (omega (arith, w.counts))) tt
 
 module _ (f : Frontier) (ws : List ℕ) (ok : Framed f ws) (s : List ℕ) (l : IsSlot f.length s) where
   pub pushes-done : (i : ℕ) (ws' : List ℕ) → f.count < f.capacity → i < f.capacity → (f.first + f.count ≡ i) ⊎ (f.first + f.count ≡ i + f.capacity)
-      → ws' ≡ put_slot f.length i s ws → Pushes f ws s (Done (pushed f)) ws'
+      → ws' ≡ put_slot f.length i s ws → Pushes f ws s (Some (pushed f)) ws'
   pushes-done i ws' h b a e =
       let n : length ws' ≡ length ws = ap length e ∙ length-put f.length i s ws l (within f.length f.capacity i ws b ok.room) in
       let ok' : Framed (pushed f) ws' = framed-pushed f ws ok ws' h n in
@@ -108,7 +105,7 @@ module _ (f : Frontier) (ws : List ℕ) (ok : Framed f ws) (s : List ℕ) (l : I
         waits = λ rest pending w. puts-done f ws rest pending w s ws' (waits-push f ws rest pending w s ws' l ok' k) h;
       }
 
-  pub pushes_full : f.capacity ≤ f.count → Pushes f ws s Full ws
+  pub pushes_full : f.capacity ≤ f.count → Pushes f ws s None ws
   pushes_full h = record { frame = (omega (arith, ok.counted), refl); same_length = refl; waits = λ rest pending w. puts-full f ws rest pending w s ws h }
 
 -- ---- a pop
@@ -118,7 +115,7 @@ none [] h = refl
 none (x ∷ l) h = absurd (not-suc-le-zero h)
 
 module _ (f : Frontier) (ws : List ℕ) (rest pending : List (List ℕ)) (w : Waits f ws rest pending) where
-  pub takes_none : (s ws' : List ℕ) → f.count ≤ 0 → Takes Empty s ws' (merged f.order rest pending)
+  pub takes_none : (s ws' : List ℕ) → f.count ≤ 0 → Takes None s ws' (merged f.order rest pending)
   takes_none s ws' h = rw (none (merged f.order rest pending) (omega (arith, w.counts, length_merged f.order rest pending))) tt
 
   module _ (r : Frontier) (s : List ℕ) where
@@ -132,15 +129,15 @@ module _ (f : Frontier) (ws : List ℕ) (rest pending : List (List ℕ)) (w : Wa
       holds = e;
     }
 
-    pub takes_front : f.order ≡ BreadthFirst → Front f ws s r → Takes (Item r) s ws (merged f.order rest pending)
+    pub takes_front : f.order ≡ BreadthFirst → Front f ws s r → Takes (Some r) s ws (merged f.order rest pending)
     takes_front o t =
         let xs : List (List ℕ) = held r ws in
         let m : merged f.order rest pending ≡ s ∷ xs =
         ap (λ (q : SearchOrder). merged q rest pending) o ∙ ap (λ (q : SearchOrder). arrange q rest pending) (sym o) ∙ sym w.holds ∙ t.holds in
         let e : held r ws ≡ arrange r.order xs [] = sym (append-nil xs) ∙ ap (λ (q : SearchOrder). arrange q xs []) (sym (t.shrunk.kept.order ∙ o)) in
-        subst (λ (l : List (List ℕ)). Takes (Item r) s ws l) (sym m) (refl, waits-left ws xs t.shrunk t.framed m e)
+        subst (λ (l : List (List ℕ)). Takes (Some r) s ws l) (sym m) (refl, waits-left ws xs t.shrunk t.framed m e)
 
-    pub takes_back : (ws' : List ℕ) → f.order ≡ DepthFirst → Back f ws s r ws' → Takes (Item r) s ws' (merged f.order rest pending)
+    pub takes_back : (ws' : List ℕ) → f.order ≡ DepthFirst → Back f ws s r ws' → Takes (Some r) s ws' (merged f.order rest pending)
     takes_back ws' o t =
         let xs : List (List ℕ) = reverse (held r ws') in
         let lo : ℕ = f.count - f.pending in
@@ -157,16 +154,16 @@ module _ (f : Frontier) (ws : List ℕ) (rest pending : List (List ℕ)) (w : Wa
         ∙ reverse-append (held r ws') (s ∷ []) in
         let e : held r ws' ≡ arrange r.order xs [] =
         sym (reverse-reverse (held r ws')) ∙ sym (append-nil (reverse xs)) ∙ ap (λ (q : SearchOrder). arrange q xs []) (sym (t.shrunk.kept.order ∙ o)) in
-        subst (λ (l : List (List ℕ)). Takes (Item r) s ws' l) (sym m) (refl, waits-left ws' xs t.shrunk t.framed m e)
+        subst (λ (l : List (List ℕ)). Takes (Some r) s ws' l) (sym m) (refl, waits-left ws' xs t.shrunk t.framed m e)
 
 module _ (f : Frontier) (ws : List ℕ) (s : List ℕ) where
-  pub pops-front : (r : Frontier) → f.order ≡ BreadthFirst → Front f ws s r → Pops f ws (Item r) s ws
+  pub pops-front : (r : Frontier) → f.order ≡ BreadthFirst → Front f ws s r → Pops f ws (Some r) s ws
   pops-front r o t = record { frame = (t.shrunk, t.framed); same_length = refl; waits = λ rest pending w. takes_front f ws rest pending w r s o t }
 
-  pub pops-back : (r : Frontier) (ws' : List ℕ) → f.order ≡ DepthFirst → Back f ws s r ws' → Pops f ws (Item r) s ws'
+  pub pops-back : (r : Frontier) (ws' : List ℕ) → f.order ≡ DepthFirst → Back f ws s r ws' → Pops f ws (Some r) s ws'
   pops-back r ws' o t = record { frame = (t.shrunk, t.framed); same_length = t.same_length; waits = λ rest pending w. takes_back f ws rest pending w r s ws' o t }
 
-  pub pops-none : f.count ≤ 0 → Pops f ws Empty s ws
+  pub pops-none : f.count ≤ 0 → Pops f ws None s ws
   pops-none h = record { frame = (omega arith, refl); same_length = refl; waits = λ rest pending w. takes_none f ws rest pending w s ws h }
 
 -- ---- what a search may conclude from an answer
@@ -174,50 +171,50 @@ module _ (f : Frontier) (ws : List ℕ) (s : List ℕ) where
 pub kept-pushed : (f : Frontier) → Kept f (pushed f)
 kept-pushed f = record { order = refl; length = refl; capacity = refl }
 
-module _ (f : Frontier) (ws s : List ℕ) (a : Pushed) (ws' : List ℕ) (p : Pushes f ws s a ws') where
-  pub push-frame : (r : Frontier) → a ≡ Done r → (f.count < f.capacity) × (r ≡ pushed f) × Framed r ws'
-  push-frame r e = subst (λ (x : Pushed). PushFrame f ws x ws') e p.frame
+module _ (f : Frontier) (ws s : List ℕ) (a : Option Frontier) (ws' : List ℕ) (p : Pushes f ws s a ws') where
+  pub push-frame : (r : Frontier) → a ≡ Some r → (f.count < f.capacity) × (r ≡ pushed f) × Framed r ws'
+  push-frame r e = subst (λ (x : Option Frontier). PushFrame f ws x ws') e p.frame
 
-  pub push-same : a ≡ Full → ws' ≡ ws
-  push-same e = (subst (λ (x : Pushed). PushFrame f ws x ws') e p.frame).1
+  pub push-same : a ≡ None → ws' ≡ ws
+  push-same e = (subst (λ (x : Option Frontier). PushFrame f ws x ws') e p.frame).1
 
   module _ (rest pending : List (List ℕ)) (w : Waits f ws rest pending) where
     -- a slot was free, and one more item waits
-    pub push-done : (r : Frontier) → a ≡ Done r → (ltb (length rest + length pending) f.capacity ≡ true) × Waits r ws' rest (pending ++ (s ∷ []))
-    push-done r e = free (ltb (length rest + length pending) f.capacity) (subst (λ (x : Pushed). Puts x (ltb (length rest + length pending) f.capacity) ws' rest (pending ++ (s ∷ []))) e (p.waits rest pending w))
+    pub push-done : (r : Frontier) → a ≡ Some r → (ltb (length rest + length pending) f.capacity ≡ true) × Waits r ws' rest (pending ++ (s ∷ []))
+    push-done r e = free (ltb (length rest + length pending) f.capacity) (subst (λ (x : Option Frontier). Puts x (ltb (length rest + length pending) f.capacity) ws' rest (pending ++ (s ∷ []))) e (p.waits rest pending w))
       where
-        free : (b : Bool) → Puts (Done r) b ws' rest (pending ++ (s ∷ [])) → (b ≡ true) × Waits r ws' rest (pending ++ (s ∷ []))
+        free : (b : Bool) → Puts (Some r) b ws' rest (pending ++ (s ∷ [])) → (b ≡ true) × Waits r ws' rest (pending ++ (s ∷ []))
         free true v = (refl, v)
         free false v = absurd v
 
     -- no slot was free
-    pub push-full : a ≡ Full → ltb (length rest + length pending) f.capacity ≡ false
-    push-full e = taken (ltb (length rest + length pending) f.capacity) (subst (λ (x : Pushed). Puts x (ltb (length rest + length pending) f.capacity) ws' rest (pending ++ (s ∷ []))) e (p.waits rest pending w))
+    pub push-full : a ≡ None → ltb (length rest + length pending) f.capacity ≡ false
+    push-full e = taken (ltb (length rest + length pending) f.capacity) (subst (λ (x : Option Frontier). Puts x (ltb (length rest + length pending) f.capacity) ws' rest (pending ++ (s ∷ []))) e (p.waits rest pending w))
       where
-        taken : (b : Bool) → Puts Full b ws' rest (pending ++ (s ∷ [])) → b ≡ false
+        taken : (b : Bool) → Puts None b ws' rest (pending ++ (s ∷ [])) → b ≡ false
         taken true v = absurd v
         taken false v = refl
 
-module _ (f : Frontier) (ws : List ℕ) (a : Popped) (s ws' : List ℕ) (p : Pops f ws a s ws') where
-  pub pop-frame : (r : Frontier) → a ≡ Item r → Shrunk f r × Framed r ws'
-  pop-frame r e = subst (λ (x : Popped). PopFrame f ws x ws') e p.frame
+module _ (f : Frontier) (ws : List ℕ) (a : Option Frontier) (s ws' : List ℕ) (p : Pops f ws a s ws') where
+  pub pop-frame : (r : Frontier) → a ≡ Some r → Shrunk f r × Framed r ws'
+  pop-frame r e = subst (λ (x : Option Frontier). PopFrame f ws x ws') e p.frame
 
-  pub pop-same : a ≡ Empty → ws' ≡ ws
-  pop-same e = (subst (λ (x : Popped). PopFrame f ws x ws') e p.frame).1
+  pub pop-same : a ≡ None → ws' ≡ ws
+  pop-same e = (subst (λ (x : Option Frontier). PopFrame f ws x ws') e p.frame).1
 
   module _ (rest pending : List (List ℕ)) (w : Waits f ws rest pending) where
     -- s was the next in the order of taking, and the others wait in that order
-    pub pop-item : (r : Frontier) → a ≡ Item r → (xs : List (List ℕ)) × (merged f.order rest pending ≡ s ∷ xs) × Waits r ws' xs []
-    pop-item r e = first (merged f.order rest pending) (subst (λ (x : Popped). Takes x s ws' (merged f.order rest pending)) e (p.waits rest pending w))
+    pub pop-item : (r : Frontier) → a ≡ Some r → (xs : List (List ℕ)) × (merged f.order rest pending ≡ s ∷ xs) × Waits r ws' xs []
+    pop-item r e = first (merged f.order rest pending) (subst (λ (x : Option Frontier). Takes x s ws' (merged f.order rest pending)) e (p.waits rest pending w))
       where
-        first : (l : List (List ℕ)) → Takes (Item r) s ws' l → (xs : List (List ℕ)) × (l ≡ s ∷ xs) × Waits r ws' xs []
+        first : (l : List (List ℕ)) → Takes (Some r) s ws' l → (xs : List (List ℕ)) × (l ≡ s ∷ xs) × Waits r ws' xs []
         first [] v = absurd v
         first (x ∷ xs) v = (xs, ap (λ (y : List ℕ). y ∷ xs) (sym v.0), v.1)
 
     -- nothing waited
-    pub pop-empty : a ≡ Empty → merged f.order rest pending ≡ []
-    pop-empty e = nothing (merged f.order rest pending) (subst (λ (x : Popped). Takes x s ws' (merged f.order rest pending)) e (p.waits rest pending w))
+    pub pop-empty : a ≡ None → merged f.order rest pending ≡ []
+    pop-empty e = nothing (merged f.order rest pending) (subst (λ (x : Option Frontier). Takes x s ws' (merged f.order rest pending)) e (p.waits rest pending w))
       where
-        nothing : (l : List (List ℕ)) → Takes Empty s ws' l → l ≡ []
+        nothing : (l : List (List ℕ)) → Takes None s ws' l → l ≡ []
         nothing [] v = refl
         nothing (x ∷ xs) v = absurd v

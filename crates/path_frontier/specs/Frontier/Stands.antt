@@ -15,10 +15,7 @@ use Rattle.semantics.specs.Enumeration.{State, Setting, Area, slots, blank, wait
 use Rattle.semantics.specs.Enumeration.Waiting.{greater-right}
 use Rattle.words.specs.Slots.{SlotsIn}
 use Rattle.path_frontier.specs.declared.frontier.Frontier.{Frontier}
-use Rattle.path_frontier.specs.declared.frontier.Pushed.{Pushed}
-use Rattle.path_frontier.specs.declared.frontier.Pushed.TheVariants.{Done, Full}
-use Rattle.path_frontier.specs.declared.frontier.Popped.{Popped}
-use Rattle.path_frontier.specs.declared.frontier.Popped.TheVariants.{Item, Empty}
+use Rattle.std.specs.Prelude.{Option, Some, None}
 use Rattle.path_frontier.specs.Frontier.{merged, empty, greatest_in, Waits, Pushes, Pops}
 use Rattle.path_frontier.specs.Frontier.Laws.{merge-is, map-merged, waits-none, push-frame, push-done, push-full, pop-frame, pop-item, pop-empty}
 
@@ -54,7 +51,7 @@ module _ {W : Type 0} (words : W → List ℕ) where
   as_many : (s : State W) → length (map words s.rest) + length (map words s.pending) ≡ waiting s
   as_many s = simp length-map
 
-  module _ {R : Type 0} (c : Setting R) (full : R) (f : Frontier) (area : c.waiting ≡ slots f.capacity full) (ws : List ℕ) (s : State W) (w : W) (a : Pushed) (ws' : List ℕ)
+  module _ {R : Type 0} (c : Setting R) (full : R) (f : Frontier) (area : c.waiting ≡ slots f.capacity full) (ws : List ℕ) (s : State W) (w : W) (a : Option Frontier) (ws' : List ℕ)
       (p : Pushes f ws (words w) a ws') (v : Stands f ws s) where
     placed : (b : Bool) → ltb (length (map words s.rest) + length (map words s.pending)) f.capacity ≡ b → push_item c w s ≡ ok_if b full (with_pending w s)
     unfolding push_item place
@@ -62,7 +59,7 @@ module _ {W : Type 0} (words : W → List ℕ) where
         ap (λ (z : Area R). place z (waiting s) (with_pending w s)) area
         ∙ ap (λ (t : Bool). ok_if t full (with_pending w s)) (ap (λ (n : ℕ). ltb n f.capacity) (sym (as_many s)) ∙ e)
 
-    pub stands-done : (r : Frontier) → a ≡ Done r → (push_item c w s ≡ ok (with_pending w s)) × Stands r ws' (with_pending w s)
+    pub stands-done : (r : Frontier) → a ≡ Some r → (push_item c w s ≡ ok (with_pending w s)) × Stands r ws' (with_pending w s)
     unfolding ok_if
     stands-done r e =
         let d = push-done f ws (words w) a ws' p (map words s.rest) (map words s.pending) v.0 r e in
@@ -71,7 +68,7 @@ module _ {W : Type 0} (words : W → List ℕ) where
         ap greatest_in (push-frame f ws (words w) a ws' p r e).1 ∙ greater-push f.most f.count ∙ ap₂ greater v.1 n in
         (placed true d.0, (subst (λ (l : List (List ℕ)). Waits r ws' (map words s.rest) l) (sym (map-append words s.pending (w ∷ []))) d.1, m))
 
-    pub stands-full : a ≡ Full → push_item c w s ≡ refuse full
+    pub stands-full : a ≡ None → push_item c w s ≡ refuse full
     unfolding ok_if
     stands-full e = placed false (push-full f ws (words w) a ws' p (map words s.rest) (map words s.pending) v.0 e)
 
@@ -84,12 +81,12 @@ module _ {W : Type 0} (words : W → List ℕ) where
   nothing [] e = refl
   nothing (w ∷ us) e = absurd (let z : ◌≡◌ {A = ℕ} 0 1 = cc in omega arith)
 
-  module _ (f : Frontier) (ws : List ℕ) (s : State W) (a : Popped) (t ws' : List ℕ) (p : Pops f ws a t ws') (v : Stands f ws s) where
+  module _ (f : Frontier) (ws : List ℕ) (s : State W) (a : Option Frontier) (t ws' : List ℕ) (p : Pops f ws a t ws') (v : Stands f ws s) where
     rest-is : (merge f.order s).rest ≡ merged f.order s.rest s.pending
     rest-is = ap (λ (u : State W). u.rest) (merge-is f.order s)
 
     -- t is the next item's words, and the items left wait in the order of taking; as many ever waited as before
-    pub stands-item : (r : Frontier) → a ≡ Item r → (w : W) × (us : List W) × ((merge f.order s).rest ≡ w ∷ us) × (words w ≡ t) × Waits r ws' (map words us) [] × (greatest_in r ≡ s.tally.waited)
+    pub stands-item : (r : Frontier) → a ≡ Some r → (w : W) × (us : List W) × ((merge f.order s).rest ≡ w ∷ us) × (words w ≡ t) × Waits r ws' (map words us) [] × (greatest_in r ≡ s.tally.waited)
     stands-item r e =
         let d = pop-item f ws a t ws' p (map words s.rest) (map words s.pending) v.0 r e in
         let k = (pop-frame f ws a t ws' p r e).0 in
@@ -97,7 +94,7 @@ module _ {W : Type 0} (words : W → List ℕ) where
         let u = uncons (merged f.order s.rest s.pending) t d.0 (sym (map-merged words f.order s.rest s.pending) ∙ d.1) in
         (u.0, u.1, rest-is ∙ u.2, u.3, subst (λ (l : List (List ℕ)). Waits r ws' l []) (sym u.4) d.2, m)
 
-    pub stands-empty : a ≡ Empty → (merge f.order s).rest ≡ []
+    pub stands-empty : a ≡ None → (merge f.order s).rest ≡ []
     stands-empty e =
         rest-is
         ∙ nothing (merged f.order s.rest s.pending) (sym (map-merged words f.order s.rest s.pending) ∙ pop-empty f ws a t ws' p (map words s.rest) (map words s.pending) v.0 e)

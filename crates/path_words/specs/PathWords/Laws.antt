@@ -28,8 +28,8 @@ adds_none a k l h = subst (Filled a k) (sym (append-nil l)) h
 pub adds_then : (a b c : List ℕ) (i j k : ℕ) (x y : List ℕ) → Adds a i b j x → Adds b j c k y → Adds a i c k (x ++ y)
 adds_then a b c i j k x y f g l h = subst (Filled c k) (append_assoc l x y) (g (l ++ x) (f l h))
 
-pub left-start : (a : List ℕ) (k : ℕ) (x : List ℕ) → Left a k x a k x
-left-start a k x l h = (l, h, refl)
+pub left-start : (a : List ℕ) (k : ℕ) {x y : List ℕ} → x ≡ y → Left a k x a k y
+left-start a k e l h = (l, h, ap (λ (z : List ℕ). l ++ z) (sym e))
 
 pub left-more : (a b c : List ℕ) (i j k : ℕ) (all x : List ℕ) {rest : List ℕ} (next : List ℕ) → rest ≡ x ++ next → Left a i all b j rest → Adds b j c k x → Left a i all c k next
 left-more a b c i j k all x next e f g l h =
@@ -55,16 +55,16 @@ module _ (f : ℕ → Step) where
   scopes-out zero c h = refl
   scopes-out (suc n) c h = absurd (omega arith)
 
-  pub scopes-turn : (n c : ℕ) {s d : ℕ} → 0 < n → 0 < c → s ≡ (f (c - 1)).scope → d ≡ (f (c - 1)).scopes → scope_words (scopes_from f n c) ≡ (1 ∷ s ∷ []) ++ scope_words (scopes_from f (n - 1) d)
+  pub scopes-turn : (n m c : ℕ) {s d : ℕ} → n ≡ m + 1 → 0 < c → s ≡ (f (c - 1)).scope → d ≡ (f (c - 1)).scopes → scope_words (scopes_from f n c) ≡ (1 ∷ s ∷ []) ++ scope_words (scopes_from f m d)
   unfolding scopes_from scope_words
-  scopes-turn zero c h k e g = absurd (not-suc-le-zero h)
-  scopes-turn (suc n) zero h k e g = absurd (not-suc-le-zero k)
-  scopes-turn (suc n) (suc c) {s} {d} h k e g =
-      let x : suc n - 1 ≡ n = omega arith in
+  scopes-turn zero m c h k e g = absurd (omega (arith, h))
+  scopes-turn (suc n) m zero h k e g = absurd (not-suc-le-zero k)
+  scopes-turn (suc n) m (suc c) {s} {d} h k e g =
+      let x : n ≡ m = omega (arith, h) in
       let y : suc c - 1 ≡ c = omega arith in
       let e2 : (f c).scope ≡ s = sym (e ∙ ap (λ (j : ℕ). (f j).scope) y) in
       let g2 : (f c).scopes ≡ d = sym (g ∙ ap (λ (j : ℕ). (f j).scopes) y) in
-      (λ i. 1 ∷ e2 i ∷ scope_words (scopes_from f (sym x i) (g2 i)))
+      (λ i. 1 ∷ e2 i ∷ scope_words (scopes_from f (x i) (g2 i)))
 
   pub symbols-none : (n c : ℕ) → c < 1 → symbol_words (symbols_from f n c) ≡ []
   unfolding symbols_from symbol_words
@@ -77,15 +77,15 @@ module _ (f : ℕ → Step) where
   symbols-out zero c h = refl
   symbols-out (suc n) c h = absurd (omega arith)
 
-  pub symbols-turn : (n c : ℕ) {d : ℕ} → 0 < n → 0 < c → d ≡ (f (c - 1)).below → symbol_words (symbols_from f n c) ≡ symbol_word (f (c - 1)).symbol (attached_of f (f (c - 1)).attached) ++ symbol_words (symbols_from f (n - 1) d)
+  pub symbols-turn : (n m c : ℕ) {d : ℕ} → n ≡ m + 1 → 0 < c → d ≡ (f (c - 1)).below → symbol_words (symbols_from f n c) ≡ symbol_word (f (c - 1)).symbol (attached_of f (f (c - 1)).attached) ++ symbol_words (symbols_from f m d)
   unfolding symbols_from symbol_words
-  symbols-turn zero c h k g = absurd (not-suc-le-zero h)
-  symbols-turn (suc n) zero h k g = absurd (not-suc-le-zero k)
-  symbols-turn (suc n) (suc c) {d} h k g =
-      let x : suc n - 1 ≡ n = omega arith in
+  symbols-turn zero m c h k g = absurd (omega (arith, h))
+  symbols-turn (suc n) m zero h k g = absurd (not-suc-le-zero k)
+  symbols-turn (suc n) m (suc c) {d} h k g =
+      let x : n ≡ m = omega (arith, h) in
       let y : suc c - 1 ≡ c = omega arith in
       let g2 : (f c).below ≡ d = sym (g ∙ ap (λ (j : ℕ). (f j).below) y) in
-      (λ i. symbol_word (f (sym y i)).symbol (attached_of f (f (sym y i)).attached) ++ symbol_words (symbols_from f (sym x i) (g2 i)))
+      (λ i. symbol_word (f (sym y i)).symbol (attached_of f (f (sym y i)).attached) ++ symbol_words (symbols_from f (x i) (g2 i)))
 
   -- a symbol without scopes, and one with scopes
   module _ (low high : ℕ) {y : ℕ} (fits : low < word_room) (is : joined low high ≡ y) where

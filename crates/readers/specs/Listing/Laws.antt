@@ -1,10 +1,9 @@
 -- One number more, the references and the edges one by one, and what is answered of them.
-use Rattle.std.specs.Prelude.{ℕ, zero, suc, ◌+◌, ◌-◌, ◌<◌, ◌≤◌, ◌≡◌, refl, Bool, true, false, List, [], ◌∷◌, ◌++◌, length, get_or, set, drop}
+use Rattle.std.specs.Prelude.{ℕ, zero, suc, ◌+◌, ◌-◌, ◌<◌, ◌≤◌, ◌≡◌, refl, Bool, true, false, List, [], ◌∷◌, ◌++◌, length, get_or, set, drop, Err, Ok}
 use Rattle.std.proofs.Common.{arith, not-suc-le-zero, le_of_suc-le-suc, sym, ap, subst, ◌∙◌, le-leb, length-set, length-append, drop-cons}
 use Rattle.std.proofs.lemmas.Bool.{lt-leb}
 use Rattle.semantics.specs.declared.graph.Node.{Node}
 use Rattle.semantics.specs.declared.graph.Node.TheVariants as N
-use Rattle.semantics.specs.declared.answer.Listing.TheVariants as Listing
 use Rattle.semantics.specs.declared.refusal.ImageRefusal.{ImageRefusal}
 use Rattle.semantics.specs.Answer.{Answer, ok, refuse}
 use Rattle.semantics.specs.Lists.{cons_if}
@@ -16,6 +15,7 @@ use Rattle.semantics.specs.Reading.{listed_if, listed, references_call, listed_u
 use Rattle.storage.specs.Index.{node_row, next_row, Runs, Loaded}
 use Rattle.storage.specs.Index.Use.{runs-end, runs-next}
 use Rattle.readers.specs.Listing.{Holds, Adds, Lists, outgoing_loaded}
+use Rattle.semantics.specs.declared.answer.ListingRefusal.{ListingRefusal}
 
 -- THE AREA
 
@@ -174,16 +174,16 @@ module _ (index out : List ℕ) where
 
 -- WHAT IS ANSWERED
 
-pub concluded-short : (ns : List ℕ) {area : List ℕ} {count : ℕ} (after : List ℕ) → Holds area count ns → length area < count → after ≡ zeros (length area) → Lists (listed (length area) ns) Listing.NoRoom after
+pub concluded-short : (ns : List ℕ) {area : List ℕ} {count : ℕ} (after : List ℕ) → Holds area count ns → length area < count → after ≡ zeros (length area) → Lists (listed (length area) ns) (Err ListingRefusal.NoRoom) after
 unfolding listed_if
 concluded-short ns {area} {count} after k h e = rw (lt-leb (length ns) (length area) (subst (λ (i : ℕ). length area < i) k.counted h)) (refl, e)
 
-pub concluded-done : (ns : List ℕ) {area : List ℕ} {count : ℕ} → Holds area count ns → count ≤ length area → Lists (listed (length area) ns) (Listing.Done count) area
+pub concluded-done : (ns : List ℕ) {area : List ℕ} {count : ℕ} → Holds area count ns → count ≤ length area → Lists (listed (length area) ns) (Ok count) area
 unfolding listed_if
-concluded-done ns {area} {count} k h = rw (le-leb (length ns) (length area) (subst (λ (i : ℕ). i ≤ length area) k.counted h)) (ap Listing.Done k.counted, k.words)
+concluded-done ns {area} {count} k h = rw (le-leb (length ns) (length area) (subst (λ (i : ℕ). i ≤ length area) k.counted h)) (ap Ok k.counted, k.words)
 
 module _ (x : Answer ImageRefusal Graph) (words : ℕ) where
-  pub references-refused : (r : ImageRefusal) → x ≡ refuse r → {area : List ℕ} → area ≡ zeros words → Lists (references_call x words) (Listing.Image r) area
+  pub references-refused : (r : ImageRefusal) → x ≡ refuse r → {area : List ℕ} → area ≡ zeros words → Lists (references_call x words) (Err (ListingRefusal.Image r)) area
   unfolding references_call
   references-refused r e a = rw e (refl, a)
 
@@ -192,7 +192,7 @@ module _ (x : Answer ImageRefusal Graph) (words : ℕ) where
   references-done g e k = rw e k
 
   module _ (n : ℕ) where
-    pub outgoing-refused : (r : ImageRefusal) → x ≡ refuse r → {area : List ℕ} → area ≡ zeros words → Lists (outgoing_call x n words) (Listing.Image r) area
+    pub outgoing-refused : (r : ImageRefusal) → x ≡ refuse r → {area : List ℕ} → area ≡ zeros words → Lists (outgoing_call x n words) (Err (ListingRefusal.Image r)) area
     unfolding outgoing_call
     outgoing-refused r e a = rw e (refl, a)
 
@@ -200,7 +200,7 @@ module _ (x : Answer ImageRefusal Graph) (words : ℕ) where
     outgoing-done g e k = rw e k
 
 module _ (g : Graph) (n words : ℕ) where
-  pub outgoing-unknown : (traits ((view_of g).node n)).removed ≡ true → {area : List ℕ} → area ≡ zeros words → Lists (outgoing_loaded g n words) (Listing.Unknown (node_id n)) area
+  pub outgoing-unknown : (traits ((view_of g).node n)).removed ≡ true → {area : List ℕ} → area ≡ zeros words → Lists (outgoing_loaded g n words) (Err (ListingRefusal.Unknown (node_id n))) area
   unfolding outgoing_call listed_unless
   outgoing-unknown e a = rw e (refl, a)
 

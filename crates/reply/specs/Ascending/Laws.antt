@@ -36,18 +36,16 @@ ahead-not [] a = a
 ahead-not (x ∷ l) (inl a) = omega (arith, a)
 ahead-not (x ∷ l) (inr a) = ahead-not l a.1
 
--- ---- two lists compared from word k on
+-- ---- two lists compared from their heads
 
-module _ (l m : List ℕ) (k : ℕ) (a : k < length l) (b : k < length m) where
-  -- word k decides
-  pub ahead-here : get_or l k 0 < get_or m k 0 → Ahead (drop k l) (drop k m)
-  ahead-here h = subst (λ (y : List ℕ). Ahead y (drop k m)) (sym (drop-cons l k 0 a)) (subst (λ (y : List ℕ). Ahead (get_or l k 0 ∷ drop (suc k) l) y) (sym (drop-cons m k 0 b)) (inl h))
+module _ {l m l' m' : List ℕ} {x y : ℕ} (left : l ≡ x ∷ l') (right : m ≡ y ∷ m') where
+  -- the heads decide
+  pub ahead-here : x < y → Ahead l m
+  ahead-here h = subst (λ (z : List ℕ). Ahead z m) (sym left) (subst (λ (z : List ℕ). Ahead (x ∷ l') z) (sym right) (inl h))
 
-  -- the words behind it decide
-  pub ahead-on : get_or l k 0 ≡ get_or m k 0 → Ahead (drop (k + 1) l) (drop (k + 1) m) → Ahead (drop k l) (drop k m)
-  ahead-on e h =
-      let s : k + 1 ≡ suc k = omega arith in
-      subst (λ (y : List ℕ). Ahead y (drop k m)) (sym (drop-cons l k 0 a)) (subst (λ (y : List ℕ). Ahead (get_or l k 0 ∷ drop (suc k) l) y) (sym (drop-cons m k 0 b)) (inr (e, subst (λ (j : ℕ). Ahead (drop j l) (drop j m)) s h)))
+  -- what stands behind them decides
+  pub ahead-on : x ≡ y → Ahead l' m' → Ahead l m
+  ahead-on e h = subst (λ (z : List ℕ). Ahead z m) (sym left) (subst (λ (z : List ℕ). Ahead (x ∷ l') z) (sym right) (inr (e, h)))
 
 -- ---- slots in ascending order
 

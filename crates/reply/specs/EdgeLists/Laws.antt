@@ -35,33 +35,33 @@ same-lengths l r h = bool_false (same l r) (λ (e : same l r ≡ true). h (ap le
 pub same-starts : (l r : List ℕ) → (get_or l 0 0 ≡ get_or r 0 0 → ⊥) → same l r ≡ false
 same-starts l r h = bool_false (same l r) (λ (e : same l r ≡ true). h (ap (λ (m : List ℕ). get_or m 0 0) (same-eq l r e)))
 
-same_more : (l r : List ℕ) (k : ℕ) → k < length l → k < length r → same (take (suc k) l) (take (suc k) r) ≡ and (same (take k l) (take k r)) (eqb (get_or l k 0) (get_or r k 0))
+same-last : (l r : List ℕ) (x y : ℕ) → length l ≡ length r → same (l ++ (x ∷ [])) (r ++ (y ∷ [])) ≡ and (same l r) (eqb x y)
 unfolding same
-same_more [] r k h i = absurd (not-suc-le-zero h)
-same_more (x ∷ l) [] k h i = absurd (not-suc-le-zero i)
-same_more (x ∷ l) (y ∷ r) zero h i = and-true-right (eqb x y)
-same_more (x ∷ l) (y ∷ r) (suc k) h i =
-    ap (and (eqb x y)) (same_more l r k (le_of_suc-le-suc h) (le_of_suc-le-suc i)) ∙ and_assoc (eqb x y) (same (take k l) (take k r)) (eqb (get_or l k 0) (get_or r k 0))
+same-last [] [] x y h = and-true-right (eqb x y)
+same-last [] (v ∷ r) x y h = absurd (omega (arith, h))
+same-last (u ∷ l) [] x y h = absurd (omega (arith, h))
+same-last (u ∷ l) (v ∷ r) x y h = ap (and (eqb u v)) (same-last l r x y (omega (arith, h))) ∙ and_assoc (eqb u v) (same l r) (eqb x y)
 
-pub same_whole : (l r : List ℕ) → length l ≡ length r → same (take (length l) l) (take (length l) r) ≡ same l r
-same_whole l r e = ap₂ same (take-length l) (ap (λ (k : ℕ). take k r) e ∙ take-length r)
+-- two lists of one length, by their last numbers and what is left
+module _ {l r : List ℕ} (m k : List ℕ) (x y : ℕ) (left : l ≡ m ++ (x ∷ [])) (right : r ≡ k ++ (y ∷ [])) (long : length l ≡ length r) where
+  pub same-long : length m ≡ length k
+  same-long = omega (arith, ap length left, ap length right, length-append m (x ∷ []), length-append k (y ∷ []), long)
 
-pub same_none : (l r : List ℕ) (k : ℕ) → k ≤ 0 → true ≡ same (take k l) (take k r)
+  last-is : same l r ≡ and (same m k) (eqb x y)
+  last-is = ap₂ same left right ∙ same-last m k x y same-long
+
+  -- the last numbers are the same: the others decide
+  pub same-on : x ≡ y → same m k ≡ same l r
+  same-on q = sym (last-is ∙ ap (and (same m k)) (eq-eqb x y q) ∙ and-true-right (same m k))
+
+  pub same_not : (x ≡ y → ⊥) → false ≡ same l r
+  same_not q = sym (last-is ∙ ap (and (same m k)) (ne_eqb x y q) ∙ and-false-right (same m k))
+
+pub same_none : (l r : List ℕ) → length l ≡ length r → length l ≡ 0 → true ≡ same l r
 unfolding same
-same_none l r k h = let q : k ≡ 0 = omega arith in rw q
-
-module _ (l r : List ℕ) (k : ℕ) (p : 0 < k) (h : k ≤ length l) (e : length l ≡ length r) where
-  same-last : same (take k l) (take k r) ≡ and (same (take (k - 1) l) (take (k - 1) r)) (eqb (get_or l (k - 1) 0) (get_or r (k - 1) 0))
-  same-last =
-      let q : k ≡ suc (k - 1) = omega arith in
-      ap (λ (j : ℕ). same (take j l) (take j r)) q ∙ same_more l r (k - 1) (omega arith) (omega arith)
-
-  -- the last of k numbers is the same: the others decide
-  pub same-on : get_or l (k - 1) 0 ≡ get_or r (k - 1) 0 → same (take (k - 1) l) (take (k - 1) r) ≡ same (take k l) (take k r)
-  same-on q = sym (same-last ∙ ap (and (same (take (k - 1) l) (take (k - 1) r))) (eq-eqb (get_or l (k - 1) 0) (get_or r (k - 1) 0) q) ∙ and-true-right (same (take (k - 1) l) (take (k - 1) r)))
-
-  pub same_not : (get_or l (k - 1) 0 ≡ get_or r (k - 1) 0 → ⊥) → false ≡ same (take k l) (take k r)
-  same_not q = sym (same-last ∙ ap (and (same (take (k - 1) l) (take (k - 1) r))) (ne_eqb (get_or l (k - 1) 0) (get_or r (k - 1) 0) q) ∙ and-false-right (same (take (k - 1) l) (take (k - 1) r)))
+same_none [] [] h e = refl
+same_none [] (v ∷ r) h e = absurd (omega (arith, h))
+same_none (u ∷ l) r h e = absurd (omega (arith, e))
 
 -- ---- one list among others, the first j of which were looked at
 

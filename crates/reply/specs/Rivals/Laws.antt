@@ -15,9 +15,8 @@ use Rattle.semantics.specs.declared.graph.Edge.{Edge}
 use Rattle.semantics.specs.declared.graph.Edge.TheVariants as E
 use Rattle.semantics.specs.Lists.{or, and, same, pick}
 use Rattle.storage.specs.Index.{edge_row}
-use Rattle.path.specs.Shadows.{alike, meet, after, shadows_edges}
-use Rattle.path.specs.declared.shadows.Met.{Met}
-use Rattle.path.specs.declared.shadows.Met.TheVariants.{Decided, Onward}
+use Rattle.std.specs.Prelude.{Some, None}
+use Rattle.path.specs.Shadows.{Met, alike, meet, after, shadows_edges}
 use Rattle.reply.specs.Beatable.{exceeds, AsGreat}
 use Rattle.reply.specs.EdgeLists.{beaten_list}
 use Rattle.reply.specs.ResultSlots.{count_of, edges_at, lists_at, AllFitting, Held}
@@ -61,7 +60,7 @@ module _ (index ws best : List ℕ) where
 
 -- ---- a path without a rival
 
-alike-no : (a b : Bool) → alike a b ≡ Decided true → ⊥
+alike-no : (a b : Bool) → ◌≡◌ {A = Met} (alike a b) (Some true) → ⊥
 alike-no true true e = let z : ◌≡◌ {A = ℕ} 0 1 = cc in omega arith
 alike-no true false e = let z : ◌≡◌ {A = ℕ} 0 1 = cc in omega arith
 alike-no false true e = let z : ◌≡◌ {A = ℕ} 0 1 = cc in omega arith
@@ -69,13 +68,13 @@ alike-no false false e = let z : ◌≡◌ {A = ℕ} 0 1 = cc in omega arith
 
 module _ (index ws best : List ℕ) where
   -- an edge that was looked at does not beat one without a rival
-  unbeatable : (x y : ℕ) (e f : Edge) → edge_row index x ≡ e → edge_row index y ≡ f → Reached index ws best x → Unrivalled index ws best y → meet e f ≡ Decided true → ⊥
+  unbeatable : (x y : ℕ) (e f : Edge) → edge_row index x ≡ e → edge_row index y ≡ f → Reached index ws best x → Unrivalled index ws best y → meet e f ≡ Some true → ⊥
   unfolding meet
   unbeatable x y E.Removed f i j o u m = let z : ◌≡◌ {A = ℕ} 0 1 = cc in omega arith
   unbeatable x y (E.Live s t p) E.Removed i j o u m = let z : ◌≡◌ {A = ℕ} 0 1 = cc in omega arith
   unbeatable x y (E.Live s t p) (E.Live a b q) i j o u m = on (eqb s.0 a.0) (lt_z q p) refl refl m
     where
-      on : (c d : Bool) → eqb s.0 a.0 ≡ c → lt_z q p ≡ d → pick c (pick d (Decided true) (alike (eqb t.0 1) (eqb b.0 1))) (Decided false) ≡ Decided true → ⊥
+      on : (c d : Bool) → eqb s.0 a.0 ≡ c → lt_z q p ≡ d → pick c (pick d (Some true) (alike (eqb t.0 1) (eqb b.0 1))) (Some false) ≡ Some true → ⊥
       on true true g k n =
           let v : s.0 ≡ a.0 = eqb-true s.0 a.0 g in
           let w = u a b q j in
@@ -98,9 +97,9 @@ module _ (index ws best : List ℕ) where
   unshadowed (x ∷ l) (y ∷ r) o u = on (meet (edge_row index x) (edge_row index y)) refl (unshadowed l r (λ (t : ℕ) (h : t < length l). o (suc t) (omega (arith, h))) (λ (t : ℕ) (h : t < length r). u (suc t) (omega (arith, h))))
     where
       on : (m : Met) → meet (edge_row index x) (edge_row index y) ≡ m → shadows_edges (edge_row index) l r ≡ false → after m (shadows_edges (edge_row index) l r) ≡ false
-      on (Decided true) e i = absurd (unbeatable x y (edge_row index x) (edge_row index y) refl refl (o 0 (omega arith)) (u 0 (omega arith)) e)
-      on (Decided false) e i = refl
-      on Onward e i = i
+      on (Some true) e i = absurd (unbeatable x y (edge_row index x) (edge_row index y) refl refl (o 0 (omega arith)) (u 0 (omega arith)) e)
+      on (Some false) e i = refl
+      on None e i = i
 
   unbeaten : (r : List ℕ) (ms : List (List ℕ)) → ((j : ℕ) → j < length ms → AllReached (get_or ms j [])) → AllUnrivalled r → beaten_list (shadows_edges (edge_row index)) r ms ≡ false
   unfolding beaten_list

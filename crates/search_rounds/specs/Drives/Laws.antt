@@ -1,15 +1,14 @@
 -- A popped path is laid out as steps and expanded; the run from here is the run from the start. For every choice of what is tried.
 -- Serves document 01, "Answer" and "Budget and frontier"; 36 of "Turned back".
-use Rattle.std.specs.Prelude.{ℕ, ◌+◌, ◌-◌, ◌*◌, ◌<◌, ◌≤◌, ◌≡◌, length, take, drop}
+use Rattle.std.specs.Prelude.{ℕ, ◌+◌, ◌-◌, ◌*◌, ◌<◌, ◌≤◌, ◌≡◌, length, take, drop, Ok, Err}
 use Rattle.std.proofs.Common.{arith, ◌∙◌}
 use Rattle.std.proofs.Math.Path.{refl, sym, ap, subst}
 use mathlib.Core.List.{List}
 use Rattle.std.proofs.Math.ListN.{get_or}
-use Rattle.semantics.specs.declared.search.Limit.{Limit}
 use Rattle.semantics.specs.declared.search.SearchStats.{SearchStats}
 use Rattle.semantics.specs.declared.refusal.SearchRefusal.{SearchRefusal}
 use Rattle.semantics.specs.declared.refusal.SearchRefusal.TheVariants as Search
-use Rattle.semantics.specs.Limits.{base, max_edges, slot_length, max_expansions, looked_before}
+use Rattle.semantics.specs.Limits.{base, max_edges, slot_length, max_expansions, looked_before, Limit}
 use Rattle.semantics.specs.Answer.{Answer, ok}
 use Rattle.semantics.specs.Answer.Laws.{ok-inj}
 use Rattle.semantics.specs.Graph.{view_of}
@@ -22,9 +21,10 @@ use Rattle.semantics.specs.Words.Laws.{length-encode}
 use Rattle.stepping.specs.Judged.{Stepped}
 use Rattle.path.specs.Replays.Calls.{few-edges}
 use Rattle.search_state.specs.declared.search.Search as S
-use Rattle.search_state.specs.declared.search.Going.{Going}
+use Rattle.search_state.specs.Searches.{Going}
 use Rattle.search_state.specs.declared.search.Finished.{Finished}
-use Rattle.search_state.specs.declared.search.Taken.{Taken}
+use Rattle.search_state.specs.declared.search.Round.TheVariants as Round
+use Rattle.search_state.specs.Searches.{Taken}
 use Rattle.search_state.specs.Items.{Clear}
 use Rattle.search_state.specs.Items.Laws.{carries-slot, clear-slot}
 use Rattle.search_state.specs.Retraces.{Laid, Retraces, Retraced}
@@ -35,7 +35,6 @@ use Rattle.search_state.specs.Reps.{setting_of, Rep, Tells}
 use Rattle.search_state.specs.Reps.Laws.{tells-on, tells-refused}
 use Rattle.search_state.specs.Reps.Rounds.{Opened, round-over, round-expand, round-many}
 use Rattle.search_state.specs.Runs.{run-over, run-many, run-round, run-refused}
-use Rattle.search_rounds.specs.declared.conclusion.SearchEnd.TheVariants.{Over, Refused}
 use Rattle.search_rounds.specs.Drives.{Tries, Rounding, Rounded, Driving, Ends, run_from, run_of, DrivenTo}
 
 -- ---- a round: the edges of the popped path are appended again
@@ -117,19 +116,20 @@ module _ (tries : Tries) {index steps₀ item₀ : List ℕ} {s : S.Search} {ws�
   start-state = refl
 
   module _ {on : S.Search} {steps item ws rs : List ℕ} {n : ℕ} (long : length steps ≡ length steps₀) (t : Turning on steps item ws rs n) {a : Taken} {item' ws' : List ℕ} (x : Taking on ws a item' ws') where
-    pub turn-over : (f : Finished) → a ≡ Taken.Over f → DrivenTo tries index steps₀ item₀ s ws₀ rs₀ v (Over f) rs
+    pub turn-over : (f : Finished) → a ≡ Ok (Round.Over f) → DrivenTo tries index steps₀ item₀ s ws₀ rs₀ v (Ok f) rs
     turn-over f e =
         let d = round-over (view_of v.graph) v.reference on ws rs t.state t.stood a item' ws' f x e in
         let w = run-over (setting_of (frame_of on)) (tries_of (frame_of on)) (max_expansions - on.state.budget.expanded) (merge on.frontier.order t.state) d.model d.round in
-        subst (λ (y : Answer SearchRefusal (State Path)). Ends (Over f) rs y) (sym (sym t.same ∙ w)) (d.counts, d.waited)
+        subst (λ (y : Answer SearchRefusal (State Path)). Ends (Ok f) rs y) (sym (sym t.same ∙ w)) (d.counts, d.waited)
 
-    pub turn_many : a ≡ Taken.TooMany → DrivenTo tries index steps₀ item₀ s ws₀ rs₀ v (Refused Search.TooManyExpansions) rs
-    turn_many e =
-        let d = round-many (view_of v.graph) v.reference on ws rs t.state t.stood a item' ws' x e in
+    pub turn_many : (y : SearchRefusal) → a ≡ Err y → DrivenTo tries index steps₀ item₀ s ws₀ rs₀ v (Err y) rs
+    turn_many y e =
+        let told = round-many (view_of v.graph) v.reference on ws rs t.state t.stood a item' ws' y x e in
+        let d = told.1 in
         let w = run-many (setting_of (frame_of on)) (tries_of (frame_of on)) (max_expansions - on.state.budget.expanded) (merge on.frontier.order t.state) d.path d.model d.round (omega (arith, d.before)) in
-        subst (λ (y : Answer SearchRefusal (State Path)). Ends (Refused Search.TooManyExpansions) rs y) (sym (sym t.same ∙ w)) refl
+        subst (λ (z : Answer SearchRefusal (State Path)). Ends (Err y) rs z) (sym (sym t.same ∙ w)) told.0
 
-    module _ (next : S.Search) (e : a ≡ Taken.Expand next) where
+    module _ (next : S.Search) (e : a ≡ Ok (Round.Expand next)) where
       pub opened : Opened (view_of v.graph) v.reference on ws rs t.state t.stood item' ws' next
       opened = round-expand (view_of v.graph) v.reference on ws rs t.state t.stood a item' ws' next x e
 
@@ -169,14 +169,14 @@ module _ (tries : Tries) {index steps₀ item₀ : List ℕ} {s : S.Search} {ws�
         onto : Tells (view_of v.graph) v.reference (frame_of on) b ws'' rs' (each (setting_of (frame_of on)) opened.model (tries_of (frame_of on) opened.path))
         onto = subst (λ (f : Frame). Tells (view_of v.graph) v.reference f b ws'' rs' (each (setting_of f) opened.model (tries_of f opened.path))) opened.frame told
 
-        pub turn-refused : (y : SearchRefusal) → b ≡ Going.Refused y → DrivenTo tries index steps₀ item₀ s ws₀ rs₀ v (Refused y) rs'
+        pub turn-refused : (y : SearchRefusal) → b ≡ Err y → DrivenTo tries index steps₀ item₀ s ws₀ rs₀ v (Err y) rs'
         turn-refused y d =
             let o = opened in
             let u = tells-refused (view_of v.graph) v.reference (frame_of on) b ws'' rs' (each (setting_of (frame_of on)) o.model (tries_of (frame_of on) o.path)) y onto d in
             let w = run-refused (setting_of (frame_of on)) (tries_of (frame_of on)) (max_expansions - on.state.budget.expanded) (merge on.frontier.order t.state) o.path o.model y o.round (omega (arith, o.before)) u in
-            subst (λ (z : Answer SearchRefusal (State Path)). Ends (Refused y) rs' z) (sym (sym t.same ∙ w)) refl
+            subst (λ (z : Answer SearchRefusal (State Path)). Ends (Err y) rs' z) (sym (sym t.same ∙ w)) refl
 
-        module _ (m' : S.Search) (d : b ≡ Going.On m') where
+        module _ (m' : S.Search) (d : b ≡ Ok m') where
           pub going : (m : State Path) × (each (setting_of (frame_of on)) opened.model (tries_of (frame_of on) opened.path) ≡ ok m) × (frame_of m' ≡ frame_of on) × Rep (view_of v.graph) v.reference m' ws'' rs' m
           going = tells-on (view_of v.graph) v.reference (frame_of on) b ws'' rs' (each (setting_of (frame_of on)) opened.model (tries_of (frame_of on) opened.path)) m' onto d
 

@@ -1,6 +1,6 @@
 -- Outcomes of an extension.
 -- Serves document 01, "Answer"; 31 and 32 of "Turned back".
-use Rattle.std.specs.Prelude.{ℕ, ◌+◌, ◌≡◌, refl, Bool, true, false}
+use Rattle.std.specs.Prelude.{ℕ, ◌+◌, ◌≡◌, refl, Bool, true, false, Option, Some, None, Ok, Err}
 use Rattle.std.proofs.Common.{sym, ap, subst, ◌∙◌, inl, inr, ⊎_elim}
 use mathlib.Core.List.{List, map, Memᴰ}
 use Rattle.semantics.specs.declared.refusal.SearchRefusal.{SearchRefusal}
@@ -13,11 +13,8 @@ use Rattle.semantics.specs.Enumeration.{State, Setting, Tally, keep, with_pendin
 use Rattle.semantics.specs.Enumeration.Laws.{place_ok}
 use Rattle.path_frontier.specs.Frontier.{Waits}
 use Rattle.search_state.specs.declared.state.SearchState.{SearchState}
-use Rattle.search_state.specs.declared.state.Recorded.{Recorded}
-use Rattle.search_state.specs.declared.state.Recorded.TheVariants.{Done, Full}
 use Rattle.search_state.specs.declared.search.Search as S
-use Rattle.search_state.specs.declared.search.Going.{Going}
-use Rattle.search_state.specs.declared.search.Going.TheVariants.{On, Refused}
+use Rattle.search_state.specs.Searches.{Going}
 use Rattle.search_state.specs.States.{recorded_by, result_after}
 use Rattle.search_state.specs.Items.{Clear}
 use Rattle.search_state.specs.Items.Laws.{clear-slot}
@@ -34,23 +31,23 @@ unfolding keep
 extend-only {s} {ws} rs {a} {ws'} x g r m q n rep few at good e = push-tells rep q good (subst (λ (i : List ℕ). Extends s ws i a ws') e x)
 
 -- ---- complete
-module _ (s : S.Search) (ws rs item : List ℕ) {b : Recorded} {rs' : List ℕ} (is : b ≡ recorded_by s.state) (w : rs' ≡ result_after s.state item rs) where
+module _ (s : S.Search) (ws rs item : List ℕ) {b : Option SearchState} {rs' : List ℕ} (is : b ≡ recorded_by s.state) (w : rs' ≡ result_after s.state item rs) where
   module _ {g : View} {r : ℕ} {m : State Path} (q : Path) (rep : Rep g r s ws rs m) (e : item ≡ slot_of q) where
     told : Records (setting_of (frame_of s)) Search.NoResultSlot refl refl rep.counts q b rs' (keep true (setting_of (frame_of s)) m q)
     told = record-tells (setting_of (frame_of s)) Search.NoResultSlot refl refl rep.counts q is (w ∙ ap (λ (i : List ℕ). result_after s.state i rs) e)
 
-    kept-done : (n : SearchState) → b ≡ Done n → (u : State Path) × (keep true (setting_of (frame_of s)) m q ≡ ok u) × Kept s.state n rs' m u
-    kept-done n d = on (keep true (setting_of (frame_of s)) m q) refl (subst (λ (y : Recorded). Records (setting_of (frame_of s)) Search.NoResultSlot refl refl rep.counts q y rs' (keep true (setting_of (frame_of s)) m q)) d told)
+    kept-done : (n : SearchState) → b ≡ Some n → (u : State Path) × (keep true (setting_of (frame_of s)) m q ≡ ok u) × Kept s.state n rs' m u
+    kept-done n d = on (keep true (setting_of (frame_of s)) m q) refl (subst (λ (y : Option SearchState). Records (setting_of (frame_of s)) Search.NoResultSlot refl refl rep.counts q y rs' (keep true (setting_of (frame_of s)) m q)) d told)
       where
-        on : (t : Answer SearchRefusal (State Path)) → keep true (setting_of (frame_of s)) m q ≡ t → Records (setting_of (frame_of s)) Search.NoResultSlot refl refl rep.counts q (Done n) rs' t
+        on : (t : Answer SearchRefusal (State Path)) → keep true (setting_of (frame_of s)) m q ≡ t → Records (setting_of (frame_of s)) Search.NoResultSlot refl refl rep.counts q (Some n) rs' t
             → (u : State Path) × (keep true (setting_of (frame_of s)) m q ≡ ok u) × Kept s.state n rs' m u
         on (ok u) k h = (u, k, h)
         on (refuse y) k h = absurd h
 
-    kept_full : b ≡ Full → keep true (setting_of (frame_of s)) m q ≡ refuse Search.NoResultSlot
-    kept_full d = on (keep true (setting_of (frame_of s)) m q) (subst (λ (y : Recorded). Records (setting_of (frame_of s)) Search.NoResultSlot refl refl rep.counts q y rs' (keep true (setting_of (frame_of s)) m q)) d told)
+    kept_full : b ≡ None → keep true (setting_of (frame_of s)) m q ≡ refuse Search.NoResultSlot
+    kept_full d = on (keep true (setting_of (frame_of s)) m q) (subst (λ (y : Option SearchState). Records (setting_of (frame_of s)) Search.NoResultSlot refl refl rep.counts q y rs' (keep true (setting_of (frame_of s)) m q)) d told)
       where
-        on : (t : Answer SearchRefusal (State Path)) → Records (setting_of (frame_of s)) Search.NoResultSlot refl refl rep.counts q Full rs' t → t ≡ refuse Search.NoResultSlot
+        on : (t : Answer SearchRefusal (State Path)) → Records (setting_of (frame_of s)) Search.NoResultSlot refl refl rep.counts q None rs' t → t ≡ refuse Search.NoResultSlot
         on (ok u) h = absurd h
         on (refuse y) h = ap (λ (x : SearchRefusal). refuse x) h
 
@@ -70,10 +67,10 @@ module _ (s : S.Search) (ws rs item : List ℕ) {b : Recorded} {rs' : List ℕ} 
     kept_frame : {n : SearchState} {u : State Path} → Kept s.state n rs' m u → frame_of (with_state n s) ≡ frame_of s
     kept_frame h = λ i. record { order = s.frontier.order; limits = h.same.limits i; waiting = s.frontier.capacity; results = h.same.results i }
 
-  pub extend-full : b ≡ Full → ExtendsTo s true ws rs item (Refused Search.NoResultSlot) ws rs'
+  pub extend-full : b ≡ None → ExtendsTo s true ws rs item (Err Search.NoResultSlot) ws rs'
   extend-full d g r m q n rep few at good e = rw (kept_full q rep e d) refl
 
-  pub extend-kept : (n : SearchState) → b ≡ Done n → {t : S.Search} → t ≡ with_state n s → {a : Going} {ws' : List ℕ} → Extends t ws item a ws' → ExtendsTo s true ws rs item a ws' rs'
+  pub extend-kept : (n : SearchState) → b ≡ Some n → {t : S.Search} → t ≡ with_state n s → {a : Going} {ws' : List ℕ} → Extends t ws item a ws' → ExtendsTo s true ws rs item a ws' rs'
   extend-kept n d {t} made {a} {ws'} x g r m q k rep few at good e =
       let h = kept-done q rep e n d in
       let u = h.0 in
@@ -93,10 +90,10 @@ pushed-is c q m u e = place_ok c.waiting _ _ u e
 
 -- the path waits, so that its words have a place in a slot
 pub extend-clears : (g : View) (r : ℕ) (f : Frame) (c : Bool) (a : Going) (ws rs : List ℕ) (m : State Path) (q : Path) {item : List ℕ} → item ≡ slot_of q → Tells g r f a ws rs (and_then (keep c (setting_of f) m q) (push_item (setting_of f) q)) → Clears a item
-extend-clears g r f c (Refused x) ws rs m q e h = tt
-extend-clears g r f c (On s) ws rs m q {item} e h = on (and_then (keep c (setting_of f) m q) (push_item (setting_of f) q)) refl h
+extend-clears g r f c (Err x) ws rs m q e h = tt
+extend-clears g r f c (Ok s) ws rs m q {item} e h = on (and_then (keep c (setting_of f) m q) (push_item (setting_of f) q)) refl h
   where
-    on : (t : Answer SearchRefusal (State Path)) → and_then (keep c (setting_of f) m q) (push_item (setting_of f) q) ≡ t → Tells g r f (On s) ws rs t → Clears (On s) item
+    on : (t : Answer SearchRefusal (State Path)) → and_then (keep c (setting_of f) m q) (push_item (setting_of f) q) ≡ t → Tells g r f (Ok s) ws rs t → Clears (Ok s) item
     on (refuse y) k h = absurd h
     on (ok u) k h =
         let p = and_then-ok (keep c (setting_of f) m q) (push_item (setting_of f) q) u k in

@@ -1,9 +1,10 @@
 -- A search that goes on in its frame is the search that its progress stands for there.
 -- Serves document 01, "Answer" and "Budget and frontier".
-use Rattle.std.specs.Prelude.{ℕ, ◌≡◌, refl, Bool, true, false, List, leb}
+use Rattle.std.specs.Prelude.{Ok, Err, ℕ, ◌≡◌, refl, Bool, true, false, List, leb, Option, Some, None}
 use Rattle.std.proofs.Common.{sym, ap, subst, ◌∙◌}
 use Rattle.semantics.specs.Limits.{max_expansions}
 use Rattle.semantics.specs.declared.refusal.SearchRefusal.{SearchRefusal}
+use Rattle.semantics.specs.declared.refusal.SearchRefusal.TheVariants as Search
 use Rattle.semantics.specs.Lists.{pick}
 use Rattle.semantics.specs.Answer.{Answer, ok, refuse}
 use Rattle.semantics.specs.Graph.{View}
@@ -12,22 +13,18 @@ use Rattle.semantics.specs.Enumeration.{State}
 use Rattle.path_budget.specs.Budget.{expansion}
 use Rattle.path_budget.specs.Budget.Laws.{expansion-limits}
 use Rattle.path_frontier.specs.declared.frontier.Frontier.{Frontier}
-use Rattle.path_frontier.specs.declared.frontier.Popped.{Popped}
 use Rattle.path_frontier.specs.Frontier.Laws.{pop-frame}
 use Rattle.search_state.specs.declared.dead_ends.DeadEnds.{DeadEnds}
 use Rattle.search_state.specs.declared.search.Search as S
-use Rattle.search_state.specs.declared.search.Going.{Going}
-use Rattle.search_state.specs.declared.search.Taken.{Taken}
+use Rattle.search_state.specs.declared.search.Round.TheVariants.{Expand}
 use Rattle.search_state.specs.declared.progress.Frame.{Frame}
 use Rattle.search_state.specs.declared.progress.Progress.{Progress}
-use Rattle.search_state.specs.declared.progress.Course.{Course}
-use Rattle.search_state.specs.declared.progress.Next.{Next}
 use Rattle.search_state.specs.States.{with_budget}
-use Rattle.search_state.specs.Searches.{taken_of, over_by, Takeable, Taking}
+use Rattle.search_state.specs.Searches.{Going, Taken, taken_of, over_by, Takeable, Taking}
 use Rattle.search_state.specs.Passes.{passed_by}
 use Rattle.search_state.specs.Reps.{Tells}
 use Rattle.search_state.specs.Extensions.{Extendable, ExtendsTo}
-use Rattle.search_state.specs.Progresses.{frame_of, progress_of, at, course_of, course_at, next_of, next_at, counted_on, progress_by}
+use Rattle.search_state.specs.Progresses.{Course, Next, frame_of, progress_of, at, course_of, course_at, next_of, next_at, counted_on, progress_by}
 
 pub at_own : {f : Frame} (s : S.Search) → frame_of s ≡ f → at f (progress_of s) ≡ s
 at_own s e = subst (λ (x : Frame). at x (progress_of s) ≡ s) e refl
@@ -48,9 +45,9 @@ flag_is d p e = ap (λ (x : Bool). counted_on (pick x true p.length_limited) d p
 -- ---- an extension
 
 tells-course : (g : View) (r : ℕ) (f : Frame) (a : Going) (ws rs : List ℕ) (t : Answer SearchRefusal (State Path)) → Tells g r f a ws rs t → Tells g r f (course_at f (course_of a)) ws rs t
-tells-course g r f (Going.On s) ws rs (ok m) h = subst (λ (z : S.Search). Tells g r f (Going.On z) ws rs (ok m)) (sym (at_own s h.0)) h
-tells-course g r f (Going.On s) ws rs (refuse y) h = absurd h
-tells-course g r f (Going.Refused x) ws rs t h = h
+tells-course g r f (Ok s) ws rs (ok m) h = subst (λ (z : S.Search). Tells g r f (Ok z) ws rs (ok m)) (sym (at_own s h.0)) h
+tells-course g r f (Ok s) ws rs (refuse y) h = absurd h
+tells-course g r f (Err x) ws rs t h = h
 
 module _ (f : Frame) (p : Progress) {s : S.Search} (is : s ≡ at f p) (c : Bool) (ws rs item : List ℕ) where
   pub extend-given : Extendable (at f p) ws rs item → Extendable s ws rs item
@@ -65,22 +62,22 @@ module _ (f : Frame) (p : Progress) {s : S.Search} (is : s ≡ at f p) (c : Bool
 -- ---- the top of a round
 
 module _ {s : S.Search} {ws : List ℕ} {a : Taken} {item ws' : List ℕ} (x : Taking s ws a item ws') where
-  next-is : (n : S.Search) → frame_of n ≡ frame_of s → next_at (frame_of s) (next_of (Taken.Expand n)) ≡ Taken.Expand n
-  next-is n e = ap (λ (z : S.Search). Taken.Expand z) (at_own n e)
+  next-is : (n : S.Search) → frame_of n ≡ frame_of s → next_at (frame_of s) (next_of (Ok (Expand n))) ≡ Ok (Expand n)
+  next-is n e = ap (λ (z : S.Search). Ok (Expand z)) (at_own n e)
 
   abbrev opened : Frontier → S.Search
   opened f = record { frontier = f; state = with_budget (expansion s.state.budget).budget s.state }
 
-  same-frame : (f : Frontier) → x.popped ≡ Popped.Item f → frame_of (opened f) ≡ frame_of s
+  same-frame : (f : Frontier) → x.popped ≡ Some f → frame_of (opened f) ≡ frame_of s
   same-frame f e =
       let k = (pop-frame s.frontier ws x.popped x.pops.words ws' x.pops.pops f e).0.kept in
       λ i. record { order = k.order i; limits = expansion-limits s.state.budget i; waiting = k.capacity i; results = s.state.results }
 
-  same : (p : Popped) → x.popped ≡ p → next_at (frame_of s) (next_of (taken_of s p)) ≡ taken_of s p
-  same Popped.Empty e = refl
-  same (Popped.Item f) e = by (expansion s.state.budget).allowed (leb max_expansions s.state.budget.expanded)
+  same : (p : Option Frontier) → x.popped ≡ p → next_at (frame_of s) (next_of (taken_of s p)) ≡ taken_of s p
+  same None e = refl
+  same (Some f) e = by (expansion s.state.budget).allowed (leb max_expansions s.state.budget.expanded)
     where
-      by : (b d : Bool) → next_at (frame_of s) (next_of (pick b (pick d Taken.TooMany (Taken.Expand (opened f))) (over_by s.frontier (opened f).state))) ≡ pick b (pick d Taken.TooMany (Taken.Expand (opened f))) (over_by s.frontier (opened f).state)
+      by : (b d : Bool) → next_at (frame_of s) (next_of (pick b (pick d (Err Search.TooManyExpansions) (Ok (Expand (opened f)))) (Ok (over_by s.frontier (opened f).state)))) ≡ pick b (pick d (Err Search.TooManyExpansions) (Ok (Expand (opened f)))) (Ok (over_by s.frontier (opened f).state))
       by false d = refl
       by true true = refl
       by true false = next-is (opened f) (same-frame f e)

@@ -1,6 +1,6 @@
 -- A search in code goes on as the enumeration does: what is counted, kept and pushed.
 -- Serves document 01, "Answer" and "Budget and frontier"; 31 and 32 of "Turned back".
-use Rattle.std.specs.Prelude.{ℕ, zero, suc, ◌+◌, ◌-◌, ◌*◌, ◌<◌, ◌≤◌, ◌≡◌, ◌⊎◌, Bool, length, get_or}
+use Rattle.std.specs.Prelude.{ℕ, zero, suc, ◌+◌, ◌-◌, ◌*◌, ◌<◌, ◌≤◌, ◌≡◌, ◌⊎◌, Bool, length, get_or, Option, Some, None, Ok, Err}
 use Rattle.std.proofs.Common.{arith, mul-suc, ap₂, ◌∙◌, inl, inr, ⊎_elim, ltb→lt, length-append}
 use Rattle.std.proofs.Math.Path.{refl, sym, ap, subst}
 use Rattle.std.proofs.Math.Bool.{true, false}
@@ -24,7 +24,6 @@ use Rattle.words.specs.Area.{encode-count}
 use Rattle.words.specs.Slots.{put_slot, padded}
 use Rattle.words.specs.Slots.Laws.{within, length-put, put-at}
 use Rattle.path_frontier.specs.declared.frontier.Frontier.{Frontier}
-use Rattle.path_frontier.specs.declared.frontier.Pushed.{Pushed}
 use Rattle.path_budget.specs.Budget.{completion, limits_of}
 use Rattle.path_budget.specs.Budget.Laws.{completion-allowed, completion-limits, completion-granted, completion-refused}
 use Rattle.path_frontier.specs.Frontier.{pushed, greatest_in, Waits, Pushes, MakesRoom}
@@ -32,11 +31,8 @@ use Rattle.path_frontier.specs.Frontier.Laws.{push-frame}
 use Rattle.path_frontier.specs.Frontier.Stands.{Stands, stands-done, stands-full}
 use Rattle.path.specs.Replays.Calls.{few-edges}
 use Rattle.search_state.specs.declared.state.SearchState.{SearchState}
-use Rattle.search_state.specs.declared.state.Recorded.{Recorded}
-use Rattle.search_state.specs.declared.state.Recorded.TheVariants.{Done, Full}
 use Rattle.search_state.specs.declared.search.Search as S
-use Rattle.search_state.specs.declared.search.Going.{Going}
-use Rattle.search_state.specs.declared.search.Going.TheVariants.{On, Refused}
+use Rattle.search_state.specs.Searches.{Going}
 use Rattle.search_state.specs.States.{kept_one, asked, recorded_by, result_after}
 use Rattle.search_state.specs.Searches.{going_of, Pushable, Extends}
 use Rattle.search_state.specs.Items.Laws.{encode-longer, encode-front}
@@ -113,11 +109,11 @@ module _ {R : Type 0} (c : Setting R) (full : R) {st : SearchState} (lent : c.re
   answer-is e = sym (completion-allowed st.kept st.budget) ∙ e
 
   -- the answer of recording beside the enumeration's
-  abbrev pub Records : Recorded → List ℕ → Answer R (State Path) → Type 0
-  Records (Done n) rs' (ok u) = Kept st n rs' m u
-  Records (Done n) rs' (refuse y) = ⊥
-  Records Full rs' (ok u) = ⊥
-  Records Full rs' (refuse y) = y ≡ full
+  abbrev pub Records : Option SearchState → List ℕ → Answer R (State Path) → Type 0
+  Records (Some n) rs' (ok u) = Kept st n rs' m u
+  Records (Some n) rs' (refuse y) = ⊥
+  Records None rs' (ok u) = ⊥
+  Records None rs' (refuse y) = y ≡ full
 
   few-more : {n : ℕ} → Few n m.stats → Few (n + 1) (add_complete m.stats)
   few-more f = record { complete = omega (arith, f.complete); rejected = omega (arith, f.rejected); cycles = omega (arith, f.cycles) }
@@ -157,15 +153,15 @@ module _ {R : Type 0} (c : Setting R) (full : R) {st : SearchState} (lent : c.re
         few = λ x f. few-more f;
       }
 
-  pub record-tells : {a : Recorded} {rs' : List ℕ} → a ≡ recorded_by st → rs' ≡ result_after st (slot_of q) rs → Records a rs' (keep true c m q)
+  pub record-tells : {a : Option SearchState} {rs' : List ℕ} → a ≡ recorded_by st → rs' ≡ result_after st (slot_of q) rs → Records a rs' (keep true c m q)
   unfolding recorded_by result_after
-  record-tells {rs'} e w = subst (λ (x : Recorded). Records x rs' (keep true c m q)) (sym e) (subst (λ (x : List ℕ). Records (recorded_by st) x (keep true c m q)) (sym w) (on (completion st.kept st.budget).allowed (ltb st.kept st.results) refl refl))
+  record-tells {rs'} e w = subst (λ (x : Option SearchState). Records x rs' (keep true c m q)) (sym e) (subst (λ (x : List ℕ). Records (recorded_by st) x (keep true c m q)) (sym w) (on (completion st.kept st.budget).allowed (ltb st.kept st.results) refl refl))
     where
       on : (b d : Bool) → (completion st.kept st.budget).allowed ≡ b → ltb st.kept st.results ≡ d
-          → Records (pick b (pick d (Done (kept_one (asked st))) Full) (Done (asked st))) (pick b (pick d (put_slot slot_length st.kept (slot_of q) rs) rs) rs) (keep true c m q)
-      on false d x y = unfold keep_if in subst (λ (z : Answer R (State Path)). Records (Done (asked st)) rs z) (sym (keep-is x)) (not-kept x)
-      on true false x y = unfold ok_if in subst (λ (z : Answer R (State Path)). Records Full rs z) (sym (keep-is x ∙ place_is y)) refl
-      on true true x y = unfold ok_if in subst (λ (z : Answer R (State Path)). Records (Done (kept_one (asked st))) (put_slot slot_length st.kept (slot_of q) rs) z) (sym (keep-is x ∙ place_is y)) (newly-kept x (ltb→lt st.kept st.results (subst T (sym y) tt)))
+          → Records (pick b (pick d (Some (kept_one (asked st))) None) (Some (asked st))) (pick b (pick d (put_slot slot_length st.kept (slot_of q) rs) rs) rs) (keep true c m q)
+      on false d x y = unfold keep_if in subst (λ (z : Answer R (State Path)). Records (Some (asked st)) rs z) (sym (keep-is x)) (not-kept x)
+      on true false x y = unfold ok_if in subst (λ (z : Answer R (State Path)). Records None rs z) (sym (keep-is x ∙ place_is y)) refl
+      on true true x y = unfold ok_if in subst (λ (z : Answer R (State Path)). Records (Some (kept_one (asked st))) (put_slot slot_length st.kept (slot_of q) rs) z) (sym (keep-is x ∙ place_is y)) (newly-kept x (ltb→lt st.kept st.results (subst T (sym y) tt)))
 
 -- ---- a push
 
@@ -211,16 +207,16 @@ module _ {g : View} {r : ℕ} {s : S.Search} {ws rs : List ℕ} {m : State Path}
         (λ (b : Memᴰ p (q ∷ [])). subst (λ (z : Path). Replayed g r z × (length z.edges < s.frontier.length)) (sym (Memᴰ.eq_of_singleton b)) (good, short))
         (Memᴰ.append_cases m.pending a)
 
-    slot-tells : {a : Pushed} {ws' : List ℕ} → Pushes s.frontier ws (slot_in s.frontier.length q) a ws' → Tells g r (frame_of s) (going_of s.state a) ws' rs (push_item (setting_of (frame_of s)) q m)
+    slot-tells : {a : Option Frontier} {ws' : List ℕ} → Pushes s.frontier ws (slot_in s.frontier.length q) a ws' → Tells g r (frame_of s) (going_of s.state a) ws' rs (push_item (setting_of (frame_of s)) q m)
     slot-tells {a} {ws'} x = on a refl
       where
-        on : (p : Pushed) → a ≡ p → Tells g r (frame_of s) (going_of s.state p) ws' rs (push_item (setting_of (frame_of s)) q m)
-        on (Pushed.Done f) e =
+        on : (p : Option Frontier) → a ≡ p → Tells g r (frame_of s) (going_of s.state p) ws' rs (push_item (setting_of (frame_of s)) q m)
+        on (Some f) e =
             let L = s.frontier.length in
             let d = stands-done (slot_in L) (setting_of (frame_of s)) Search.NoWaitingSlot s.frontier refl ws m q a ws' x rep.stands f e in
             let h = push-frame s.frontier ws (slot_in L q) a ws' x f e in
-            subst (λ (z : Frontier). Tells g r (frame_of s) (On (with_frontier z s)) ws' rs (push_item (setting_of (frame_of s)) q m)) (sym h.1)
-            (subst (λ (y : Answer SearchRefusal (State Path)). Tells g r (frame_of s) (On (with_frontier (pushed s.frontier) s)) ws' rs y) (sym d.0) (
+            subst (λ (z : Frontier). Tells g r (frame_of s) (Ok (with_frontier z s)) ws' rs (push_item (setting_of (frame_of s)) q m)) (sym h.1)
+            (subst (λ (y : Answer SearchRefusal (State Path)). Tells g r (frame_of s) (Ok (with_frontier (pushed s.frontier) s)) ws' rs y) (sym d.0) (
               refl,
               record {
                 sized = record { wider = record { longer = rep.sized.wider.longer; room = omega (arith, rep.sized.wider.room, x.same_length) }; fits = λ p k. (in-snoc p k).1 };
@@ -230,8 +226,8 @@ module _ {g : View} {r : ℕ} {s : S.Search} {ws rs : List ℕ} {m : State Path}
                 replays = λ p k. (in-snoc p k).0;
               },
             ))
-        on Pushed.Full e =
-            subst (λ (y : Answer SearchRefusal (State Path)). Tells g r (frame_of s) (Refused Search.NoWaitingSlot) ws' rs y) (sym (stands-full (slot_in s.frontier.length) (setting_of (frame_of s)) Search.NoWaitingSlot s.frontier refl ws m q a ws' x rep.stands e)) refl
+        on None e =
+            subst (λ (y : Answer SearchRefusal (State Path)). Tells g r (frame_of s) (Err Search.NoWaitingSlot) ws' rs y) (sym (stands-full (slot_in s.frontier.length) (setting_of (frame_of s)) Search.NoWaitingSlot s.frontier refl ws m q a ws' x rep.stands e)) refl
 
 -- the words of a path can be pushed
 pub rep-pushable : {g : View} {r : ℕ} {s : S.Search} {ws rs : List ℕ} {m : State Path} → Rep g r s ws rs m → (q : Path) → Replayed g r q → {item : List ℕ} → item ≡ slot_of q → Pushable s ws item
@@ -256,16 +252,16 @@ push-tells {g} {r} {s} {ws} {rs} {m} rep q good {ws'} x =
 
 -- ---- what a caller draws from an answer
 
-going-refused : (s : S.Search) (x : SearchRefusal) → On s ≡ Refused x → ⊥
+going-refused : (s : S.Search) (x : SearchRefusal) → Ok s ≡ Err x → ⊥
 going-refused s x e = let z : ◌≡◌ {A = ℕ} 0 1 = cc in omega arith
 
 module _ (g : View) (r : ℕ) (f : Frame) where
-  pub tells-on : (a : Going) (ws rs : List ℕ) (t : Answer SearchRefusal (State Path)) (s : S.Search) → Tells g r f a ws rs t → a ≡ On s → (m : State Path) × (t ≡ ok m) × (frame_of s ≡ f) × Rep g r s ws rs m
-  tells-on (On s') ws rs (ok m) s h e = let z : s' ≡ s = cc in (m, refl, (subst (λ (x : S.Search). (frame_of x ≡ f) × Rep g r x ws rs m) z h).0, (subst (λ (x : S.Search). (frame_of x ≡ f) × Rep g r x ws rs m) z h).1)
-  tells-on (On s') ws rs (refuse y) s h e = absurd h
-  tells-on (Refused x) ws rs t s h e = absurd (going-refused s x (sym e))
+  pub tells-on : (a : Going) (ws rs : List ℕ) (t : Answer SearchRefusal (State Path)) (s : S.Search) → Tells g r f a ws rs t → a ≡ Ok s → (m : State Path) × (t ≡ ok m) × (frame_of s ≡ f) × Rep g r s ws rs m
+  tells-on (Ok s') ws rs (ok m) s h e = let z : s' ≡ s = cc in (m, refl, (subst (λ (x : S.Search). (frame_of x ≡ f) × Rep g r x ws rs m) z h).0, (subst (λ (x : S.Search). (frame_of x ≡ f) × Rep g r x ws rs m) z h).1)
+  tells-on (Ok s') ws rs (refuse y) s h e = absurd h
+  tells-on (Err x) ws rs t s h e = absurd (going-refused s x (sym e))
 
-  pub tells-refused : (a : Going) (ws rs : List ℕ) (t : Answer SearchRefusal (State Path)) (x : SearchRefusal) → Tells g r f a ws rs t → a ≡ Refused x → t ≡ refuse x
-  tells-refused (On s) ws rs t x h e = absurd (going-refused s x e)
-  tells-refused (Refused y) ws rs (ok m) x h e = absurd h
-  tells-refused (Refused y) ws rs (refuse z) x h e = let w : y ≡ x = cc in ap (λ (v : SearchRefusal). refuse v) (sym h ∙ w)
+  pub tells-refused : (a : Going) (ws rs : List ℕ) (t : Answer SearchRefusal (State Path)) (x : SearchRefusal) → Tells g r f a ws rs t → a ≡ Err x → t ≡ refuse x
+  tells-refused (Ok s) ws rs t x h e = absurd (going-refused s x e)
+  tells-refused (Err y) ws rs (ok m) x h e = absurd h
+  tells-refused (Err y) ws rs (refuse z) x h e = let w : y ≡ x = cc in ap (λ (v : SearchRefusal). refuse v) (sym h ∙ w)

@@ -1,6 +1,6 @@
 -- The top of a round: the search is over, or the next path in the order of taking is to be expanded, or it would be one expansion too many.
 -- Serves document 01, "Budget and frontier"; 36 of "Turned back".
-use Rattle.std.specs.Prelude.{ℕ, ◌+◌, ◌<◌, ◌≤◌, ◌≡◌, ◌⊎◌, Bool, not, T, leb, length}
+use Rattle.std.specs.Prelude.{Ok, Err, ℕ, ◌+◌, ◌<◌, ◌≤◌, ◌≡◌, ◌⊎◌, Bool, not, T, leb, length, Option, Some, None}
 use Rattle.std.proofs.Math.Path.{refl, sym, ap, subst}
 use Rattle.std.proofs.Common.{◌∙◌, inl, inr, arith, leb→le}
 use Rattle.std.proofs.Math.Logic.{⊎_elim}
@@ -11,6 +11,8 @@ use Rattle.std.proofs.Math.Dec.{nleb→lt}
 use Rattle.semantics.specs.declared.search.SearchOrder.{SearchOrder}
 use Rattle.semantics.specs.declared.search.SearchOrder.TheVariants.{BreadthFirst, DepthFirst}
 use Rattle.semantics.specs.declared.search.SearchStats.{SearchStats}
+use Rattle.semantics.specs.declared.refusal.SearchRefusal.{SearchRefusal}
+use Rattle.semantics.specs.declared.refusal.SearchRefusal.TheVariants as Search
 use Rattle.semantics.specs.Lists.{pick}
 use Rattle.semantics.specs.Limits.{below, max_expansions, slot_length}
 use Rattle.semantics.specs.Graph.{View}
@@ -18,7 +20,6 @@ use Rattle.semantics.specs.Path.{Path}
 use Rattle.semantics.specs.Enumeration.{State, Turn, over, expand, turn, popped, admit, merge, add_expanded, flag_count}
 use Rattle.words.specs.Slots.{padded}
 use Rattle.path_frontier.specs.declared.frontier.Frontier.{Frontier}
-use Rattle.path_frontier.specs.declared.frontier.Popped.{Popped}
 use Rattle.path_budget.specs.Budget.{expansion}
 use Rattle.path_budget.specs.Budget.Laws.{expansion-allowed, expansion-limits, expansion-granted, expansion-refused}
 use Rattle.path_frontier.specs.Frontier.{merged, greatest_in, Waits}
@@ -26,10 +27,9 @@ use Rattle.path_frontier.specs.Frontier.Laws.{merge-is, pop-frame}
 use Rattle.path_frontier.specs.Frontier.Stands.{stands-item, stands-empty}
 use Rattle.search_state.specs.declared.search.Finished.{Finished}
 use Rattle.search_state.specs.declared.search.Search as S
-use Rattle.search_state.specs.declared.search.Taken.{Taken}
-use Rattle.search_state.specs.declared.search.Taken.TheVariants.{Over, Expand, TooMany}
+use Rattle.search_state.specs.declared.search.Round.TheVariants.{Over, Expand}
 use Rattle.search_state.specs.States.{with_budget}
-use Rattle.search_state.specs.Searches.{taken_of, over_by, Taking}
+use Rattle.search_state.specs.Searches.{Taken, taken_of, over_by, Taking}
 use Rattle.search_state.specs.Items.Laws.{encode-longer}
 use Rattle.search_state.specs.Progresses.{frame_of}
 use Rattle.search_state.specs.Reps.{slot_in, slot_of, Counts, setting_of, Replayed, Rep}
@@ -71,9 +71,9 @@ module _ (g : View) (r : ℕ) (s : S.Search) (ws rs : List ℕ) (m : State Path)
     pub before : max_expansions ≤ s.state.budget.expanded
 
   abbrev Rounds : Taken → List ℕ → List ℕ → Type 0
-  Rounds (Over n) item ws' = Ended n
-  Rounds (Expand n) item ws' = Opened item ws' n
-  Rounds TooMany item ws' = Exceeded
+  Rounds (Ok (Over n)) item ws' = Ended n
+  Rounds (Ok (Expand n)) item ws' = Opened item ws' n
+  Rounds (Err x) item ws' = (x ≡ Search.TooManyExpansions) × Exceeded
 
   abbrev opened : State Path
   opened = record { rest = merged s.frontier.order m.rest m.pending; pending = []; kept = m.kept; stats = m.stats; tally = m.tally }
@@ -163,21 +163,21 @@ module _ (g : View) (r : ℕ) (s : S.Search) (ws rs : List ℕ) (m : State Path)
   unfolding turn popped
   round-tells a item ws' x = subst (λ (y : Taken). Rounds y item ws') (sym x.is) (on x.popped refl)
     where
-      on : (p : Popped) → x.popped ≡ p → Rounds (taken_of s p) item ws'
-      on Popped.Empty e = record {
+      on : (p : Option Frontier) → x.popped ≡ p → Rounds (taken_of s p) item ws'
+      on None e = record {
         model = opened;
         round = ap (turn (setting_of (frame_of s))) (merge-is s.frontier.order m) ∙ ap (popped (setting_of (frame_of s)) opened) (ap (λ (u : State Path). u.rest) (sym (merge-is s.frontier.order m)) ∙ stands-empty (slot_in s.frontier.length) s.frontier ws m x.popped x.pops.words ws' x.pops.pops was.stands e);
         counts = record { stats = was.counts.stats; kept = was.counts.kept; fits = was.counts.fits; room = was.counts.room; words = was.counts.words };
         waited = was.stands.1;
       }
-      on (Popped.Item f) e = told (expansion s.state.budget).allowed (leb max_expansions s.state.budget.expanded) refl refl
+      on (Some f) e = told (expansion s.state.budget).allowed (leb max_expansions s.state.budget.expanded) refl refl
         where
           -- the popped slot with zeros behind
           whole : (w : Path) (us : List Path) → (merge s.frontier.order m).rest ≡ w ∷ us → slot_in s.frontier.length w ≡ x.pops.words → slot_of w ≡ item
           whole w us t i = sym (encode-longer s.frontier.length slot_length w.edges (fits-first w us t) was.sized.wider.longer) ∙ ap (padded slot_length) i ∙ sym x.pops.laid
 
           told : (b d : Bool) → (expansion s.state.budget).allowed ≡ b → leb max_expansions s.state.budget.expanded ≡ d
-              → Rounds (pick b (pick d TooMany (Expand (record { frontier = f; state = with_budget (expansion s.state.budget).budget s.state }))) (over_by s.frontier (with_budget (expansion s.state.budget).budget s.state))) item ws'
+              → Rounds (pick b (pick d (Err Search.TooManyExpansions) (Ok (Expand (record { frontier = f; state = with_budget (expansion s.state.budget).budget s.state })))) (Ok (over_by s.frontier (with_budget (expansion s.state.budget).budget s.state)))) item ws'
           told b d a h =
               let v = stands-item (slot_in s.frontier.length) s.frontier ws m x.popped x.pops.words ws' x.pops.pops was.stands f e in
               let k = (pop-frame s.frontier ws x.popped x.pops.words ws' x.pops.pops f e).0.kept in
@@ -185,18 +185,18 @@ module _ (g : View) (r : ℕ) (s : S.Search) (ws rs : List ℕ) (m : State Path)
             where
               by : (b d : Bool) → (expansion s.state.budget).allowed ≡ b → leb max_expansions s.state.budget.expanded ≡ d
                   → (w : Path) (us : List Path) → (merge s.frontier.order m).rest ≡ w ∷ us → slot_in s.frontier.length w ≡ x.pops.words → Waits f ws' (map (slot_in s.frontier.length) us) [] → greatest_in f ≡ m.tally.waited → f.order ≡ s.frontier.order → f.capacity ≡ s.frontier.capacity → f.length ≡ s.frontier.length
-                  → Rounds (pick b (pick d TooMany (Expand (record { frontier = f; state = with_budget (expansion s.state.budget).budget s.state }))) (over_by s.frontier (with_budget (expansion s.state.budget).budget s.state))) item ws'
+                  → Rounds (pick b (pick d (Err Search.TooManyExpansions) (Ok (Expand (record { frontier = f; state = with_budget (expansion s.state.budget).budget s.state })))) (Ok (over_by s.frontier (with_budget (expansion s.state.budget).budget s.state)))) item ws'
               by false d a h w us t i v y o c l = ended w us t a
-              by true true a h w us t i v y o c l = exceeded w us t a (leb→le max_expansions s.state.budget.expanded (subst T (sym h) tt))
+              by true true a h w us t i v y o c l = (refl, exceeded w us t a (leb→le max_expansions s.state.budget.expanded (subst T (sym h) tt)))
               by true false a h w us t i v y o c l = onward w us t f item ws' o c l x.pops.pops.same_length (whole w us t i) v y a (nleb→lt max_expansions s.state.budget.expanded (subst T (sym (ap not h)) tt))
 
   -- ---- what a caller draws from the answer
 
-  pub round-over : (a : Taken) (item ws' : List ℕ) (n : Finished) → Taking s ws a item ws' → a ≡ Over n → Ended n
+  pub round-over : (a : Taken) (item ws' : List ℕ) (n : Finished) → Taking s ws a item ws' → a ≡ Ok (Over n) → Ended n
   round-over a item ws' n x e = subst (λ (y : Taken). Rounds y item ws') e (round-tells a item ws' x)
 
-  pub round-expand : (a : Taken) (item ws' : List ℕ) (n : S.Search) → Taking s ws a item ws' → a ≡ Expand n → Opened item ws' n
+  pub round-expand : (a : Taken) (item ws' : List ℕ) (n : S.Search) → Taking s ws a item ws' → a ≡ Ok (Expand n) → Opened item ws' n
   round-expand a item ws' n x e = subst (λ (y : Taken). Rounds y item ws') e (round-tells a item ws' x)
 
-  pub round-many : (a : Taken) (item ws' : List ℕ) → Taking s ws a item ws' → a ≡ TooMany → Exceeded
-  round-many a item ws' x e = subst (λ (y : Taken). Rounds y item ws') e (round-tells a item ws' x)
+  pub round-many : (a : Taken) (item ws' : List ℕ) (y : SearchRefusal) → Taking s ws a item ws' → a ≡ Err y → (y ≡ Search.TooManyExpansions) × Exceeded
+  round-many a item ws' y x e = subst (λ (y : Taken). Rounds y item ws') e (round-tells a item ws' x)

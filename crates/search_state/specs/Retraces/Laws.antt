@@ -18,8 +18,8 @@ use Rattle.semantics.proofs.Theorems.Path.Laws.{append_under-ok, append_all-appe
 use Rattle.storage.specs.Index.{BLOCK, node_row, edge_row, target_row, Loaded}
 use Rattle.storage.specs.Index.Laws.{target_row_lem, edge-inside, node-inside}
 use Rattle.semantics.specs.declared.replayed.Step.{Step}
-use Rattle.stepping.specs.declared.step.Effect.{Effect}
-use Rattle.stepping.specs.declared.step.Effect.TheVariants.{Done, Refused}
+use Rattle.stepping.specs.Steps.{Effect}
+use Rattle.std.specs.Prelude.{Ok, Err}
 use Rattle.stepping.specs.Steps.{Low, stacks_of}
 use Rattle.stepping.specs.Steps.Laws.{scopes-kept, symbols-kept}
 use Rattle.stepping.specs.StepWords.{with_step}
@@ -61,10 +61,10 @@ module _ {g : Graph} {index : List ℕ} (loaded : Loaded g index) {ws : List ℕ
   judged-in : judged_of (view_of g).node ws k e ((view_of g).edge e) ≡ x
   judged-in = sym (is ∙ ap (λ (f : ℕ → Node). judged_of f ws k e (edge_row index e)) (nodes-are g index loaded) ∙ ap (λ (f : ℕ → Edge). judged_of (view_of g).node ws k e (f e)) (edges_are g index loaded))
 
-  pub effect-done : (s : Step) → x ≡ Done s → Grown (view_of g) ws k p st room e s
+  pub effect-done : (s : Step) → x ≡ Ok s → Grown (view_of g) ws k p st room e s
   effect-done s d = judged-done (view_of g) ws k p st room e s (judged-in ∙ d)
 
-  pub effect-refused : (z : PathRefusal) → x ≡ Refused z → append (view_of g) p e ≡ refuse z
+  pub effect-refused : (z : PathRefusal) → x ≡ Err z → append (view_of g) p e ≡ refuse z
   effect-refused z d = judged-refused (view_of g) ws k p st room e z (judged-in ∙ d)
 
 -- ---- the edges that stand there already
@@ -177,12 +177,12 @@ module _ {index edges : List ℕ} {w : Way index edges} {ws : List ℕ} {i : ℕ
       (append_all-append base view mid.path.edges (edge ∷ []) w.first mid.path parts.0 mid.led more)
 
   -- so it is not refused
-  judged : (s : Step) × (judged_of (node_row index) ws i edge (edge_row index edge) ≡ Done s)
+  judged : (s : Step) × (judged_of (node_row index) ws i edge (edge_row index edge) ≡ Ok s)
   judged = on (judged_of (node_row index) ws i edge (edge_row index edge)) refl
     where
-      on : (x : Effect) → x ≡ judged_of (node_row index) ws i edge (edge_row index edge) → (s : Step) × (judged_of (node_row index) ws i edge (edge_row index edge) ≡ Done s)
-      on (Done s) is = (s, sym is)
-      on (Refused z) is = let q = parts in absurd (ok-refuse z q.0 (sym q.2 ∙ effect-refused w.loaded mid.stepped mid-room edge is z refl))
+      on : (x : Effect) → x ≡ judged_of (node_row index) ws i edge (edge_row index edge) → (s : Step) × (judged_of (node_row index) ws i edge (edge_row index edge) ≡ Ok s)
+      on (Ok s) is = (s, sym is)
+      on (Err z) is = let q = parts in absurd (ok-refuse z q.0 (sym q.2 ∙ effect-refused w.loaded mid.stepped mid-room edge is z refl))
 
   made : Made (node_row index) ws i edge (edge_row index edge) judged.0
   made = judged-made (node_row index) ws i edge (edge_row index edge) judged.0 judged.1

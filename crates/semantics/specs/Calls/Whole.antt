@@ -4,7 +4,6 @@ use Rattle.std.proofs.Math.Path.{◌≡◌}
 use Rattle.std.proofs.Math.Bool.{true, false}
 use mathlib.Core.List.{List, Memᴰ}
 use Rattle.semantics.specs.declared.search.SearchStats.{SearchStats}
-use Rattle.semantics.specs.declared.answer.Resolution.{Resolution}
 use Rattle.semantics.specs.Limits.{Bounds, slot_words, nobody}
 use Rattle.semantics.specs.Answer.{ok}
 use Rattle.semantics.specs.Graph.{Graph, view_of}
@@ -16,6 +15,7 @@ use Rattle.semantics.specs.Demand.{file_owners, all_owners, NoAliases, Holds}
 use Rattle.semantics.specs.Hidden.{seen, seen_image, seen_slots}
 use Rattle.semantics.specs.Calls.{Request, Outcome, direct_call, stitched_call}
 use Rattle.semantics.specs.Calls.Filing.{Refiled}
+use Rattle.semantics.specs.PublicAnswers.{Resolution, resolved}
 
 -- a recorded set (document 01): the edge lists in the used result slots of the added call
 abbrev pub recorded_set : Bounds → Outcome Resolution → List (List ℕ)
@@ -25,7 +25,7 @@ recorded_set bd o = lists_in (slot_words bd) o.result
 pub record Finished (o : Outcome Resolution) : Type 0 where
   pub paths : ℕ
   pub stats : SearchStats
-  pub answered : o.answer ≡ Resolution.Done paths stats
+  pub answered : o.answer ≡ resolved paths stats
   pub uncounted : stats.count_limited ≡ false
   pub uncut : stats.complete_limited ≡ false
 

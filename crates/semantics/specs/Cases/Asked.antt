@@ -1,17 +1,10 @@
 -- What the computed cases ask: each public call from the bytes of an image, with its answer as document 01's numbers and every list or word that it leaves.
 -- Document 01, "Turned back" and "Small graphs".
-use Rattle.std.specs.Prelude.{ℕ, ◌+◌, ◌-◌, ◌*◌, List, [], ◌∷◌, ◌++◌, map, ltb, length, take, drop}
-use Rattle.semantics.specs.declared.search.Limit.{Limit}
-use Rattle.semantics.specs.declared.search.Limit.TheVariants.{Absent}
+use Rattle.std.specs.Prelude.{ℕ, ◌+◌, ◌-◌, ◌*◌, List, [], ◌∷◌, ◌++◌, map, ltb, length, take, drop, None}
 use Rattle.semantics.specs.declared.search.SearchOrder.{SearchOrder}
 use Rattle.semantics.specs.declared.search.SearchOrder.TheVariants.{BreadthFirst}
-use Rattle.semantics.specs.declared.answer.Resolution.{Resolution}
-use Rattle.semantics.specs.declared.answer.LinearResolution.{LinearResolution}
-use Rattle.semantics.specs.declared.answer.Creation.{Creation}
-use Rattle.semantics.specs.declared.answer.Replacement.{Replacement}
-use Rattle.semantics.specs.declared.answer.Finding.{Finding}
 use Rattle.semantics.specs.Lists.{pick}
-use Rattle.semantics.specs.Limits.{Bounds, base, slot_words, record_words}
+use Rattle.semantics.specs.Limits.{Bounds, base, slot_words, record_words, Limit}
 use Rattle.semantics.specs.Told.{told_checked, told_replayed, told_judgement, told_resolution, told_linear_resolution, told_creation, told_replacement, told_finding, told_compaction}
 use Rattle.semantics.specs.Path.{Path}
 use Rattle.semantics.specs.Enumeration.{State}
@@ -25,6 +18,7 @@ use Rattle.semantics.specs.Calls.{Request, LinearRequest, FileRequest, Outcome, 
 use Rattle.semantics.specs.Hidden.{every_file}
 use Rattle.semantics.specs.Finding.{FindRequest, find_call}
 use Rattle.semantics.specs.Cases.Graphs.{joined}
+use Rattle.semantics.specs.PublicAnswers.{Creation, Finding, LinearResolution, Replacement, Resolution}
 
 -- bounds other than the base's, so that few edges or expansions reach them
 abbrev pub bounded : ℕ → ℕ → Bounds
@@ -71,7 +65,7 @@ request = request_from 2
 
 -- with so many words in the areas
 abbrev pub request_in : ℕ → ℕ → Request
-request_in work result = record { order = BreadthFirst; limits = record { length = Absent; expansions = Absent; complete = Absent }; work = work; result = result; node = 2 }
+request_in work result = record { order = BreadthFirst; limits = record { length = None; expansions = None; complete = None }; work = work; result = result; node = 2 }
 
 -- an answer's number and values as document 01 has them, then the lists in the used result slots
 unfoldable pub shown : Bounds → Outcome Resolution → List (List ℕ)
@@ -177,7 +171,7 @@ naming_in bd length waiting results im node =
 -- with 8 of each, and no limit
 unfoldable pub naming_of : List ℕ → ℕ → List (List ℕ)
 unfolding naming_in
-naming_of im node = naming_in base Absent 8 8 im node
+naming_of im node = naming_in base None 8 8 im node
 
 -- every word of both areas
 unfoldable pub naming_areas : FindRequest → List ℕ → List (List ℕ)
@@ -234,7 +228,7 @@ freshly im = (creating im (words_for base 8)).database
 
 unfoldable pub replacing : List ℕ → ℕ → List ℕ → Change Replacement
 unfolding filing
-replacing im f words = filing base (file_request base BreadthFirst Absent Absent 128 f) im words
+replacing im f words = filing base (file_request base BreadthFirst None None 128 f) im words
 
 unfoldable pub first_filed : List ℕ → List ℕ
 unfolding replacing freshly
@@ -266,7 +260,7 @@ aliases_in bd order length count waiting slots im = shown_slots bd (aliasing bd 
 -- the words after the alias set was replaced in them
 unfoldable pub aliases_beside : List ℕ → List ℕ → List ℕ
 unfolding aliasing
-aliases_beside im words = (aliasing base (aliases_with base BreadthFirst Absent Absent 128) im words).database
+aliases_beside im words = (aliasing base (aliases_with base BreadthFirst None None 128) im words).database
 
 -- a slot's owner, start and end, then its edges; nothing for a dead one
 unfoldable pub slot_whole : Slot → List ℕ
@@ -299,22 +293,22 @@ behind n told = pick (ltb n (length told)) (drop n told) told
 -- from reference 2, under a limit on the path count, with so many waiting slots
 unfoldable pub waits_in : (State Path → List Path) → SearchOrder → Limit → ℕ → List ℕ → List ℕ
 unfolding behind direct
-waits_in reply order count waiting im = behind search_numbers (told_resolution (direct reply base (request base order Absent count Absent waiting 8) im).answer)
+waits_in reply order count waiting im = behind search_numbers (told_resolution (direct reply base (request base order None count None waiting 8) im).answer)
 
 unfoldable pub waits_stitched : (State Path → List Path) → SearchOrder → ℕ → List ℕ → List ℕ → List ℕ
 unfolding behind stitch
-waits_stitched reply order waiting im words = behind search_numbers (told_resolution (stitch reply base (request base order Absent Absent Absent waiting 8) im words).answer)
+waits_stitched reply order waiting im words = behind search_numbers (told_resolution (stitch reply base (request base order None None None waiting 8) im words).answer)
 
 unfoldable pub waits_linear : List ℕ → List ℕ
 unfolding behind linear
-waits_linear im = behind search_numbers (told_linear_resolution (linear base (linear_request 2 Absent Absent Absent (slot_words base)) im).answer)
+waits_linear im = behind search_numbers (told_linear_resolution (linear base (linear_request 2 None None None (slot_words base)) im).answer)
 
 -- the partial paths of file f in a database of 8 slots
 unfoldable pub waits_filing : SearchOrder → Limit → ℕ → ℕ → List ℕ → List ℕ
 unfolding behind filing freshly
-waits_filing order count waiting f im = behind replacement_numbers (told_replacement (filing base (file_request base order Absent count waiting f) im (freshly im)).answer)
+waits_filing order count waiting f im = behind replacement_numbers (told_replacement (filing base (file_request base order None count waiting f) im (freshly im)).answer)
 
 -- the alias set in a database of 8 slots
 unfoldable pub waits_aliasing : SearchOrder → Limit → ℕ → List ℕ → List ℕ
 unfolding behind aliasing freshly
-waits_aliasing order count waiting im = behind replacement_numbers (told_replacement (aliasing base (aliases_with base order Absent count waiting) im (freshly im)).answer)
+waits_aliasing order count waiting im = behind replacement_numbers (told_replacement (aliasing base (aliases_with base order None count waiting) im (freshly im)).answer)

@@ -1,12 +1,13 @@
 -- A database without its dead slots: the live ones close up in their old order, and a list says each one's old and new number.
 -- Document 02, order 7: 35 and 32 in this order.
-use Rattle.std.specs.Prelude.{ℕ, zero, suc, ◌-◌, ◌*◌, Bool, true, false, not, ltb, length, take, drop}
+use Rattle.std.specs.Prelude.{ℕ, zero, suc, ◌-◌, ◌*◌, Bool, true, false, not, ltb, length, take, drop, Err, Ok}
 use mathlib.Core.List.{List, [], ◌∷◌, ◌++◌, flatten}
-use Rattle.semantics.specs.declared.answer.Compaction.{Compaction}
 use Rattle.semantics.specs.Lists.{pick, cons_if}
 use Rattle.semantics.specs.Limits.{Bounds, record_words}
 use Rattle.semantics.specs.Words.{zeros}
 use Rattle.semantics.specs.Database.{used_in, nodes_in, files_in, records, well_formed}
+use Rattle.semantics.specs.PublicAnswers.{Compaction}
+use Rattle.semantics.specs.declared.answer.CompactionRefusal.{CompactionRefusal}
 
 unfoldable pub is_live : List ℕ → Bool
 is_live [] = false
@@ -56,6 +57,6 @@ uncompacted why ws len = record { answer = why; database = ws; list = zeros len 
 unfoldable pub compact_call : Bounds → (ℕ → ℕ → Bool) → List ℕ → ℕ → Compacted
 unfolding well_formed live_of records compact_words renumbered
 compact_call bd known ws len =
-    pick (not (well_formed bd known ws)) (uncompacted Compaction.Malformed ws len)
-    (pick (ltb len (2 * live_count bd ws)) (uncompacted Compaction.ListTooShort ws len)
-    (record { answer = Compaction.Done (live_count bd ws); database = compact_words bd ws; list = renumbered 0 0 (records bd ws) ++ zeros (len - 2 * live_count bd ws) }))
+    pick (not (well_formed bd known ws)) (uncompacted (Err CompactionRefusal.Malformed) ws len)
+    (pick (ltb len (2 * live_count bd ws)) (uncompacted (Err CompactionRefusal.ListTooShort) ws len)
+    (record { answer = Ok (live_count bd ws); database = compact_words bd ws; list = renumbered 0 0 (records bd ws) ++ zeros (len - 2 * live_count bd ws) }))

@@ -1,14 +1,14 @@
 -- A database made under another bound rewritten in a lent area: every live path and every number survives.
 -- Document 02, order 6: 35, 33 and 39 in this order.
-use Rattle.std.specs.Prelude.{ℕ, ◌-◌, ◌*◌, Bool, true, not, leb, length}
+use Rattle.std.specs.Prelude.{ℕ, ◌-◌, ◌*◌, Bool, true, not, leb, length, Err, Ok}
 use mathlib.Core.List.{List, [], ◌∷◌, ◌++◌, map, flatten}
-use Rattle.semantics.specs.declared.answer.Conversion.{Conversion}
-use Rattle.semantics.specs.declared.answer.Conversion.TheVariants as Conversion
 use Rattle.semantics.specs.Lists.{and, pick}
 use Rattle.semantics.specs.Limits.{Bounds, record_words}
 use Rattle.semantics.specs.PartialPaths.{Slot, dead, slot}
 use Rattle.semantics.specs.Words.{zeros}
 use Rattle.semantics.specs.Database.{used_in, nodes_in, files_in, capacity, encode_slot, slots_in, well_formed}
+use Rattle.semantics.specs.PublicAnswers.{Conversion}
+use Rattle.semantics.specs.declared.answer.ConversionRefusal.{ConversionRefusal}
 pub mod Laws
 
 -- a live path within the bound
@@ -38,6 +38,6 @@ turned_back why len = record { answer = why; written = zeros len }
 unfoldable pub convert_call : Bounds → Bounds → (ℕ → ℕ → Bool) → List ℕ → ℕ → Converted
 unfolding well_formed convert_words all_fit capacity
 convert_call old new known ws len =
-    pick (not (well_formed old known ws)) (turned_back Conversion.Malformed len)
-    (pick (not (and (leb 3 len) (leb (used_in ws) (capacity new (zeros len))))) (turned_back Conversion.Full len)
-    (pick (not (all_fit new (slots_in old ws))) (turned_back Conversion.TooLong len) (record { answer = Conversion.Done; written = convert_words old new ws len })))
+    pick (not (well_formed old known ws)) (turned_back (Err ConversionRefusal.Malformed) len)
+    (pick (not (and (leb 3 len) (leb (used_in ws) (capacity new (zeros len))))) (turned_back (Err ConversionRefusal.Full) len)
+    (pick (not (all_fit new (slots_in old ws))) (turned_back (Err ConversionRefusal.TooLong) len) (record { answer = Ok tt; written = convert_words old new ws len })))

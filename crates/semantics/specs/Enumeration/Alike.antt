@@ -3,7 +3,7 @@
 -- Serves document 02, order 9: "Refusals are those of that search in depth-first order, except 32".
 use Prim.Native.Nat.{ℕ, zero, suc, ◌<◌}
 use Rattle.std.proofs.Common.{arith, sym, ◌∙◌, ap, ltb→lt}
-use Rattle.std.specs.Prelude.{◌≡◌, ◌⊎◌, Bool, T, ltb}
+use Rattle.std.specs.Prelude.{◌≡◌, ◌⊎◌, Bool, T, ltb, Some}
 use Rattle.std.proofs.Math.Path.{refl, subst}
 use Rattle.std.proofs.Math.Logic.{inl, inr}
 use Rattle.std.proofs.Math.Bool.{true, false}
@@ -11,7 +11,6 @@ use mathlib.Core.List.{List, [], ◌∷◌}
 use Rattle.std.proofs.Math.ListN.{length}
 use Rattle.semantics.specs.declared.search.SearchOrder.{SearchOrder}
 use Rattle.semantics.specs.declared.search.SearchOrder.TheVariants.{BreadthFirst, DepthFirst}
-use Rattle.semantics.specs.declared.search.Limit.TheVariants.{AtMost}
 use Rattle.semantics.specs.Limits.{below}
 use Rattle.semantics.specs.Answer.{Answer, ok, refuse, and_then, ok_if}
 use Rattle.semantics.specs.Answer.Laws.{ok-inj, refuse-inj, refuse-ok, ok-refuse}
@@ -23,7 +22,7 @@ bare s = record { rest = s.rest; pending = s.pending; kept = []; stats = flag_co
 
 -- the setting that keeps nothing
 abbrev pub counting : {R : Type 0} → Setting R → Setting R
-counting c = record { order = c.order; max_count = c.max_count; max_complete = AtMost 0; waiting = c.waiting; results = unlimited; too_many = c.too_many }
+counting c = record { order = c.order; max_count = c.max_count; max_complete = Some 0; waiting = c.waiting; results = unlimited; too_many = c.too_many }
 
 -- this is what a full result area is refused with, and the limit lets an item through to it
 pub record Full {R : Type 0} (c : Setting R) (x : R) : Type 0 where
@@ -166,7 +165,7 @@ pub unlimited-never : {R : Type 0} (c : Setting R) → c.results ≡ unlimited �
 unlimited-never c e y f = subst IsUnlimited (sym e ∙ f.area) tt
 
 -- nor one that nothing is let through to
-pub none_never : {R : Type 0} (c : Setting R) → c.max_complete ≡ AtMost 0 → (y : R) → Full c y → ⊥
+pub none_never : {R : Type 0} (c : Setting R) → c.max_complete ≡ Some 0 → (y : R) → Full c y → ⊥
 none_never c e y f = not-below f.count (subst (λ l. below f.count l ≡ true) e f.allowed)
   where
     not-below : (n : ℕ) → ltb n 0 ≡ true → ⊥

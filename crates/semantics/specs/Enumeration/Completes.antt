@@ -2,14 +2,13 @@
 -- Serves document 02, order 9: "Their sum is the complete count".
 use Prim.Native.Nat.{ℕ, zero, suc}
 use Rattle.std.proofs.Common.{arith, sym, ◌∙◌, ap, true≢false}
-use Rattle.std.specs.Prelude.{◌≡◌, Bool, length}
+use Rattle.std.specs.Prelude.{◌≡◌, Bool, length, None}
 use Rattle.std.proofs.Math.Path.{refl, subst}
 use Rattle.std.proofs.Math.Bool.{true, false}
 use mathlib.Core.List.{List, [], ◌∷◌, ◌++◌}
 use Rattle.std.proofs.Math.ListN.{length-append}
 use Rattle.semantics.specs.declared.search.SearchOrder.{SearchOrder}
 use Rattle.semantics.specs.declared.search.SearchOrder.TheVariants.{BreadthFirst, DepthFirst}
-use Rattle.semantics.specs.declared.search.Limit.TheVariants.{Absent}
 use Rattle.semantics.specs.Limits.{below}
 use Rattle.semantics.specs.Answer.{Answer, ok}
 use Rattle.semantics.specs.Answer.Laws.{ok-inj, refuse-ok, and_then-ok}
@@ -62,7 +61,7 @@ module _ {R W : Type 0} (c : Setting R) where
       keeps_then s k.0 u ((λ h. a.0 h), (λ q. a.1 q)) (each_keeps k.0 u ts k.2)
 
   -- an expansion without a limit on complete items keeps every new one, and as many as it counts
-  pub each_counts : (s u : State W) (ts : List (Try R W)) → c.max_complete ≡ Absent → each c s ts ≡ ok u → s.stats.complete_limited ≡ false → s.stats.complete ≡ length s.kept
+  pub each_counts : (s u : State W) (ts : List (Try R W)) → c.max_complete ≡ None → each c s ts ≡ ok u → s.stats.complete_limited ≡ false → s.stats.complete ≡ length s.kept
       → (u.stats.complete_limited ≡ false) × (u.kept ≡ s.kept ++ news ts) × (u.stats.complete ≡ length u.kept)
   each_counts s u ts z e f n =
       let q : u.stats.complete_limited ≡ false = (each-quiet c s u ts e).complete z ∙ f in

@@ -1,12 +1,11 @@
 -- The enumeration that keeps every complete item, followed round by round beside one that keeps fewer: what it keeps in a round is as much as the other
 -- one counts there. Serves document 02, order 9, where no path is kept.
-use Rattle.std.specs.Prelude.{ℕ, ◌+◌, ◌≡◌, Bool, true, false, List, ◌++◌, length}
+use Rattle.std.specs.Prelude.{ℕ, ◌+◌, ◌≡◌, Bool, true, false, List, ◌++◌, length, None, Some}
 use Rattle.std.proofs.Common.{arith, sym, ◌∙◌, ap, subst, ⊎_elim, true≢false, length-append}
 use Rattle.std.proofs.Math.Path.{refl}
 use Rattle.semantics.specs.declared.search.SearchOrder.{SearchOrder}
 use Rattle.semantics.specs.declared.search.SearchOrder.TheVariants.{BreadthFirst, DepthFirst}
 use Rattle.semantics.specs.declared.search.SearchStats.{SearchStats}
-use Rattle.semantics.specs.declared.search.Limit.TheVariants.{Absent, AtMost}
 use Rattle.semantics.specs.Answer.{Answer, ok, refuse}
 use Rattle.semantics.specs.Enumeration.{Try, unlimited, Setting, State, Turn, over, expand, each, merge, turn, run}
 use Rattle.semantics.specs.Enumeration.Laws.{news, TurnIs, turn_is, Over, empty, limited}
@@ -15,7 +14,7 @@ use Rattle.semantics.specs.Enumeration.Alike.{bare, counting, Full, Beside, bare
 
 -- the setting that keeps every complete item
 abbrev pub keeping : {R : Type 0} → Setting R → Setting R
-keeping c = record { order = c.order; max_count = c.max_count; max_complete = Absent; waiting = c.waiting; results = unlimited; too_many = c.too_many }
+keeping c = record { order = c.order; max_count = c.max_count; max_complete = None; waiting = c.waiting; results = unlimited; too_many = c.too_many }
 
 -- a state that has kept every complete item, beside one that has counted them alike
 pub record Keeping {W : Type 0} (s t : State W) : Type 0 where
@@ -109,7 +108,7 @@ module _ {R W : Type 0} (d : Setting R) (s t : State W) (k : Keeping s t) where
       }
 
   -- THE REST of both: refused alike, where the other one has no result area that could be full
-  pub rest-refused : d.max_complete ≡ AtMost 0 → (tries : W → List (Try R W)) (n : ℕ) (x : R) → run d tries n (merge d.order t) ≡ refuse x → run (keeping d) tries n (merge d.order s) ≡ refuse x
+  pub rest-refused : d.max_complete ≡ Some 0 → (tries : W → List (Try R W)) (n : ℕ) (x : R) → run d tries n (merge d.order t) ≡ refuse x → run (keeping d) tries n (merge d.order s) ≡ refuse x
   rest-refused none tries n x e =
       ⊎_elim (λ q. q) (λ (f : Full d x). absurd (none_never d none x f))
       (refuse-beside d (keeping d) (unlimited-never (keeping d) refl) x (run (keeping d) tries n (merge d.order s)) (run (counting d) tries n (bare (merge d.order t)))

@@ -3,11 +3,10 @@
 use Prim.Native.Nat.{ℕ, zero, suc}
 use Rattle.std.proofs.Math.Path.{◌≡◌, refl, sym, subst}
 use Rattle.std.proofs.Common.{◌∙◌, ap}
-use Rattle.std.specs.Prelude.{◌⊎◌, Bool, ltb, length}
+use Rattle.std.specs.Prelude.{◌⊎◌, Bool, ltb, length, None}
 use Rattle.std.proofs.Math.Logic.{inl, inr, ⊎_elim}
 use Rattle.std.proofs.Math.Bool.{true, false, true≢false}
 use mathlib.Core.List.{List, [], ◌∷◌, ◌++◌, append-nil, append_assoc, Memᴰ}
-use Rattle.semantics.specs.declared.search.Limit.TheVariants.{Absent}
 use Rattle.semantics.specs.declared.search.SearchOrder.{SearchOrder}
 use Rattle.semantics.specs.declared.search.SearchOrder.TheVariants.{BreadthFirst, DepthFirst}
 use Rattle.semantics.specs.declared.search.SearchStats.{SearchStats}
@@ -345,7 +344,7 @@ module _ {R W : Type 0} where
   -- a search without limits sets no flag
   pub record Quiet (c : Setting R) (s u : State W) : Type 0 where
     pub count : u.stats.count_limited ≡ s.stats.count_limited
-    pub complete : c.max_complete ≡ Absent → u.stats.complete_limited ≡ s.stats.complete_limited
+    pub complete : c.max_complete ≡ None → u.stats.complete_limited ≡ s.stats.complete_limited
 
   quiet_then : (c : Setting R) (s u x : State W) → Quiet c s u → Quiet c u x → Quiet c s x
   quiet_then c s u x a b = record { count = b.count ∙ a.count; complete = λ e. b.complete e ∙ a.complete e }
@@ -397,7 +396,7 @@ module _ {R W : Type 0} where
   TurnQuiet c s (over u) = Quiet c s u
   TurnQuiet c s (expand w u) = Quiet c s u
 
-  turn-quiet : (c : Setting R) (s : State W) → c.max_count ≡ Absent → TurnQuiet c s (turn c s)
+  turn-quiet : (c : Setting R) (s : State W) → c.max_count ≡ None → TurnQuiet c s (turn c s)
   unfolding turn popped
   turn-quiet c s z = go_on s.rest
     where
@@ -409,7 +408,7 @@ module _ {R W : Type 0} where
       go_on [] = record { count = refl; complete = λ e. refl }
       go_on (w ∷ ws) = admitted (below s.stats.expanded c.max_count) w ws refl
 
-  module _ (c : Setting R) (tries : W → List (Try R W)) (u : State W) (z : c.max_count ≡ Absent) where
+  module _ (c : Setting R) (tries : W → List (Try R W)) (u : State W) (z : c.max_count ≡ None) where
     final-quiet : (s : State W) (t : Turn W) → TurnQuiet c s t → final c t ≡ ok u → Quiet c s u
     unfolding final
     final-quiet s (over x) q e = subst (Quiet c s) (ok-inj x u e) q
@@ -434,7 +433,7 @@ module _ {R W : Type 0} where
       let k = and_then-ok (push_item c w s) (λ x. seed c x ws) u e in
       quiet_then c s k.0 u (push-quiet c s k.0 w k.1) (seed-quiet c k.0 u ws k.2)
 
-  pub enumerate-unlimited : (c : Setting R) (tries : W → List (Try R W)) (fuel : ℕ) (ws : List W) (u : State W) → enumerate c tries fuel ws ≡ ok u → c.max_count ≡ Absent → c.max_complete ≡ Absent → (u.stats.count_limited ≡ false) × (u.stats.complete_limited ≡ false)
+  pub enumerate-unlimited : (c : Setting R) (tries : W → List (Try R W)) (fuel : ℕ) (ws : List W) (u : State W) → enumerate c tries fuel ws ≡ ok u → c.max_count ≡ None → c.max_complete ≡ None → (u.stats.count_limited ≡ false) × (u.stats.complete_limited ≡ false)
   unfolding enumerate
   enumerate-unlimited c tries fuel ws u e z y =
       let k = and_then-ok (seed c blank ws) (λ s. run c tries fuel (merge c.order s)) u e in

@@ -24,8 +24,8 @@ use Rattle.semantics.specs.Answer.{Answer, ok, refuse, and_then}
 use Rattle.semantics.specs.Graph.{node_id, View, traits, is_reference, is_definition, is_exported}
 use Rattle.semantics.specs.Path.{Stacks, Path, no_stacks, apply, push_attached, append, append_edge, append_from, from_reference, start_unless, start_reference, is_empty, is_complete}
 use Rattle.semantics.specs.declared.replayed.Step.{Step}
-use Rattle.stepping.specs.declared.step.Effect.{Effect}
-use Rattle.stepping.specs.declared.step.Effect.TheVariants.{Done, Refused}
+use Rattle.stepping.specs.Steps.{Effect}
+use Rattle.std.specs.Prelude.{Ok, Err}
 use Rattle.stepping.specs.Steps.{plain_step, push_scoped_of, asked_scope, applied_of, remade_of, stacks_of, Low, maker_of, grown}
 use Rattle.stepping.specs.Steps.Laws.{push-stacks, push-scoped-stacks, scopes-kept, symbols-kept, path_behind, outcome, extend-is, low-more, refused-done, unless-done, applied-remade, applied-there}
 use Rattle.stepping.specs.StepWords.{maker_in, with_step}
@@ -34,8 +34,8 @@ use Rattle.stepping.specs.Judged.{no_step, reached, begun_of, judged_of, followe
 
 -- the path that an effect leads to, along an edge that is x
 pub path_after : View → List ℕ → ℕ → Path → ℕ → Edge → Effect → Answer PathRefusal Path
-path_after g ws k p e E.Removed (Done s) = ok p
-path_after g ws k p e E.Removed (Refused r) = refuse r
+path_after g ws k p e E.Removed (Ok s) = ok p
+path_after g ws k p e E.Removed (Err r) = refuse r
 path_after g ws k p e (E.Live s t pr) x = outcome (step_at ws) k (g.node t.0) p e pr x
 
 module _ (g : View) (ws : List ℕ) (k : ℕ) (p : Path) (st : Stepped ws k p) (e : ℕ) where
@@ -45,13 +45,13 @@ module _ (g : View) (ws : List ℕ) (k : ℕ) (p : Path) (st : Stepped ws k p) (
   judged-append = on (g.edge e)
     where
       from : (s t : NodeId) (pr : ℤ) (b : Bool) → eqb s.0 p.end ≡ b
-          → append_from b g p e s.0 t.0 pr ≡ outcome (step_at ws) k (g.node t.0) p e pr (pick b (reached g.node t.0 e (k + 1) (step_at ws k) (maker_in ws (step_at ws k).symbols) (maker_in ws (step_at ws k).scopes)) (Refused (IncorrectSource (node_id (step_at ws k).end) s)))
+          → append_from b g p e s.0 t.0 pr ≡ outcome (step_at ws) k (g.node t.0) p e pr (pick b (reached g.node t.0 e (k + 1) (step_at ws k) (maker_in ws (step_at ws k).symbols) (maker_in ws (step_at ws k).scopes)) (Err (IncorrectSource (node_id (step_at ws k).end) s)))
       from s t pr true h = unfold append_from in extend-is g (step_at ws) k st.low p e t.0 pr st.stacks
       from s t pr false h = unfold append_from in ap (λ (n : ℕ). refuse (IncorrectSource (node_id n) s)) (sym st.end)
 
       on : (x : Edge) → append_edge g p e x ≡ path_after g ws k p e x (followed g.node e (k + 1) (step_at ws k) (maker_in ws (step_at ws k).symbols) (maker_in ws (step_at ws k).scopes) x)
       on E.Removed = refl
-      on (E.Live s t pr) = from s t pr (eqb s.0 p.end) refl ∙ ap (λ (b : Bool). outcome (step_at ws) k (g.node t.0) p e pr (pick b (reached g.node t.0 e (k + 1) (step_at ws k) (maker_in ws (step_at ws k).symbols) (maker_in ws (step_at ws k).scopes)) (Refused (IncorrectSource (node_id (step_at ws k).end) s)))) (ap (eqb s.0) (sym st.end))
+      on (E.Live s t pr) = from s t pr (eqb s.0 p.end) refl ∙ ap (λ (b : Bool). outcome (step_at ws) k (g.node t.0) p e pr (pick b (reached g.node t.0 e (k + 1) (step_at ws k) (maker_in ws (step_at ws k).symbols) (maker_in ws (step_at ws k).scopes)) (Err (IncorrectSource (node_id (step_at ws k).end) s)))) (ap (eqb s.0) (sym st.end))
 
 -- THE NEW STEP'S CELLS LIE BELOW IT
 module _ (f : ℕ → Step) (k : ℕ) (low : (j : ℕ) → j < k + 1 → Low (f j) j) (t e : ℕ) where
@@ -81,7 +81,7 @@ module _ (f : ℕ → Step) (k : ℕ) (low : (j : ℕ) → j < k + 1 → Low (f 
   remade-low (N.DropScopes i) = let l = low-last in plain-low _ _ (omega (arith, l.symbols)) (omega arith) t
 
   -- of every kind of node
-  pub applied-low : (x : Bool) (n : Node) (s : Step) → applied_of x n t e (k + 1) (f k) (maker_of f (f k).symbols) (maker_of f (f k).scopes) ≡ Done s → New s
+  pub applied-low : (x : Bool) (n : Node) (s : Step) → applied_of x n t e (k + 1) (f k) (maker_of f (f k).symbols) (maker_of f (f k).scopes) ≡ Ok s → New s
   applied-low x n s h = subst New (sym (applied-remade x n t e (k + 1) (f k) (maker_of f (f k).symbols) (maker_of f (f k).scopes) s h)) (remade-low n)
 
 -- THE WORDS WITH ONE STEP MORE STAND FOR THE LONGER PATH
@@ -137,7 +137,7 @@ pub record Made (nodes : ℕ → Node) (ws : List ℕ) (k e : ℕ) (x : Edge) (s
   pub there : nodes target.0 ≡ N.Removed → ⊥
   pub step : s ≡ remade_in nodes ws k e target.0
 
-pub judged-made : (nodes : ℕ → Node) (ws : List ℕ) (k e : ℕ) (x : Edge) (s : Step) → judged_of nodes ws k e x ≡ Done s → Made nodes ws k e x s
+pub judged-made : (nodes : ℕ → Node) (ws : List ℕ) (k e : ℕ) (x : Edge) (s : Step) → judged_of nodes ws k e x ≡ Ok s → Made nodes ws k e x s
 unfolding judged_of followed
 judged-made nodes ws k e E.Removed s h = absurd (refused-done _ s h)
 judged-made nodes ws k e (E.Live a t p) s h =
@@ -163,37 +163,37 @@ module _ (g : View) (ws : List ℕ) (k : ℕ) (p : Path) (st : Stepped ws k p) (
     pub stepped : Stepped (with_step ws (k + 1) s) (k + 1) path
     pub end : s.end ≡ path.end
 
-  done-not : (r : PathRefusal) (s : Step) → Refused r ≡ Done s → ⊥
+  done-not : (r : PathRefusal) (s : Step) → Err r ≡ Ok s → ⊥
   done-not r s h = let z : ◌≡◌ {A = ℕ} 0 1 = cc in omega arith
 
   -- an edge that is not refused
-  pub judged-done : (s : Step) → judged_of g.node ws k e (g.edge e) ≡ Done s → Grown s
+  pub judged-done : (s : Step) → judged_of g.node ws k e (g.edge e) ≡ Ok s → Grown s
   unfolding judged_of followed path_after
   judged-done s h = on (g.edge e) h (judged-append g ws k p st e ∙ ap (path_after g ws k p e (g.edge e)) h)
     where
       last : Step
       last = step_at ws k
 
-      made : (t : NodeId) (pr : ℤ) → reached g.node t.0 e (k + 1) (step_at ws k) (maker_in ws (step_at ws k).symbols) (maker_in ws (step_at ws k).scopes) ≡ Done s → append g p e ≡ outcome (step_at ws) k (g.node t.0) p e pr (Done s) → Grown s
+      made : (t : NodeId) (pr : ℤ) → reached g.node t.0 e (k + 1) (step_at ws k) (maker_in ws (step_at ws k).symbols) (maker_in ws (step_at ws k).scopes) ≡ Ok s → append g p e ≡ outcome (step_at ws) k (g.node t.0) p e pr (Ok s) → Grown s
       made t pr r a =
           let new = applied-low (step_at ws) k st.low t.0 e (is_exported (g.node (asked_scope (g.node t.0) (maker_in ws (step_at ws k).scopes)))) (g.node t.0) s r in
           let q : Path = path_behind (step_at ws) k (g.node t.0) p e pr s in
           record { path = q; appended = a; end = refl; stepped = stepped-more ws k p q s room st new.0 refl (ap (λ n. p.edges ++ (n ∷ [])) (sym new.1)) refl }
 
-      from : (a t : NodeId) (pr : ℤ) (b : Bool) → pick b (reached g.node t.0 e (k + 1) (step_at ws k) (maker_in ws (step_at ws k).symbols) (maker_in ws (step_at ws k).scopes)) (Refused (IncorrectSource (node_id (step_at ws k).end) a)) ≡ Done s → append g p e ≡ outcome (step_at ws) k (g.node t.0) p e pr (Done s) → Grown s
+      from : (a t : NodeId) (pr : ℤ) (b : Bool) → pick b (reached g.node t.0 e (k + 1) (step_at ws k) (maker_in ws (step_at ws k).symbols) (maker_in ws (step_at ws k).scopes)) (Err (IncorrectSource (node_id (step_at ws k).end) a)) ≡ Ok s → append g p e ≡ outcome (step_at ws) k (g.node t.0) p e pr (Ok s) → Grown s
       from a t pr true r z = made t pr r z
       from a t pr false r z = absurd (done-not _ s r)
 
-      on : (x : Edge) → followed g.node e (k + 1) (step_at ws k) (maker_in ws (step_at ws k).symbols) (maker_in ws (step_at ws k).scopes) x ≡ Done s → append g p e ≡ path_after g ws k p e x (Done s) → Grown s
+      on : (x : Edge) → followed g.node e (k + 1) (step_at ws k) (maker_in ws (step_at ws k).symbols) (maker_in ws (step_at ws k).scopes) x ≡ Ok s → append g p e ≡ path_after g ws k p e x (Ok s) → Grown s
       on E.Removed r z = absurd (done-not _ s r)
       on (E.Live a t pr) r z = from a t pr (eqb a.0 (step_at ws k).end) r z
 
   -- an edge that is refused
-  pub judged-refused : (r : PathRefusal) → judged_of g.node ws k e (g.edge e) ≡ Refused r → append g p e ≡ refuse r
+  pub judged-refused : (r : PathRefusal) → judged_of g.node ws k e (g.edge e) ≡ Err r → append g p e ≡ refuse r
   unfolding path_after
   judged-refused r h = judged-append g ws k p st e ∙ ap (path_after g ws k p e (g.edge e)) h ∙ on (g.edge e)
     where
-      on : (x : Edge) → path_after g ws k p e x (Refused r) ≡ refuse r
+      on : (x : Edge) → path_after g ws k p e x (Err r) ≡ refuse r
       on E.Removed = refl
       on (E.Live a t pr) = refl
 
@@ -233,7 +233,7 @@ first_step r x attached scope = record { edge = 0; end = r; symbols = 0 + 1; sco
 first-low : (r x a c : ℕ) → a ≤ 1 → Low (first_step r x a c) 0
 first-low r x a c h = record { symbols = omega arith; scopes = omega arith; below = omega arith; attached = omega (arith, h) }
 
-applied-first : (b : Bool) (r : ℕ) (n : Node) (s : Step) → is_reference n ≡ true → applied_of b n r 0 0 no_step no_step no_step ≡ Done s → Low s 0 × (s.end ≡ r)
+applied-first : (b : Bool) (r : ℕ) (n : Node) (s : Step) → is_reference n ≡ true → applied_of b n r 0 0 no_step no_step no_step ≡ Ok s → Low s 0 × (s.end ≡ r)
 unfolding applied_of push_scoped_of
 applied-first b r N.Removed s h e = absurd (false≢true h)
 applied-first b r N.Root s h e = absurd (false≢true h)
@@ -246,25 +246,25 @@ applied-first false r (N.PushScoped i x a d) s h e = absurd (let z : ◌≡◌ {
 applied-first b r (N.PopScoped i x d) s h e = absurd (false≢true h)
 applied-first b r (N.DropScopes i) s h e = absurd (false≢true h)
 
-begun-what : (nodes : ℕ → Node) (r : ℕ) (s : Step) → begun_of nodes r ≡ Done s → (is_reference (nodes r) ≡ true) × (reached nodes r 0 0 no_step no_step no_step ≡ Done s)
+begun-what : (nodes : ℕ → Node) (r : ℕ) (s : Step) → begun_of nodes r ≡ Ok s → (is_reference (nodes r) ≡ true) × (reached nodes r 0 0 no_step no_step no_step ≡ Ok s)
 unfolding begun_of
 begun-what nodes r s h = on (traits (nodes r)).removed (is_reference (nodes r)) refl h
   where
-    on : (a b : Bool) → is_reference (nodes r) ≡ b → pick a (Refused (UnknownNode (node_id r))) (pick b (reached nodes r 0 0 no_step no_step no_step) (Refused (NotReference (node_id r)))) ≡ Done s → (is_reference (nodes r) ≡ true) × (reached nodes r 0 0 no_step no_step no_step ≡ Done s)
+    on : (a b : Bool) → is_reference (nodes r) ≡ b → pick a (Err (UnknownNode (node_id r))) (pick b (reached nodes r 0 0 no_step no_step no_step) (Err (NotReference (node_id r)))) ≡ Ok s → (is_reference (nodes r) ≡ true) × (reached nodes r 0 0 no_step no_step no_step ≡ Ok s)
     on true b f k = absurd (let z : ◌≡◌ {A = ℕ} 0 1 = cc in omega arith)
     on false true f k = (f, k)
     on false false f k = absurd (let z : ◌≡◌ {A = ℕ} 0 1 = cc in omega arith)
 
-pub begun-low : (nodes : ℕ → Node) (r : ℕ) (s : Step) → begun_of nodes r ≡ Done s → Low s 0 × (s.end ≡ r)
+pub begun-low : (nodes : ℕ → Node) (r : ℕ) (s : Step) → begun_of nodes r ≡ Ok s → Low s 0 × (s.end ≡ r)
 begun-low nodes r s h = let w = begun-what nodes r s h in applied-first (is_exported (nodes (asked_scope (nodes r) no_step))) r (nodes r) s w.0 w.1
 
 -- the same of a step behind others, whatever the nodes and the edge are
-pub judged-low : (nodes : ℕ → Node) (ws : List ℕ) (k e : ℕ) (x : Edge) (s : Step) → ((j : ℕ) → j < k + 1 → Low (step_at ws j) j) → judged_of nodes ws k e x ≡ Done s → Low s (k + 1)
+pub judged-low : (nodes : ℕ → Node) (ws : List ℕ) (k e : ℕ) (x : Edge) (s : Step) → ((j : ℕ) → j < k + 1 → Low (step_at ws j) j) → judged_of nodes ws k e x ≡ Ok s → Low s (k + 1)
 unfolding judged_of followed
 judged-low nodes ws k e E.Removed s low h = absurd (let z : ◌≡◌ {A = ℕ} 0 1 = cc in omega arith)
 judged-low nodes ws k e (E.Live a t p) s low h = on (eqb a.0 (step_at ws k).end) h
   where
-    on : (b : Bool) → pick b (reached nodes t.0 e (k + 1) (step_at ws k) (maker_in ws (step_at ws k).symbols) (maker_in ws (step_at ws k).scopes)) (Refused (IncorrectSource (node_id (step_at ws k).end) a)) ≡ Done s → Low s (k + 1)
+    on : (b : Bool) → pick b (reached nodes t.0 e (k + 1) (step_at ws k) (maker_in ws (step_at ws k).symbols) (maker_in ws (step_at ws k).scopes)) (Err (IncorrectSource (node_id (step_at ws k).end) a)) ≡ Ok s → Low s (k + 1)
     on true r = (applied-low (step_at ws) k low t.0 e (is_exported (nodes (asked_scope (nodes t.0) (maker_in ws (step_at ws k).scopes)))) (nodes t.0) s r).0
     on false r = absurd (let z : ◌≡◌ {A = ℕ} 0 1 = cc in omega arith)
 
@@ -274,17 +274,17 @@ module _ (g : View) (ws : List ℕ) (room : step_length ≤ length ws) (r : ℕ)
   beginning S = record { start = r; end = r; edges = []; steps = []; stacks = S }
 
   starts_with : Effect → Answer PathRefusal Path
-  starts_with (Done s) = ok (beginning (stacks_of (grown (step_at ws) 0 s) s))
-  starts_with (Refused x) = refuse x
+  starts_with (Ok s) = ok (beginning (stacks_of (grown (step_at ws) 0 s) s))
+  starts_with (Err x) = refuse x
 
   none_below : (j : ℕ) → j < 0 → Low (step_at ws j) j
   none_below j h = absurd (omega (arith, h))
 
-  pushed-first : (x : ℕ) → ok (beginning (record { symbols = record { symbol = x; scopes = none } ∷ []; scopes = [] })) ≡ starts_with (Done (first_step r x 0 0))
+  pushed-first : (x : ℕ) → ok (beginning (record { symbols = record { symbol = x; scopes = none } ∷ []; scopes = [] })) ≡ starts_with (Ok (first_step r x 0 0))
   unfolding starts_with symbols_from scopes_from
   pushed-first x = ap (λ (S : Stacks). ok (beginning S)) (sym (push-stacks (step_at ws) 0 none_below (first_step r x 0 0) (first-low r x 0 0 (omega arith)) (omega arith) refl))
 
-  scoped-first : (x a : ℕ) → ok (beginning (record { symbols = record { symbol = x; scopes = some (a ∷ []) } ∷ []; scopes = [] })) ≡ starts_with (Done (first_step r x (0 + 1) a))
+  scoped-first : (x a : ℕ) → ok (beginning (record { symbols = record { symbol = x; scopes = some (a ∷ []) } ∷ []; scopes = [] })) ≡ starts_with (Ok (first_step r x (0 + 1) a))
   unfolding starts_with symbols_from scopes_from
   scoped-first x a = ap (λ (S : Stacks). ok (beginning S)) (sym (push-scoped-stacks (step_at ws) 0 none_below (first_step r x (0 + 1) a) (first-low r x (0 + 1) a (omega arith)) (omega arith) (omega arith)))
 
@@ -298,7 +298,7 @@ module _ (g : View) (ws : List ℕ) (room : step_length ≤ length ws) (r : ℕ)
   first-is (N.Pop i x d) h = absurd (false≢true h)
   first-is (N.PushScoped i x a d) h = on (is_exported (g.node a.0))
     where
-      on : (b : Bool) → and_then (push_attached b x a.0 no_stacks) (λ S. ok (beginning S)) ≡ starts_with (pick b (Done (first_step r x (0 + 1) a.0)) (Refused (UnknownAttachedScope (node_id a.0))))
+      on : (b : Bool) → and_then (push_attached b x a.0 no_stacks) (λ S. ok (beginning S)) ≡ starts_with (pick b (Ok (first_step r x (0 + 1) a.0)) (Err (UnknownAttachedScope (node_id a.0))))
       on true = scoped-first x a.0
       on false = refl
   first-is (N.PopScoped i x d) h = absurd (false≢true h)
@@ -308,11 +308,11 @@ module _ (g : View) (ws : List ℕ) (room : step_length ≤ length ws) (r : ℕ)
   unfolding from_reference start_unless start_reference begun_of starts_with
   begun-start = on (traits (g.node r)).removed
     where
-      on2 : (b : Bool) → is_reference (g.node r) ≡ b → start_reference b g r ≡ starts_with (pick b (reached g.node r 0 0 no_step no_step no_step) (Refused (NotReference (node_id r))))
+      on2 : (b : Bool) → is_reference (g.node r) ≡ b → start_reference b g r ≡ starts_with (pick b (reached g.node r 0 0 no_step no_step no_step) (Err (NotReference (node_id r))))
       on2 true h = first-is (g.node r) h
       on2 false h = refl
 
-      on : (a : Bool) → start_unless a g r ≡ starts_with (pick a (Refused (UnknownNode (node_id r))) (pick (is_reference (g.node r)) (reached g.node r 0 0 no_step no_step no_step) (Refused (NotReference (node_id r)))))
+      on : (a : Bool) → start_unless a g r ≡ starts_with (pick a (Err (UnknownNode (node_id r))) (pick (is_reference (g.node r)) (reached g.node r 0 0 no_step no_step no_step) (Err (NotReference (node_id r)))))
       on true = refl
       on false = on2 (is_reference (g.node r)) refl
 
@@ -327,7 +327,7 @@ module _ (g : View) (ws : List ℕ) (room : step_length ≤ length ws) (r : ℕ)
     pub reference : is_reference (g.node r) ≡ true
 
   -- a reference that is not refused
-  pub begun-done : (s : Step) → begun_of g.node r ≡ Done s → Begun s
+  pub begun-done : (s : Step) → begun_of g.node r ≡ Ok s → Begun s
   unfolding starts_with
   begun-done s h =
       let w = begun-what g.node r s h in
@@ -349,6 +349,6 @@ module _ (g : View) (ws : List ℕ) (room : step_length ≤ length ws) (r : ℕ)
         };
       }
 
-  pub begun-refused : (x : PathRefusal) → begun_of g.node r ≡ Refused x → from_reference g r ≡ refuse x
+  pub begun-refused : (x : PathRefusal) → begun_of g.node r ≡ Err x → from_reference g r ≡ refuse x
   unfolding starts_with
   begun-refused x h = begun-start ∙ ap starts_with h

@@ -7,14 +7,14 @@ use Rattle.semantics.specs.ReplayedPaths.{step_at}
 use Rattle.storage.specs.Index.{BLOCK, node_row, edge_row, target_row}
 use Rattle.storage.specs.Index.Laws.{target_row_lem, edge-inside, node-inside}
 use Rattle.semantics.specs.declared.replayed.Step.{Step}
-use Rattle.stepping.specs.declared.step.Effect.TheVariants.{Done}
+use Rattle.std.specs.Prelude.{Ok}
 use Rattle.stepping.specs.StepWords.{with_step}
 use Rattle.stepping.specs.Judged.{Behind, Ready, judged_of, remade_behind, remade_in}
 use Rattle.stepping.specs.Judged.Laws.{Made, judged-made}
 
 pub record Accepted (index ws : List ℕ) (k e : ℕ) : Type 0 where
   pub step : Step
-  pub judged : judged_of (node_row index) ws k e (edge_row index e) ≡ Done step
+  pub judged : judged_of (node_row index) ws k e (edge_row index e) ≡ Ok step
 
 module _ (index ws : List ℕ) (k e : ℕ) (v : Accepted index ws k e) where
   made : Made (node_row index) ws k e (edge_row index e) v.step

@@ -23,8 +23,8 @@ use Rattle.semantics.specs.Path as Model
 use Rattle.storage.specs.Index.{KIND, cell, node_row, is_plain}
 use Rattle.storage.specs.Index.Laws.{by_kind}
 use Rattle.semantics.specs.declared.replayed.Step.{Step}
-use Rattle.stepping.specs.declared.step.Effect.{Effect}
-use Rattle.stepping.specs.declared.step.Effect.TheVariants.{Done, Refused}
+use Rattle.stepping.specs.Steps.{Effect}
+use Rattle.std.specs.Prelude.{Ok, Err}
 use Rattle.stepping.specs.Steps.{plain_step, pop_of, pop_scoped_of, jump_of, push_scoped_of, asked_scope, applied_of, remade_of, stacks_of, Low, maker_of, grown}
 
 module _ (f : ℕ → Step) (k : ℕ) (low : (j : ℕ) → j < k → Low (f j) j) where
@@ -181,8 +181,8 @@ path_behind f k n p e pr s =
     record { start = p.start; end = s.end; edges = p.edges ++ (e ∷ []); steps = landed n s.end (p.steps ++ (along e p.end pr ∷ [])); stacks = stacks_of (grown f (k + 1) s) s }
 
 abbrev pub outcome : (ℕ → Step) → ℕ → Node → Path → ℕ → ℤ → Effect → Answer PathRefusal Path
-outcome f k n p e pr (Done s) = ok (path_behind f k n p e pr s)
-outcome f k n p e pr (Refused r) = refuse r
+outcome f k n p e pr (Ok s) = ok (path_behind f k n p e pr s)
+outcome f k n p e pr (Err r) = refuse r
 
 module _ (g : View) (f : ℕ → Step) (k : ℕ) (low : (j : ℕ) → j < k + 1 → Low (f j) j) (p : Path) (e t : ℕ) (pr : ℤ) where
   abbrev last : Step
@@ -248,7 +248,7 @@ module _ (g : View) (f : ℕ → Step) (k : ℕ) (low : (j : ℕ) → j < k + 1 
   -- POP
   pop-cell : (i : FileId) (x c : ℕ) (d : Bool) → last.symbols ≡ suc c → (b : Bool) (a : ℕ) → (f c).attached ≡ a
       → and_then (pop_equal b t (without_scopes t (stacks_of f last) (symbols_of f (f c).below) (attached_of f a))) stands
-      ≡ outcome f k (N.Pop i x d) p e pr (pick b (pick (eqb a 0) (Done (plain_step e t (f c).below last.scopes)) (Refused (UnexpectedAttachedScopes (node_id t)))) (Refused (IncorrectPoppedSymbol (node_id t))))
+      ≡ outcome f k (N.Pop i x d) p e pr (pick b (pick (eqb a 0) (Ok (plain_step e t (f c).below last.scopes)) (Err (UnexpectedAttachedScopes (node_id t)))) (Err (IncorrectPoppedSymbol (node_id t))))
   unfolding pop_equal without_scopes
   pop-cell i x c d h true zero q = let m = low c (omega (arith, h, tops.symbols)) in settles (f c).below last.scopes (omega (arith, m.below, h, tops.symbols)) (omega (arith, tops.scopes))
   pop-cell i x c d h true (suc a) q = rw (some-cell a {n = suc a} refl)
@@ -258,17 +258,17 @@ module _ (g : View) (f : ℕ → Step) (k : ℕ) (low : (j : ℕ) → j < k + 1 
   unfolding apply pop_top land applied_of pop_of symbols_from
   pop-is i x d zero h =
       ap (λ (X : List Symbol). and_then (pop_top t x (without_scopes t (stacks_of f last)) X) stands) (ap (symbols_of f) h)
-      ∙ ap (λ (m : ℕ). outcome f k (N.Pop i x d) p e pr (pick (eqb m 0) (Refused (EmptySymbolStack (node_id t))) (pick (eqb (maker_of f last.symbols).symbol x) (pick (eqb (maker_of f last.symbols).attached 0) (Done (plain_step e t (maker_of f last.symbols).below last.scopes)) (Refused (UnexpectedAttachedScopes (node_id t)))) (Refused (IncorrectPoppedSymbol (node_id t)))))) (sym h)
+      ∙ ap (λ (m : ℕ). outcome f k (N.Pop i x d) p e pr (pick (eqb m 0) (Err (EmptySymbolStack (node_id t))) (pick (eqb (maker_of f last.symbols).symbol x) (pick (eqb (maker_of f last.symbols).attached 0) (Ok (plain_step e t (maker_of f last.symbols).below last.scopes)) (Err (UnexpectedAttachedScopes (node_id t)))) (Err (IncorrectPoppedSymbol (node_id t)))))) (sym h)
   pop-is i x d (suc c) h =
       ap (λ (X : List Symbol). and_then (pop_top t x (without_scopes t (stacks_of f last)) X) stands) (top-is c h)
       ∙ pop-cell i x c d h (eqb (f c).symbol x) (f c).attached refl
-      ∙ ap (λ (y : Step). outcome f k (N.Pop i x d) p e pr (pick (eqb y.symbol x) (pick (eqb y.attached 0) (Done (plain_step e t y.below last.scopes)) (Refused (UnexpectedAttachedScopes (node_id t)))) (Refused (IncorrectPoppedSymbol (node_id t))))) (sym (maker-is c h))
-      ∙ ap (λ (b : Bool). outcome f k (N.Pop i x d) p e pr (pick b (Refused (EmptySymbolStack (node_id t))) (pick (eqb (maker_of f last.symbols).symbol x) (pick (eqb (maker_of f last.symbols).attached 0) (Done (plain_step e t (maker_of f last.symbols).below last.scopes)) (Refused (UnexpectedAttachedScopes (node_id t)))) (Refused (IncorrectPoppedSymbol (node_id t)))))) (sym (some-cell c h))
+      ∙ ap (λ (y : Step). outcome f k (N.Pop i x d) p e pr (pick (eqb y.symbol x) (pick (eqb y.attached 0) (Ok (plain_step e t y.below last.scopes)) (Err (UnexpectedAttachedScopes (node_id t)))) (Err (IncorrectPoppedSymbol (node_id t))))) (sym (maker-is c h))
+      ∙ ap (λ (b : Bool). outcome f k (N.Pop i x d) p e pr (pick b (Err (EmptySymbolStack (node_id t))) (pick (eqb (maker_of f last.symbols).symbol x) (pick (eqb (maker_of f last.symbols).attached 0) (Ok (plain_step e t (maker_of f last.symbols).below last.scopes)) (Err (UnexpectedAttachedScopes (node_id t)))) (Err (IncorrectPoppedSymbol (node_id t)))))) (sym (some-cell c h))
 
   -- POP-SCOPED
   pop-scoped-cell : (i : FileId) (x c : ℕ) (d : Bool) → last.symbols ≡ suc c → (b : Bool) (a : ℕ) → (f c).attached ≡ a
       → and_then (pop_equal b t (with_scopes t (stacks_of f last) (symbols_of f (f c).below) (attached_of f a))) stands
-      ≡ outcome f k (N.PopScoped i x d) p e pr (pick b (pick (eqb a 0) (Refused (MissingAttachedScopes (node_id t))) (Done (plain_step e t (f c).below a))) (Refused (IncorrectPoppedSymbol (node_id t))))
+      ≡ outcome f k (N.PopScoped i x d) p e pr (pick b (pick (eqb a 0) (Err (MissingAttachedScopes (node_id t))) (Ok (plain_step e t (f c).below a))) (Err (IncorrectPoppedSymbol (node_id t))))
   unfolding pop_equal with_scopes
   pop-scoped-cell i x c d h true zero q = refl
   pop-scoped-cell i x c d h true (suc a) q = let m = low c (omega (arith, h, tops.symbols)) in rw (some-cell a {n = suc a} refl) (settles (f c).below (suc a) (omega (arith, m.below, h, tops.symbols)) (omega (arith, m.attached, q, h, tops.symbols)))
@@ -279,27 +279,27 @@ module _ (g : View) (f : ℕ → Step) (k : ℕ) (low : (j : ℕ) → j < k + 1 
   pop-scoped-is i x d zero h =
       ap (λ (X : List Symbol). and_then (pop_top t x (with_scopes t (stacks_of f last)) X) stands) (ap (symbols_of f) h)
       ∙ ap (λ (m : ℕ).
-      outcome f k (N.PopScoped i x d) p e pr (pick (eqb m 0) (Refused (EmptySymbolStack (node_id t)))
+      outcome f k (N.PopScoped i x d) p e pr (pick (eqb m 0) (Err (EmptySymbolStack (node_id t)))
       (pick (eqb (maker_of f last.symbols).symbol x) (pick (eqb (maker_of f last.symbols).attached 0)
-      (Refused (MissingAttachedScopes (node_id t))) (Done (plain_step e t (maker_of f last.symbols).below (maker_of f last.symbols).attached)))
-      (Refused (IncorrectPoppedSymbol (node_id t)))))) (sym h)
+      (Err (MissingAttachedScopes (node_id t))) (Ok (plain_step e t (maker_of f last.symbols).below (maker_of f last.symbols).attached)))
+      (Err (IncorrectPoppedSymbol (node_id t)))))) (sym h)
   pop-scoped-is i x d (suc c) h =
       ap (λ (X : List Symbol). and_then (pop_top t x (with_scopes t (stacks_of f last)) X) stands) (top-is c h)
       ∙ pop-scoped-cell i x c d h (eqb (f c).symbol x) (f c).attached refl
       ∙ ap (λ (y : Step).
       outcome f k (N.PopScoped i x d) p e pr (pick (eqb y.symbol x)
-      (pick (eqb y.attached 0) (Refused (MissingAttachedScopes (node_id t))) (Done (plain_step e t y.below y.attached)))
-      (Refused (IncorrectPoppedSymbol (node_id t))))) (sym (maker-is c h))
+      (pick (eqb y.attached 0) (Err (MissingAttachedScopes (node_id t))) (Ok (plain_step e t y.below y.attached)))
+      (Err (IncorrectPoppedSymbol (node_id t))))) (sym (maker-is c h))
       ∙ ap (λ (b : Bool).
-      outcome f k (N.PopScoped i x d) p e pr (pick b (Refused (EmptySymbolStack (node_id t)))
+      outcome f k (N.PopScoped i x d) p e pr (pick b (Err (EmptySymbolStack (node_id t)))
       (pick (eqb (maker_of f last.symbols).symbol x) (pick (eqb (maker_of f last.symbols).attached 0)
-      (Refused (MissingAttachedScopes (node_id t))) (Done (plain_step e t (maker_of f last.symbols).below (maker_of f last.symbols).attached)))
-      (Refused (IncorrectPoppedSymbol (node_id t)))))) (sym (some-cell c h))
+      (Err (MissingAttachedScopes (node_id t))) (Ok (plain_step e t (maker_of f last.symbols).below (maker_of f last.symbols).attached)))
+      (Err (IncorrectPoppedSymbol (node_id t)))))) (sym (some-cell c h))
 
   -- JUMP
   jump-cell : (c : ℕ) → last.scopes ≡ suc c → (b : Bool)
       → jump_to b (f c).scope (scopes_of f (f c).scopes) (behind (stacks_of f last))
-      ≡ outcome f k N.JumpToScope p e pr (pick b (Done (plain_step e (f c).scope last.symbols (f c).scopes)) (Refused (UnknownAttachedScope (node_id (f c).scope))))
+      ≡ outcome f k N.JumpToScope p e pr (pick b (Ok (plain_step e (f c).scope last.symbols (f c).scopes)) (Err (UnknownAttachedScope (node_id (f c).scope))))
   unfolding jump_to
   jump-cell c h true =
       let m = low c (omega (arith, h, tops.scopes)) in
@@ -311,16 +311,16 @@ module _ (g : View) (f : ℕ → Step) (k : ℕ) (low : (j : ℕ) → j < k + 1 
   unfolding apply land jump_top applied_of jump_of scopes_from
   jump-is zero h =
       ap (λ (Y : List ℕ). jump_top g t Y (behind (stacks_of f last))) (ap (scopes_of f) h)
-      ∙ ap (λ (m : ℕ). outcome f k N.JumpToScope p e pr (pick (eqb m 0) (Refused (EmptyScopeStack (node_id t))) (pick (is_exported (g.node (maker_of f last.scopes).scope)) (Done (plain_step e (maker_of f last.scopes).scope last.symbols (maker_of f last.scopes).scopes)) (Refused (UnknownAttachedScope (node_id (maker_of f last.scopes).scope)))))) (sym h)
+      ∙ ap (λ (m : ℕ). outcome f k N.JumpToScope p e pr (pick (eqb m 0) (Err (EmptyScopeStack (node_id t))) (pick (is_exported (g.node (maker_of f last.scopes).scope)) (Ok (plain_step e (maker_of f last.scopes).scope last.symbols (maker_of f last.scopes).scopes)) (Err (UnknownAttachedScope (node_id (maker_of f last.scopes).scope)))))) (sym h)
   jump-is (suc c) h =
       ap (λ (Y : List ℕ). jump_top g t Y (behind (stacks_of f last))) (over-is c h)
       ∙ jump-cell c h (is_exported (g.node (f c).scope))
-      ∙ ap (λ (y : Step). outcome f k N.JumpToScope p e pr (pick (is_exported (g.node y.scope)) (Done (plain_step e y.scope last.symbols y.scopes)) (Refused (UnknownAttachedScope (node_id y.scope))))) (sym (maker-is c h))
-      ∙ ap (λ (b : Bool). outcome f k N.JumpToScope p e pr (pick b (Refused (EmptyScopeStack (node_id t))) (pick (is_exported (g.node (maker_of f last.scopes).scope)) (Done (plain_step e (maker_of f last.scopes).scope last.symbols (maker_of f last.scopes).scopes)) (Refused (UnknownAttachedScope (node_id (maker_of f last.scopes).scope)))))) (sym (some-cell c h))
+      ∙ ap (λ (y : Step). outcome f k N.JumpToScope p e pr (pick (is_exported (g.node y.scope)) (Ok (plain_step e y.scope last.symbols y.scopes)) (Err (UnknownAttachedScope (node_id y.scope))))) (sym (maker-is c h))
+      ∙ ap (λ (b : Bool). outcome f k N.JumpToScope p e pr (pick b (Err (EmptyScopeStack (node_id t))) (pick (is_exported (g.node (maker_of f last.scopes).scope)) (Ok (plain_step e (maker_of f last.scopes).scope last.symbols (maker_of f last.scopes).scopes)) (Err (UnknownAttachedScope (node_id (maker_of f last.scopes).scope)))))) (sym (some-cell c h))
 
   -- PUSH-SCOPED
   push-scoped-is : (i : FileId) (x : ℕ) (a : NodeId) (r b : Bool)
-      → and_then (push_attached b x a.0 (stacks_of f last)) stands ≡ outcome f k (N.PushScoped i x a r) p e pr (pick b (Done (pushed_step x (k + 1 + 1) a.0)) (Refused (UnknownAttachedScope (node_id a.0))))
+      → and_then (push_attached b x a.0 (stacks_of f last)) stands ≡ outcome f k (N.PushScoped i x a r) p e pr (pick b (Ok (pushed_step x (k + 1 + 1) a.0)) (Err (UnknownAttachedScope (node_id a.0))))
   unfolding push_attached
   push-scoped-is i x a r true = pushes-scoped x a.0
   push-scoped-is i x a r false = refl
@@ -344,21 +344,21 @@ module _ (g : View) (f : ℕ → Step) (k : ℕ) (low : (j : ℕ) → j < k + 1 
   extend-is h = ap (λ (S : Stacks). and_then (apply g t (g.node t) S) (λ st. land g t (g.node t) (behind st))) h ∙ node-is (g.node t)
 
 -- A STEP THAT WAS MADE ONCE: what is not refused leads to the step that is made again
-done_inj : (x y : Step) → Done x ≡ Done y → y ≡ x
+done_inj : (x y : Step) → ◌≡◌ {A = Effect} (Ok x) (Ok y) → y ≡ x
 done_inj x y h = cc
 
-pub refused-done : (r : PathRefusal) (s : Step) → Refused r ≡ Done s → ⊥
+pub refused-done : (r : PathRefusal) (s : Step) → ◌≡◌ {A = Effect} (Err r) (Ok s) → ⊥
 refused-done r s h = let z : ◌≡◌ {A = ℕ} 0 1 = cc in omega arith
 
-pub unless-done : (b : Bool) (x : Effect) (r : PathRefusal) (s : Step) → pick b x (Refused r) ≡ Done s → x ≡ Done s
+pub unless-done : (b : Bool) (x : Effect) (r : PathRefusal) (s : Step) → pick b x (Err r) ≡ Ok s → x ≡ Ok s
 unless-done true x r s h = h
 unless-done false x r s h = absurd (refused-done r s h)
 
-if-done : (b : Bool) (r : PathRefusal) (x : Effect) (s : Step) → pick b (Refused r) x ≡ Done s → x ≡ Done s
+if-done : (b : Bool) (r : PathRefusal) (x : Effect) (s : Step) → pick b (Err r) x ≡ Ok s → x ≡ Ok s
 if-done true r x s h = absurd (refused-done r s h)
 if-done false r x s h = h
 
-pub applied-remade : (x : Bool) (n : Node) (t e k : ℕ) (last top over s : Step) → applied_of x n t e k last top over ≡ Done s → s ≡ remade_of n t e k last top over
+pub applied-remade : (x : Bool) (n : Node) (t e k : ℕ) (last top over s : Step) → applied_of x n t e k last top over ≡ Ok s → s ≡ remade_of n t e k last top over
 unfolding applied_of remade_of pop_of pop_scoped_of jump_of push_scoped_of
 applied-remade x N.Removed t e k last top over s h = absurd (refused-done _ s h)
 applied-remade x N.Root t e k last top over s h = done_inj _ s h
@@ -370,7 +370,7 @@ applied-remade x (N.PushScoped f y a r) t e k last top over s h = done_inj _ s (
 applied-remade x (N.PopScoped f y d) t e k last top over s h = done_inj _ s (if-done (eqb top.attached 0) _ _ s (unless-done (eqb top.symbol y) _ _ s (if-done (eqb last.symbols 0) _ _ s h)))
 applied-remade x (N.DropScopes f) t e k last top over s h = done_inj _ s h
 
-pub applied-there : (x : Bool) {n : Node} (t e k : ℕ) (last top over s : Step) → applied_of x n t e k last top over ≡ Done s → n ≡ N.Removed → ⊥
+pub applied-there : (x : Bool) {n : Node} (t e k : ℕ) (last top over s : Step) → applied_of x n t e k last top over ≡ Ok s → n ≡ N.Removed → ⊥
 unfolding applied_of
 applied-there x t e k last top over s h z = refused-done (UnknownNode (node_id t)) s (ap (λ (m : Node). applied_of x m t e k last top over) (sym z) ∙ h)
 

@@ -18,12 +18,11 @@ use Rattle.semantics.specs.Words.{encode}
 use Rattle.stepping.specs.Judged.{Stepped}
 use Rattle.path.specs.Replays.Calls.{from-a-reference, few-edges}
 use Rattle.search_state.specs.declared.search.Search as S
-use Rattle.search_state.specs.declared.search.Going.{Going}
-use Rattle.search_state.specs.declared.search.Going.TheVariants.{On, Refused}
+use Rattle.std.specs.Prelude.{Result, Ok, Err}
 use Rattle.search_state.specs.declared.state.SearchState.{SearchState}
 use Rattle.search_state.specs.States.{cut_one, rejected_one, overlong_by}
 use Rattle.search_state.specs.Items.{Clear}
-use Rattle.search_state.specs.Searches.{with_state, Clears}
+use Rattle.search_state.specs.Searches.{Going, with_state, Clears}
 use Rattle.search_state.specs.Progresses.{frame_of}
 use Rattle.search_state.specs.Reps.{slot_of, setting_of, Replayed, Tells}
 use Rattle.search_state.specs.Reps.Laws.{rep-pushable}
@@ -81,7 +80,7 @@ module _ (most : ℕ) (index steps item : List ℕ) (k : ℕ) (s : S.Search) (ws
           long = v.long;
         }
 
-    module _ (words : List ℕ) (i : ℕ) (read : es ≡ edge_words base i words) {t : StitchTrial} {steps' : List ℕ} (j : JudgedAs index steps l es given-judging s.state.budget.max_length t steps') where
+    module _ (words : List ℕ) (i : ℕ) (read : es ≡ edge_words base i words) {t : Result StitchTrial SearchRefusal} {steps' : List ℕ} (j : JudgedAs index steps l es given-judging s.state.budget.max_length t steps') where
       judge_of : Try SearchRefusal Path
       judge_of = judge_slot base s.state.budget.max_length (view_of v.graph) v.path es
 
@@ -93,7 +92,7 @@ module _ (most : ℕ) (index steps item : List ℕ) (k : ℕ) (s : S.Search) (ws
           subst (λ (y : List ℕ). Tells (view_of v.graph) v.reference (frame_of s) a ws' rs' (one (setting_of (frame_of s)) v.model (judge_slot base s.state.budget.max_length (view_of v.graph) v.path y))) read
           (subst (λ (y : Try SearchRefusal Path). Tells (view_of v.graph) v.reference (frame_of s) a ws' rs' (one (setting_of (frame_of s)) v.model y)) (sym e) h)
 
-      says : {x : StitchTrial} → t ≡ x → Judged s.state.budget.max_length (view_of v.graph) v.path es x
+      says : {x : Result StitchTrial SearchRefusal} → t ≡ x → Judged s.state.budget.max_length (view_of v.graph) v.path es x
       unfolding given-judging
       says e = subst (Judged s.state.budget.max_length (view_of v.graph) v.path es) e j.says
 
@@ -102,30 +101,30 @@ module _ (most : ℕ) (index steps item : List ℕ) (k : ℕ) (s : S.Search) (ws
       kept-steps = subst (λ (n : ℕ). KeptTo n steps steps') (given-count lent) j.kept
 
       -- the item and the words of a slot stay as they are
-      still-clear : {w : S.Search} (st : SearchState) → w ≡ with_state st s → Clears (On w) item
+      still-clear : {w : S.Search} (st : SearchState) → w ≡ with_state st s → Clears (Ok w) item
       still-clear st q = subst (λ (x : S.Search). Clear x.frontier.length item) (sym q) v.clear
 
-      pub tried-cut : t ≡ StitchTrial.Cut → {w : S.Search} → w ≡ with_state (cut_one s.state) s → Tried words most index steps item k s ws rs v i (On w) steps' item ws rs
+      pub tried-cut : t ≡ Ok StitchTrial.Cut → {w : S.Search} → w ≡ with_state (cut_one s.state) s → Tried words most index steps item k s ws rs v i (Ok w) steps' item ws rs
       unfolding judge_of
-      tried-cut e {w} q = record { tells = tells_as (On w) ws rs (says e) (look-cut (view_of v.graph) v.reference s ws rs v.model v.rep w q); held = v.carries.1; clears = still-clear (cut_one s.state) q; kept = kept-steps }
+      tried-cut e {w} q = record { tells = tells_as (Ok w) ws rs (says e) (look-cut (view_of v.graph) v.reference s ws rs v.model v.rep w q); held = v.carries.1; clears = still-clear (cut_one s.state) q; kept = kept-steps }
 
-      pub tried-rejected : t ≡ StitchTrial.Rejected → {w : S.Search} → w ≡ with_state (rejected_one s.state) s → Tried words most index steps item k s ws rs v i (On w) steps' item ws rs
+      pub tried-rejected : t ≡ Ok StitchTrial.Rejected → {w : S.Search} → w ≡ with_state (rejected_one s.state) s → Tried words most index steps item k s ws rs v i (Ok w) steps' item ws rs
       unfolding judge_of
-      tried-rejected e {w} q = record { tells = tells_as (On w) ws rs (says e) (look-rejected (view_of v.graph) v.reference s ws rs v.model v.rep w q); held = v.carries.1; clears = still-clear (rejected_one s.state) q; kept = kept-steps }
+      tried-rejected e {w} q = record { tells = tells_as (Ok w) ws rs (says e) (look-rejected (view_of v.graph) v.reference s ws rs v.model v.rep w q); held = v.carries.1; clears = still-clear (rejected_one s.state) q; kept = kept-steps }
 
-      pub tried-overlong : t ≡ StitchTrial.Overlong → {w : S.Search} → w ≡ with_state (overlong_by (k + length es) s.state) s → Tried words most index steps item k s ws rs v i (On w) steps' item ws rs
+      pub tried-overlong : t ≡ Ok StitchTrial.Overlong → {w : S.Search} → w ≡ with_state (overlong_by (k + length es) s.state) s → Tried words most index steps item k s ws rs v i (Ok w) steps' item ws rs
       unfolding judge_of
       tried-overlong e {w} q =
           let o = says e in
           let h : within (k + length es) s.state.budget.max_length ≡ false = ap (λ (n : ℕ). within (n + length es) s.state.budget.max_length) (sym v.count) ∙ o.1 in
-          record { tells = tells_as (On w) ws rs o.0 (look-overlong (view_of v.graph) v.reference s ws rs v.model v.rep (k + length es) h w q); held = v.carries.1; clears = still-clear (overlong_by (k + length es) s.state) q; kept = kept-steps }
+          record { tells = tells_as (Ok w) ws rs o.0 (look-overlong (view_of v.graph) v.reference s ws rs v.model v.rep (k + length es) h w q); held = v.carries.1; clears = still-clear (overlong_by (k + length es) s.state) q; kept = kept-steps }
 
-      pub tried-stopped : (x : SearchRefusal) → t ≡ StitchTrial.Refused x → Tried words most index steps item k s ws rs v i (Refused x) steps' item ws rs
+      pub tried-stopped : (x : SearchRefusal) → t ≡ Err x → Tried words most index steps item k s ws rs v i (Err x) steps' item ws rs
       unfolding judge_of
-      tried-stopped x e = record { tells = tells_as (Refused x) ws rs (says e) (look-stopped (view_of v.graph) v.reference s ws rs v.model v.rep x); held = v.carries.1; clears = tt; kept = kept-steps }
+      tried-stopped x e = record { tells = tells_as (Err x) ws rs (says e) (look-stopped (view_of v.graph) v.reference s ws rs v.model v.rep x); held = v.carries.1; clears = tt; kept = kept-steps }
 
       -- ---- the path with the edges behind its own
-      module _ (b : Bool) (e : t ≡ StitchTrial.Extended b) where
+      module _ (b : Bool) (e : t ≡ Ok (StitchTrial.Extended b)) where
         longer : (q : Path) × (judge_of ≡ go b q) × (append_all base (view_of v.graph) v.path es ≡ ok q) × (length v.path.edges + length es ≤ max_edges)
         unfolding judge_of
         longer = says e

@@ -16,8 +16,7 @@ use Rattle.semantics.specs.Enumeration.{State, Try, one, each}
 use Rattle.semantics.specs.Enumeration.Statistics.{one-moved}
 use Rattle.semantics.specs.Stitching.{judge_slot}
 use Rattle.search_state.specs.declared.search.Search as S
-use Rattle.search_state.specs.declared.search.Going.{Going}
-use Rattle.search_state.specs.declared.search.Going.TheVariants.{On, Refused}
+use Rattle.std.specs.Prelude.{Result, Ok, Err}
 use Rattle.search_state.specs.declared.progress.Frame.{Frame}
 use Rattle.search_state.specs.Progresses.{frame_of}
 use Rattle.search_state.specs.Reps.{setting_of, Rep, Tells}
@@ -27,7 +26,7 @@ use Rattle.stitching_trial.specs.Links.{RECORDS, first_link, next_link, Passes, 
 use Rattle.stitching_trial.specs.Links.Laws.{readable-used, count-seen, starting-length, starting-tryable, tries-are, passes-end, passes-next, left, left_less}
 use Rattle.stitching_trial.specs.Trials.{KeptTo}
 use Rattle.search_state.specs.Items.{Clear}
-use Rattle.search_state.specs.Searches.{Clears}
+use Rattle.search_state.specs.Searches.{Going, Clears}
 use Rattle.search_state.specs.Runs.{each-one, each-stop}
 use Rattle.stitching.specs.StitchedAnswers.{tries_in}
 use Rattle.stitching.specs.Expansions.{Given, Tried, Expanded}
@@ -109,7 +108,7 @@ module _ {see : ℕ → Bool} {words links : List ℕ} (linked : Linked see word
       kept_on : KeptTo k steps₀ steps'
       kept_on j p l z = t.kept j p l (mid.kept j p l z)
 
-      pub mid-again : (next : S.Search) → a ≡ On next → {link' : ℕ} → link' ≡ next_link links (link - 1) → Mid next steps' item' ws' rs' link'
+      pub mid-again : (next : S.Search) → a ≡ Ok next → {link' : ℕ} → link' ≡ next_link links (link - 1) → Mid next steps' item' ws' rs' link'
       unfolding mid-given
       mid-again next e q =
           let u = tells-on (view_of v.graph) v.reference (frame_of s) a ws' rs' (one (setting_of (frame_of s)) mid.state (judge_of (link - 1))) next told e in
@@ -131,7 +130,7 @@ module _ {see : ℕ → Bool} {words links : List ℕ} (linked : Linked see word
             same = sym (each-one (setting_of (frame_of s)) mid.state u.0 (judge_of (link - 1)) (map judge_of r.0) u.1) ∙ ap (λ (x : List ℕ). each (setting_of (frame_of s)) mid.state (map judge_of x)) (sym r.1) ∙ mid.same;
           }
 
-      pub mid-refused : (x : SearchRefusal) → a ≡ Refused x → Expanded words most index steps₀ item₀ k s ws₀ rs₀ v see a steps' ws' rs'
+      pub mid-refused : (x : SearchRefusal) → a ≡ Err x → Expanded words most index steps₀ item₀ k s ws₀ rs₀ v see a steps' ws' rs'
       mid-refused x e =
           let u = tells-refused (view_of v.graph) v.reference (frame_of s) a ws' rs' (one (setting_of (frame_of s)) mid.state (judge_of (link - 1))) x told e in
           let r = passes-next links link mid.rest h mid.passes in
@@ -139,17 +138,17 @@ module _ {see : ℕ → Bool} {words links : List ℕ} (linked : Linked see word
           sym mid.same ∙ ap (λ (y : List ℕ). each (setting_of (frame_of s)) mid.state (map judge_of y)) r.1 ∙ each-stop (setting_of (frame_of s)) mid.state x (judge_of (link - 1)) (map judge_of r.0) u in
           record {
             tells = subst (λ (y : Going). Tells (view_of v.graph) v.reference (frame_of s) y ws' rs' whole_of) (sym e)
-                (subst (λ (y : Answer SearchRefusal (State Path)). Tells (view_of v.graph) v.reference (frame_of s) (Refused x) ws' rs' y) (sym w) refl);
+                (subst (λ (y : Answer SearchRefusal (State Path)). Tells (view_of v.graph) v.reference (frame_of s) (Err x) ws' rs' y) (sym w) refl);
             kept = kept_on;
           }
 
-    pub mid-end : link ≤ 0 → Expanded words most index steps₀ item₀ k s ws₀ rs₀ v see (On on) steps ws rs
+    pub mid-end : link ≤ 0 → Expanded words most index steps₀ item₀ k s ws₀ rs₀ v see (Ok on) steps ws rs
     unfolding each
     mid-end h =
         let z : link ≡ 0 = omega (arith, h) in
         let n = passes-end links mid.rest (subst (λ (x : ℕ). Passes links x mid.rest) z mid.passes) in
         let w : whole_of ≡ ok mid.state = sym mid.same ∙ ap (λ (y : List ℕ). each (setting_of (frame_of s)) mid.state (map judge_of y)) n in
         record {
-          tells = subst (λ (y : Answer SearchRefusal (State Path)). Tells (view_of v.graph) v.reference (frame_of s) (On on) ws rs y) (sym w) (mid.frame, mid.stood);
+          tells = subst (λ (y : Answer SearchRefusal (State Path)). Tells (view_of v.graph) v.reference (frame_of s) (Ok on) ws rs y) (sym w) (mid.frame, mid.stood);
           kept = mid.kept;
         }

@@ -3,13 +3,12 @@
 use Rattle.std.specs.Prelude.{ℕ, ◌+◌, ◌-◌, ◌≤◌, ◌≡◌, Bool, List, length, take, drop, get_or}
 use Rattle.std.proofs.Common.{arith, ap, ◌∙◌}
 use Rattle.std.proofs.lemmas.List.{length-map}
-use Rattle.semantics.specs.declared.search.Limit.{Limit}
-use Rattle.semantics.specs.Limits.{base}
+use Rattle.semantics.specs.Limits.{base, Limit}
 use Rattle.semantics.specs.Graph.{View}
 use Rattle.semantics.specs.Path.{Path}
 use Rattle.semantics.specs.Stitching.{judge_slot}
+use Rattle.search_state.specs.Searches.{Going}
 use Rattle.search_state.specs.declared.search.Search as S
-use Rattle.search_state.specs.declared.search.Going.{Going}
 use Rattle.search_state.specs.Retraces.{Retraces, Retraced}
 use Rattle.database.specs.Records.{edge_words}
 use Rattle.stitching_trial.specs.Links.{RECORDS, starting_at, seen_in, Readable}

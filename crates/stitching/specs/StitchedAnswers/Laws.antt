@@ -1,20 +1,18 @@
 -- A stitched search from its request on: the kept paths replay; 35 and 34; the image.
 -- Serves document 01, "Partial paths"; 34 and 35 of "Turned back".
-use Rattle.std.specs.Prelude.{ℕ, ◌≤◌, ◌≡◌, refl, Bool, true, false, leb, length}
+use Rattle.std.specs.Prelude.{ℕ, ◌≤◌, ◌≡◌, refl, Bool, true, false, leb, length, Result, Ok, Err}
 use Rattle.std.proofs.Common.{arith, sym, subst, ◌∙◌, ⊎_elim}
 use mathlib.Core.List.Memᴰ
 use mathlib.Core.List.{List, [], ◌∷◌, Memᴰ}
 use borrow.Author.Tests.{leb-true}
 use Rattle.semantics.specs.Entries.{Does}
-use Rattle.semantics.specs.declared.search.Limit.{Limit}
 use Rattle.semantics.specs.declared.refusal.ImageRefusal.{ImageRefusal}
 use Rattle.semantics.specs.declared.refusal.SearchRefusal.{SearchRefusal}
 use Rattle.semantics.specs.declared.refusal.DatabaseRefusal.{DatabaseRefusal}
 use Rattle.semantics.specs.declared.refusal.DatabaseRefusal.TheVariants.{Malformed, Outgrown}
-use Rattle.semantics.specs.declared.answer.Resolution.{Resolution}
 use Rattle.semantics.specs.Lists.{and}
 use Rattle.semantics.specs.Lists.Laws.{and-true}
-use Rattle.semantics.specs.Limits.{base, max_expansions}
+use Rattle.semantics.specs.Limits.{base, max_expansions, Limit}
 use Rattle.semantics.specs.Answer.{Answer, ok, refuse, and_then, ok_if}
 use Rattle.semantics.specs.Answer.Laws.{ok-refuse}
 use Rattle.semantics.specs.Graph.{Graph, View, view_of}
@@ -33,14 +31,14 @@ use Rattle.storage.specs.Index.{Loaded}
 use Rattle.reply.specs.declared.finish.Reply.{Reply}
 use Rattle.reply.specs.EdgeLists.Paths.{Replays}
 use Rattle.reply.specs.Replies.{reply_of}
-use Rattle.database.specs.declared.check.Inspected.{Inspected}
 use Rattle.database.specs.Checks.{inspected}
 use Rattle.database.specs.Checks.Laws.{inspected-refused, inspected-sound}
 use Rattle.stitching_trial.specs.Links.{seen_in, Readable}
-use Rattle.search_rounds.specs.declared.conclusion.SearchEnd.{SearchEnd}
-use Rattle.search_rounds.specs.Drives.{Ends}
+use Rattle.search_rounds.specs.Drives.{SearchEnd, Ends}
 use Rattle.stitching.specs.StitchedAnswers.{stitched_of, found_of}
 use Rattle.search_rounds.specs.Starts.{from_start}
+use Rattle.semantics.specs.PublicAnswers.{Resolution}
+use Rattle.semantics.specs.declared.answer.ResolutionRefusal.{ResolutionRefusal}
 
 -- the definition starts with the path of the reference alone
 stitched-start : (see : ℕ → Bool) (g : Graph) (words : List ℕ) (q : Request) → from_start (setting_of base q) (slot_tries base q.limits.length (view_of g) (seen_in see words)) (view_of g) q.node ≡ stitched_of see g words q
@@ -86,30 +84,30 @@ passed words db true true s e = refl
 passed words db true false s e = absurd (ok-refuse Outgrown s (sym e))
 passed words db false fitting s e = absurd (ok-refuse Malformed s (sym e))
 
-module _ (g : Graph) (words : List ℕ) {i : Inspected} (is : i ≡ inspected (check_database base known_owners g words)) where
-  fits-graph : i ≡ Inspected.Sound → nodes_in words ≤ length g.nodes
+module _ (g : Graph) (words : List ℕ) {i : Result (Unit {0}) DatabaseRefusal} (is : i ≡ inspected (check_database base known_owners g words)) where
+  fits-graph : i ≡ Ok tt → nodes_in words ≤ length g.nodes
   unfolding check_database
   fits-graph e =
       let o = (inspected-sound base known_owners g words (sym e ∙ is)).1 in
       let t = passed words (slots_in base words) (well_formed base known_owners words) (and (leb (nodes_in words) (length g.nodes)) (leb (files_in words) g.files)) (slots_in base words) o in
       leb-true (nodes_in words) (length g.nodes) (and-true (leb (nodes_in words) (length g.nodes)) (leb (files_in words) g.files) t).0
 
-  pub checked-readable : {index : List ℕ} → Loaded g index → i ≡ Inspected.Sound → Readable words
+  pub checked-readable : {index : List ℕ} → Loaded g index → i ≡ Ok tt → Readable words
   checked-readable loaded e = let n = fits-graph e in record { formed = (inspected-sound base known_owners g words (sym e ∙ is)).0; nodes = omega (arith, n, loaded.nodes) }
 
   module _ (see : ℕ → Bool) (reply : Reply) (q : Request) where
-    pub database-refused : (r : DatabaseRefusal) → i ≡ Inspected.Refused r → {ws rs : List ℕ} → ws ≡ zeros q.work → rs ≡ zeros q.result → Does (stitched_outcome base (reply_of reply) see g q (check_database base known_owners g words)) (Resolution.Database r) ws rs
+    pub database-refused : (r : DatabaseRefusal) → i ≡ Err r → {ws rs : List ℕ} → ws ≡ zeros q.work → rs ≡ zeros q.result → Does (stitched_outcome base (reply_of reply) see g q (check_database base known_owners g words)) (Err (ResolutionRefusal.Database r)) ws rs
     unfolding stitched_outcome
     database-refused r e w z = rw (inspected-refused base known_owners g words r (sym e ∙ is)) (refl, w, z)
 
-    pub database-does : i ≡ Inspected.Sound → (a : Resolution) (ws rs : List ℕ) → Does (found_of see g words reply q) a ws rs → Does (stitched_outcome base (reply_of reply) see g q (check_database base known_owners g words)) a ws rs
+    pub database-does : i ≡ Ok tt → (a : Resolution) (ws rs : List ℕ) → Does (found_of see g words reply q) a ws rs → Does (stitched_outcome base (reply_of reply) see g q (check_database base known_owners g words)) a ws rs
     unfolding stitched_outcome
     database-does e a ws rs h = rw (inspected-sound base known_owners g words (sym e ∙ is)).1 h
 
 -- ---- the image
 
 module _ (see : ℕ → Bool) (reply : Reply) (words : List ℕ) (q : Request) {y : Answer ImageRefusal Graph} where
-  pub image-refused : (x : ImageRefusal) → y ≡ refuse x → {ws rs : List ℕ} → ws ≡ zeros q.work → rs ≡ zeros q.result → Does (stitched_call base (reply_of reply) known_owners see y words q) (Resolution.Image x) ws rs
+  pub image-refused : (x : ImageRefusal) → y ≡ refuse x → {ws rs : List ℕ} → ws ≡ zeros q.work → rs ≡ zeros q.result → Does (stitched_call base (reply_of reply) known_owners see y words q) (Err (ResolutionRefusal.Image x)) ws rs
   unfolding stitched_call
   image-refused x e w r = rw e (refl, w, r)
 

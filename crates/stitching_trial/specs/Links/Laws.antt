@@ -11,11 +11,10 @@ use mathlib.Core.List.{List, [], ◌∷◌, map}
 use Rattle.std.proofs.Math.ListN.{length-set}
 use Rattle.std.proofs.lemmas.List.{length-map, length-replicate, get_or-replicate}
 use Rattle.std.proofs.Math.Seq.{get_or-set_same}
-use Rattle.semantics.specs.declared.search.Limit.{Limit}
 use Rattle.semantics.specs.declared.refusal.SearchRefusal.{SearchRefusal}
 use Rattle.semantics.specs.Lists.{pick, and, or, cons_if}
 use Rattle.semantics.specs.Lists.Laws.{and-true, or-true}
-use Rattle.semantics.specs.Limits.{Bounds, base, nobody}
+use Rattle.semantics.specs.Limits.{Bounds, base, nobody, Limit}
 use Rattle.semantics.specs.Graph.{View}
 use Rattle.semantics.specs.Path.{Path}
 use Rattle.semantics.specs.Enumeration.{Try}

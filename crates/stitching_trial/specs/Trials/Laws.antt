@@ -3,7 +3,7 @@
 use Prim.Native.Nat.{ℕ, suc, ◌+◌, ◌*◌, ◌<◌, ◌≤◌}
 use native.Mathlib.Omega.{arith}
 use Rattle.std.proofs.Common.{add-one, add-zero, ◌∙◌, drop_of_length-le, drop-cons}
-use Rattle.std.specs.Prelude.{◌≡◌, refl, Bool, false, ltb, leb, drop, get_or}
+use Rattle.std.specs.Prelude.{◌≡◌, refl, Bool, false, ltb, leb, drop, get_or, Result, Ok, Err}
 use Rattle.std.proofs.Math.Path.{sym, ap, subst}
 use Rattle.std.proofs.Math.Bool.{true}
 use mathlib.Core.List.{List, [], ◌∷◌}
@@ -11,13 +11,13 @@ use borrow.Author.Tests.{lt-ltb, le-leb, lt-leb}
 use Rattle.std.proofs.Math.ListN.{length}
 use Rattle.semantics.specs.ReplayedPaths.{step_at}
 use Rattle.semantics.specs.declared.graph.Node.{Node}
-use Rattle.semantics.specs.declared.search.Limit.{Limit}
 use Rattle.semantics.specs.declared.refusal.PathRefusal.{PathRefusal}
 use Rattle.semantics.specs.declared.refusal.PathRefusal.TheVariants as P
 use Rattle.semantics.specs.declared.refusal.ReplayRefusal.TheVariants as Replay
+use Rattle.semantics.specs.declared.refusal.SearchRefusal.{SearchRefusal}
 use Rattle.semantics.specs.declared.refusal.SearchRefusal.TheVariants as Search
 use Rattle.semantics.specs.Lists.{has, shares}
-use Rattle.semantics.specs.Limits.{base, within, max_edges, step_length}
+use Rattle.semantics.specs.Limits.{base, within, max_edges, step_length, Limit}
 use Rattle.semantics.specs.Answer.{ok, refuse}
 use Rattle.semantics.specs.Graph.{View, view_of, is_reference}
 use Rattle.semantics.specs.Path.{Path, append, append_under, append_all, is_complete}
@@ -27,7 +27,8 @@ use Rattle.semantics.specs.Enumeration.{go, tested}
 use Rattle.semantics.specs.Stitching.{ended, extended, joined, judge_slot}
 use Rattle.storage.specs.Index.{node_row, edge_row}
 use Rattle.semantics.specs.declared.replayed.Step.{Step}
-use Rattle.stepping.specs.declared.step.Effect.{Effect}
+use Rattle.stepping.specs.Steps.{Effect}
+use Rattle.std.specs.Prelude.{Ok, Err}
 use Rattle.stepping.specs.StepWords.{with_step}
 use Rattle.stepping.specs.Judged.{Ready, Stepped, judged_of, words_after, complete_step}
 use Rattle.stepping.specs.Judged.Laws.{complete-is}
@@ -38,7 +39,7 @@ use Rattle.path_budget.specs.Budget.{lengthening}
 use Rattle.path_budget.specs.Budget.Laws.{lengthening-allowed}
 use Rattle.search_state.specs.Retraces.Laws.{stepped_kept, ready_of, effect-done, effect-refused}
 use Rattle.stitching_trial.specs.declared.trial.StitchTrial.{StitchTrial}
-use Rattle.stitching_trial.specs.declared.trial.StitchTrial.TheVariants.{Cut, Overlong, Refused, Extended}
+use Rattle.stitching_trial.specs.declared.trial.StitchTrial.TheVariants.{Cut, Overlong, Extended}
 use Rattle.stitching_trial.specs.Trials.{ended_by, KeptTo, Appends, AppendedBy, AppendsTo, Judged, Judging, JudgedAs}
 
 -- ---- the scan for a shared edge
@@ -92,7 +93,7 @@ module _ {index ws₀ : List ℕ} {k : ℕ} {edges : List ℕ} (v : Appends inde
       split : drop i edges ≡ get_or edges i 0 ∷ drop (i + 1) edges
       split = drop-cons edges i 0 h ∙ ap (λ (n : ℕ). get_or edges i 0 ∷ drop n edges) (let z : suc i ≡ i + 1 = omega arith in z)
 
-      pub mid-refused : (z : PathRefusal) → x ≡ Effect.Refused z → {ws' : List ℕ} → ws' ≡ words_after ws (k + i + 1) x → AppendsTo index ws₀ k edges v x ws'
+      pub mid-refused : (z : PathRefusal) → x ≡ Err z → {ws' : List ℕ} → ws' ≡ words_after ws (k + i + 1) x → AppendsTo index ws₀ k edges v x ws'
       unfolding words_after
       mid-refused z d {ws'} w =
           let a = effect-refused v.loaded mid.stepped (mid-room h) (get_or edges i 0) is z d in
@@ -101,7 +102,7 @@ module _ {index ws₀ : List ℕ} {k : ℕ} {edges : List ℕ} (v : Appends inde
           sym mid.same ∙ ap (append_all base (view_of v.graph) mid.path) split ∙ all-refused (view_of v.graph) mid.path (get_or edges i 0) (drop (i + 1) edges) short z a in
           record { appended = subst (λ (t : Effect). AppendedBy index ws₀ k edges v t ws') (sym d) r; kept = subst (λ (l : List ℕ). KeptTo k ws₀ l) (sym y) mid.kept }
 
-      pub mid-again : (s : Step) → x ≡ Effect.Done s → {ws' : List ℕ} → ws' ≡ words_after ws (k + i + 1) x → Mid ws' (i + 1)
+      pub mid-again : (s : Step) → x ≡ Ok s → {ws' : List ℕ} → ws' ≡ words_after ws (k + i + 1) x → Mid ws' (i + 1)
       unfolding words_after
       mid-again s d {ws'} w =
           let n = effect-done v.loaded mid.stepped (mid-room h) (get_or edges i 0) is s d in
@@ -114,7 +115,7 @@ module _ {index ws₀ : List ℕ} {k : ℕ} {edges : List ℕ} (v : Appends inde
             same = sym (sym mid.same ∙ ap (append_all base (view_of v.graph) mid.path) split ∙ all_more (view_of v.graph) mid.path (get_or edges i 0) (drop (i + 1) edges) short n.path n.appended);
           }
 
-    pub mid-end : i ≤ length edges → length edges ≤ i → {s : Step} → s ≡ step_at ws (k + length edges) → AppendsTo index ws₀ k edges v (Effect.Done s) ws
+    pub mid-end : i ≤ length edges → length edges ≤ i → {s : Step} → s ≡ step_at ws (k + length edges) → AppendsTo index ws₀ k edges v (Ok s) ws
     unfolding append_all
     mid-end a b e =
         let n : i ≡ length edges = omega (arith, a, b) in
@@ -125,14 +126,14 @@ module _ {index ws₀ : List ℕ} {k : ℕ} {edges : List ℕ} (v : Appends inde
 
 -- ---- what the answer tells
 
-done_refused : (s : Step) (z : PathRefusal) → Effect.Done s ≡ Effect.Refused z → ⊥
+done_refused : (s : Step) (z : PathRefusal) → ◌≡◌ {A = Effect} (Ok s) (Err z) → ⊥
 done_refused s z e = let y : ◌≡◌ {A = ℕ} 0 1 = cc in omega arith
 
-appended-done : {index ws : List ℕ} {k : ℕ} {edges : List ℕ} (v : Appends index ws k edges) {x : Effect} (ws' : List ℕ) (s : Step) → AppendedBy index ws k edges v x ws' → x ≡ Effect.Done s
+appended-done : {index ws : List ℕ} {k : ℕ} {edges : List ℕ} (v : Appends index ws k edges) {x : Effect} (ws' : List ℕ) (s : Step) → AppendedBy index ws k edges v x ws' → x ≡ Ok s
     → (q : Path) × (append_all base (view_of v.graph) v.path edges ≡ ok q) × Stepped ws' (k + length edges) q × (s ≡ step_at ws' (k + length edges))
 appended-done {index} {ws} {k} {edges} v ws' s h e = subst (λ (y : Effect). AppendedBy index ws k edges v y ws') e h
 
-appended-refused : {index ws : List ℕ} {k : ℕ} {edges : List ℕ} (v : Appends index ws k edges) {x : Effect} (ws' : List ℕ) (z : PathRefusal) → AppendedBy index ws k edges v x ws' → x ≡ Effect.Refused z
+appended-refused : {index ws : List ℕ} {k : ℕ} {edges : List ℕ} (v : Appends index ws k edges) {x : Effect} (ws' : List ℕ) (z : PathRefusal) → AppendedBy index ws k edges v x ws' → x ≡ Err z
     → append_all base (view_of v.graph) v.path edges ≡ refuse (Replay.Path z)
 appended-refused {index} {ws} {k} {edges} v ws' z h e = subst (λ (y : Effect). AppendedBy index ws k edges v y ws') e h
 
@@ -183,17 +184,17 @@ module _ {index ws path edges : List ℕ} (v : Judging index ws path edges) (lim
   same-words : KeptTo (length path) ws ws
   same-words j p l s = s
 
-  pub judge-cut : cycle ≡ true → JudgedAs index ws path edges v lim Cut ws
+  pub judge-cut : cycle ≡ true → JudgedAs index ws path edges v lim (Ok Cut) ws
   unfolding judge_slot joined tested
   judge-cut c = record { says = rw (shared c); kept = same-words }
 
   module _ (c : cycle ≡ false) where
-    pub judge-overlong : within (length path + length edges) lim ≡ false → JudgedAs index ws path edges v lim Overlong ws
+    pub judge-overlong : within (length path + length edges) lim ≡ false → JudgedAs index ws path edges v lim (Ok Overlong) ws
     unfolding judge_slot joined tested
     judge-overlong w = record { says = (rw (shared c, measured w), measured w); kept = same-words }
 
     module _ (w : within (length path + length edges) lim ≡ true) where
-      pub judge-bound : max_edges < length path + length edges → JudgedAs index ws path edges v lim (Refused Search.TooLong) ws
+      pub judge-bound : max_edges < length path + length edges → JudgedAs index ws path edges v lim (Err Search.TooLong) ws
       unfolding judge_slot joined tested
       judge-bound h = record { says = rw (shared c, measured w, lt-leb (length v.on.edges + length edges) max_edges (let n = counted in omega (arith, h, n))); kept = same-words }
 
@@ -205,14 +206,14 @@ module _ {index ws path edges : List ℕ} (v : Judging index ws path edges) (lim
         roomy = le-leb (length v.on.edges + length edges) max_edges (let n = counted in omega (arith, h, n))
 
         module _ {x : Effect} {ws' : List ℕ} (t : AppendsTo index ws (length path) edges judge-appends x ws') where
-          pub judge-refused : (z : PathRefusal) → x ≡ Effect.Refused z → {r : StitchTrial} → r ≡ ended_by z → JudgedAs index ws path edges v lim r ws'
+          pub judge-refused : (z : PathRefusal) → x ≡ Err z → {r : Result StitchTrial SearchRefusal} → r ≡ ended_by z → JudgedAs index ws path edges v lim r ws'
           unfolding judge_slot joined tested extended judge-appends
           judge-refused z e q =
               let a = appended-refused judge-appends ws' z t.appended e in
               let j : judge_slot base lim g v.on edges ≡ ended (Replay.Path z) = rw (shared c, measured w, roomy, a) in
-              record { says = subst (λ (y : StitchTrial). Judged lim g v.on edges y) (sym q) (ended-judged lim g v.on edges z j); kept = t.kept }
+              record { says = subst (λ (y : Result StitchTrial SearchRefusal). Judged lim g v.on edges y) (sym q) (ended-judged lim g v.on edges z j); kept = t.kept }
 
-          pub judge-extended : (s : Step) → x ≡ Effect.Done s → {b : Bool} → b ≡ complete_step (node_row index) s → JudgedAs index ws path edges v lim (Extended b) ws'
+          pub judge-extended : (s : Step) → x ≡ Ok s → {b : Bool} → b ≡ complete_step (node_row index) s → JudgedAs index ws path edges v lim (Ok (Extended b)) ws'
           unfolding judge_slot joined tested extended judge-appends
           judge-extended s e {b} q =
               let a = appended-done judge-appends ws' s t.appended e in

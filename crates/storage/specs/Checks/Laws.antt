@@ -1,13 +1,11 @@
 -- Each outcome of the whole check from the outcomes of its parts.
 -- Serves document 01, "Turned back".
-use Rattle.std.specs.Prelude.{ℕ, ◌<◌, ◌≤◌, ◌≡◌, Bool, true, false, List, eqb, length}
+use Rattle.std.specs.Prelude.{ℕ, ◌<◌, ◌≤◌, ◌≡◌, Bool, true, false, List, eqb, length, Err}
 use Rattle.std.proofs.Common.{arith, sym, ◌∙◌, subst, eq-eqb, ne_eqb}
 use Rattle.std.proofs.Math.Path.{refl, ap}
 use Rattle.semantics.specs.Entries.{graph_in}
 use Rattle.semantics.specs.declared.refusal.ImageRefusal.{ImageRefusal}
 use Rattle.semantics.specs.declared.refusal.ImageRefusal.TheVariants as Image
-use Rattle.semantics.specs.declared.answer.Checked.{Checked}
-use Rattle.semantics.specs.declared.answer.Checked as C
 use Rattle.semantics.specs.Calls.{check_call}
 use Rattle.semantics.specs.Lists.{pick}
 use Rattle.semantics.specs.Answer.{Answer, ok, refuse, and_then}
@@ -26,6 +24,7 @@ use Rattle.image.specs.Records.Laws.{length-nodes, length-edges}
 use Rattle.storage.specs.References.{First, node_test, edge_test, Sources}
 use Rattle.storage.specs.References.Laws.{nodes-fit, node-misfit, edges_fit, edge-misfit, sources-fit}
 use Rattle.storage.specs.Checks.{references_of, Unlinked, shown}
+use Rattle.semantics.specs.PublicAnswers.{Checked, accepted}
 
 -- THE PARTS BEHIND ONE ANOTHER
 then-assoc : {A B C : Type 0} (x : Answer ImageRefusal A) (f : A → Answer ImageRefusal B) (h : B → Answer ImageRefusal C) → and_then x (λ a. and_then (f a) h) ≡ and_then (and_then x f) h
@@ -153,23 +152,23 @@ pub ready : {g : Graph} {l : List ℕ} {m : ℕ} → Unlinked g l → m ≡ leng
 ready {g} {l} {m} u e = nothing-linked g l m (omega arith) u.nodes u.edges u.held
 
 -- THE ANSWER
-pub told-refused : {x : Answer ImageRefusal Graph} (r : ImageRefusal) → x ≡ refuse r → Checked.Refused r ≡ check_call x
+pub told-refused : {x : Answer ImageRefusal Graph} (r : ImageRefusal) → x ≡ refuse r → Err r ≡ check_call x
 unfolding check_call
 told-refused r e = sym (ap check_call e)
 
-pub told-accepted : (im : List ℕ) {f n m : ℕ} → f ≡ files_of im → n ≡ nodes_of im → m ≡ edges_of im → references_of im ≡ ok (graph_read im) → Checked.Accepted f n m ≡ check_call (references_of im)
+pub told-accepted : (im : List ℕ) {f n m : ℕ} → f ≡ files_of im → n ≡ nodes_of im → m ≡ edges_of im → references_of im ≡ ok (graph_read im) → accepted f n m ≡ check_call (references_of im)
 unfolding check_call
 told-accepted im a b c e =
     let x = a ∙ sym files in let y = b ∙ sym (count-nodes im) in let z = c ∙ sym (count-edges im) in
-    (λ i. Checked.Accepted (x i) (y i) (z i)) ∙ sym (ap check_call e)
+    (λ i. accepted (x i) (y i) (z i)) ∙ sym (ap check_call e)
   where
     files : (graph_read im).files ≡ files_of im
     files = unfold graph_of in refl
 
 -- a refused one has none
-pub refused-graph : {x : Answer ImageRefusal Graph} {a : C.Checked} (r : ImageRefusal) → a ≡ check_call x → a ≡ Checked.Refused r → (g : Graph) → x ≡ ok g → ⊥
+pub refused-graph : {x : Answer ImageRefusal Graph} {a : Checked} (r : ImageRefusal) → a ≡ check_call x → a ≡ Err r → (g : Graph) → x ≡ ok g → ⊥
 unfolding check_call
-refused-graph r e q g k = let z : Checked.Refused r ≡ check_call (ok g) = sym q ∙ e ∙ ap check_call k in let y : ◌≡◌ {A = ℕ} 0 1 = cc in omega arith
+refused-graph r e q g k = let z : Err r ≡ check_call (ok g) = sym q ∙ e ∙ ap check_call k in let y : ◌≡◌ {A = ℕ} 0 1 = cc in omega arith
 
 -- and whatever is said of the graph of a refused image holds
 pub none-known : {P : Type 0} {x : Answer ImageRefusal Graph} (r : ImageRefusal) → x ≡ refuse r → (g : Graph) → x ≡ ok g → P

@@ -1,10 +1,9 @@
 -- What the crates above use: the records of a loaded graph, the run over a node's outgoing edges, and the answer of the check.
 -- Serves document 01, "Graph image": `outgoing` means live edges by ascending number.
-use Rattle.std.specs.Prelude.{ℕ, zero, suc, ◌-◌, ◌<◌, ◌≤◌, ◌≡◌, refl, Bool, true, false, List, [], ◌∷◌, eqb, length}
+use Rattle.std.specs.Prelude.{ℕ, zero, suc, ◌-◌, ◌<◌, ◌≤◌, ◌≡◌, refl, Bool, true, false, List, [], ◌∷◌, eqb, length, Err, Ok}
 use Rattle.std.proofs.Common.{arith, ap, subst, eq-eqb, ne_eqb}
 use Rattle.semantics.specs.declared.graph.Edge.{Edge}
 use Rattle.semantics.specs.declared.graph.Edge.TheVariants as E
-use Rattle.semantics.specs.declared.answer.Checked.{Checked}
 use Rattle.semantics.specs.declared.refusal.ImageRefusal.{ImageRefusal}
 use Rattle.semantics.specs.Lists.{pick, cons_if}
 use Rattle.semantics.specs.Answer.{Answer, ok, refuse}
@@ -12,6 +11,8 @@ use Rattle.semantics.specs.Calls.{check_call}
 use Rattle.semantics.specs.Graph.{Graph, view_of, outgoing}
 use Rattle.semantics.specs.Hidden.{seen, seen_image}
 use Rattle.storage.specs.Index.{EDGES, node_row, edge_row, first_row, next_row, Runs, Loaded}
+use Rattle.semantics.specs.declared.answer.Counts.{Counts}
+use Rattle.semantics.specs.PublicAnswers.{Checked}
 
 -- THE RECORDS
 module _ {g : Graph} {index : List ℕ} (loaded : Loaded g index) where
@@ -79,7 +80,7 @@ unfolding view_of
 out-bounded {g} k n = let h = outgoing-length n 0 g.edges in omega (arith, h, k.edges)
 
 -- THE ANSWER: what a match on it says of the image
-pub answer-refused : (x : Answer ImageRefusal Graph) {c : Checked} (r : ImageRefusal) → c ≡ check_call x → c ≡ Checked.Refused r → x ≡ refuse r
+pub answer-refused : (x : Answer ImageRefusal Graph) {c : Checked} (r : ImageRefusal) → c ≡ check_call x → c ≡ Err r → x ≡ refuse r
 unfolding check_call
 answer-refused (ok g) r e q = absurd (let z : ◌≡◌ {A = ℕ} 0 1 = cc in omega arith)
 answer-refused (refuse s) r e q = let z : s ≡ r = cc in λ i. refuse (z i)
@@ -92,13 +93,15 @@ pub record Accepted (x : Answer ImageRefusal Graph) (files nodes edges : ℕ) : 
   pub node-count : nodes ≡ length graph.nodes
   pub edge_count : edges ≡ length graph.edges
 
-pub answer-accepted : (x : Answer ImageRefusal Graph) {c : Checked} (files nodes edges : ℕ) → c ≡ check_call x → c ≡ Checked.Accepted files nodes edges → Accepted x files nodes edges
+pub answer-accepted : (x : Answer ImageRefusal Graph) {c : Checked} (counts : Counts) → c ≡ check_call x → c ≡ Ok counts → Accepted x counts.files counts.nodes counts.edges
 unfolding check_call
-answer-accepted (ok g) files nodes edges e q = record { graph = g; is = refl; file-count = cc; node-count = cc; edge_count = cc }
-answer-accepted (refuse s) files nodes edges e q = absurd (let z : ◌≡◌ {A = ℕ} 0 1 = cc in omega arith)
+answer-accepted (ok g) counts e q =
+    let z : counts ≡ record { files = g.files; nodes = length g.nodes; edges = length g.edges } = cc in
+    record { graph = g; is = refl; file-count = ap (λ (x : Counts). x.files) z; node-count = ap (λ (x : Counts). x.nodes) z; edge_count = ap (λ (x : Counts). x.edges) z }
+answer-accepted (refuse s) counts e q = absurd (let z : ◌≡◌ {A = ℕ} 0 1 = cc in omega arith)
 
 -- and of what a desk sees of it
-pub refused-seen : (see : ℕ → Bool) (x : Answer ImageRefusal Graph) {c : Checked} (r : ImageRefusal) → c ≡ check_call x → c ≡ Checked.Refused r → seen_image see x ≡ refuse r
+pub refused-seen : (see : ℕ → Bool) (x : Answer ImageRefusal Graph) {c : Checked} (r : ImageRefusal) → c ≡ check_call x → c ≡ Err r → seen_image see x ≡ refuse r
 unfolding seen_image
 refused-seen see x r e q = ap (seen_image see) (answer-refused x r e q)
 

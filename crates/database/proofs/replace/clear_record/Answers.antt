@@ -6,6 +6,7 @@ use Rattle.semantics.specs.Limits.{base}
 use Rattle.database.specs.Records.{owner_word}
 use Rattle.database.specs.Filing.Laws.{cleared-owned, cleared-other}
 use Rattle.database.proofs.replace.clear_record.Goals as goal
+use Rattle.database.proofs.replace.clear_record.Goals.{else-owner-gt0-via-then-owner-gt0+else-owner-file, else-owner-gt0-via-else-owner-gt0}
 
 pub returns-then-owner-file : goal.returns-then-owner-file
 returns-then-owner-file c =
@@ -19,12 +20,12 @@ returns-then-owner-file c =
       c.if-owner-file.true,
     )) p
 
-pub returns-else-owner-file : goal.returns-else-owner-file
-returns-else-owner-file c =
-    let a = c.args in
-    cleared-other base a.file a.i a.words.now (λ (e : owner_word base a.i a.words.now ≡ suc a.file). c.if-owner-file.false (omega (arith, e, c.owner-owner.ensures)))
-
 pub returns-else-owner-gt0 : goal.returns-else-owner-gt0
 returns-else-owner-gt0 c =
     let a = c.args in
-    cleared-other base a.file a.i a.words.now (λ (e : owner_word base a.i a.words.now ≡ suc a.file). omega (arith, e, c.owner-owner.ensures, c.if-owner-gt0.false))
+    cleared-other base a.file a.i a.words.now
+    (λ (e : owner_word base a.i a.words.now ≡ suc a.file).
+    elim c.else-owner-gt0.branch [
+      | else-owner-gt0-via-then-owner-gt0+else-owner-file w ↦ w.if-owner-file.false (omega (arith, e, c.owner-owner.ensures))
+      | else-owner-gt0-via-else-owner-gt0 w ↦ omega (arith, e, c.owner-owner.ensures, w.if-owner-gt0.false)
+    ])

@@ -14,23 +14,20 @@ use Rattle.database.proofs.replace.take_back.Goals as goal
 pub loop-i-init : goal.loop-i-init
 loop-i-init c =
     let a = c.args in
-    let e = c.number-i.ensures.0 in
-    (omega (arith, e), omega (arith, e), refl, sym (freed-none base c.number-i.result (used_in a.words.now) a.words.now (omega (arith, e))))
-
-pub zero_record-requires : goal.zero_record-requires
-zero_record-requires c = let p = c.requires in let l = c.loop-i in omega (arith, p.0, l.invariant.0, l.invariant.2, c.loop-i-test.true)
+    let e = c.number-used.ensures.0 in
+    (e, omega (arith, e), refl, sym (freed-none base c.number-used.result (used_in a.words.now) a.words.now (omega (arith, e))))
 
 pub loop-i-preserved : goal.loop-i-preserved
 loop-i-preserved c =
     let l = c.loop-i in
     let less = c.loop-i-test.true in
     let a = c.args in (
-      omega (arith, l.invariant.0),
+      l.invariant.0,
       omega (arith, l.invariant.0, l.invariant.1, less),
       c.zero_record.auto.words ∙ l.invariant.2,
       c.zero_record.ensures
           ∙ ap (λ (x : List ℕ). put_record base (l.i - 1) (zeros (record_words base)) x) l.invariant.3
-          ∙ freed-down base l.i (used_in a.words.now) a.words.now (omega (arith, less)) l.invariant.0,
+          ∙ freed-down base l.i (used_in a.words.now) a.words.now (omega (arith, less)) (omega (arith, l.invariant.0, l.auto.i)),
     )
 
 pub returns : goal.returns

@@ -8,7 +8,4 @@ use Rattle.database.specs.Filing.{freed_from}
 use Rattle.database.proofs.replace.take_back.Given as goal
 
 abbrev pub invariant-loop-i : goal.invariant-loop-i
-invariant-loop-i l = (l.i ≤ used_in l.initial.words) × (used_in l.initial.words - l.i ≤ used_in l.initial.words - l.first) × (length l.words ≡ length l.initial.words) × (l.words ≡ freed_from base l.i (used_in l.initial.words - l.i) l.initial.words)
-
-abbrev pub decreases-loop-i : goal.decreases-loop-i
-decreases-loop-i l = l.i
+invariant-loop-i l = (l.used ≡ used_in l.initial.words) × (used_in l.initial.words - l.i ≤ used_in l.initial.words - l.first) × (length l.words ≡ length l.initial.words) × (l.words ≡ freed_from base l.i (used_in l.initial.words - l.i) l.initial.words)

@@ -1,13 +1,13 @@
 -- `direct_search::direct::expand`: from one edge that lengthens the path to the next.
 use Prim.Native.Nat.{ℕ, ◌<◌}
 use native.Mathlib.Omega.{arith}
-use mathlib.Core.Path.{refl, sym, ap, subst, ◌∙◌}
+use Rattle.std.specs.Prelude.{Err}
+use borrow.Author.Rules.{rules}
+use mathlib.Core.Path.{◌≡◌, refl, sym, ap, subst, ◌∙◌}
 use Rattle.semantics.specs.Limits.{looked_before}
 use Rattle.storage.specs.Index.Use.{left}
 use Rattle.semantics.specs.declared.replayed.Step.{Step}
-use Rattle.search_state.specs.declared.search.Going.{Going}
-use Rattle.search_state.specs.Searches.{Clears}
-use Rattle.direct_search.specs.Expansions.{Expanded}
+use Rattle.search_state.specs.Searches.{Going}
 use Rattle.direct_search.specs.Expansions.Laws.{given-short}
 use Rattle.direct_search.specs.Expansions.Edges.{Mid, mid_start, mid-end}
 use Rattle.direct_search.specs.Passes.{Turned}
@@ -62,33 +62,32 @@ pass_over-pass-requires c =
     let p = c.requires in
     passing-of (omega arith) (l.invariant.4 p) c.budget-budget.result l.invariant.3
 
-pub onward-going-requires : goal.onward-going-requires
-onward-going-requires c =
+pub onward-requires : goal.onward-requires
+onward-requires c =
     let l = c.loop-link in
     let budget = c.budget-budget in
     let p = c.requires in
     turning-of (omega arith) (l.invariant.4 p) l.invariant.3
     (c.pass_over-pass.ensures (passing-of (omega arith) (l.invariant.4 p) budget.result l.invariant.3))
 
-pub returns-in_default : goal.returns-in_default
-returns-in_default c =
-    let onward = c.onward-going in
+pub returns-in_err-on : goal.returns-in_err-on
+returns-in_err-on c =
+    let onward = c.onward in
     let pass-over = c.pass_over-pass in
     let l = c.loop-link in
     let budget = c.budget-budget in
     let a = c.args in
-    let frame_is = ap (course_at a.frame) c.in_default.is in
-    let course_at-is = sym frame_is in record {
+    let y = c.in_err-on.field-0.0 in
+    let frame_is = ap (course_at a.frame) c.in_err-on.was in
+    let e : c.from_residual.result ≡ Err y = search rules in
+    record {
       expanded = λ v.
           let turning-of' = turning-of (omega arith) (l.invariant.4 v) l.invariant.3
           (pass-over.ensures (passing-of (omega arith) (l.invariant.4 v) budget.result l.invariant.3)) in
-          subst (λ (g : Going).
-          Expanded looked_before a.index.now a.steps.now a.item.now a.k (at a.frame a.progress) a.work.now a.res.now v g
-          onward.new.work onward.new.res) course_at-is
-          (subst (λ (g : Going).
+          rw e (subst (λ (g : Going).
           Turned pass-over.result l.item a.k (at a.frame l.on) l.work l.res turning-of' g onward.new.item
           onward.new.work onward.new.res) frame_is (onward.ensures turning-of'));
-      clears = λ v. subst (λ (g : Going). Clears g onward.new.item) course_at-is tt;
+      clears = λ v. rw e tt;
     }
 
 pub beyond-link-requires : goal.beyond-link-requires
@@ -108,7 +107,7 @@ loop-link-smaller c =
 
 pub loop-link-preserved : goal.loop-link-preserved
 loop-link-preserved c =
-    let onward = c.onward-going in
+    let onward = c.onward in
     let pass-over = c.pass_over-pass in
     let l = c.loop-link in
     let budget = c.budget-budget in
@@ -122,10 +121,10 @@ loop-link-preserved c =
           (pass-over.ensures (passing-of (omega arith) (l.invariant.4 v) budget.result l.invariant.3)) in
           subst (λ (n : ℕ).
           Mid looked_before a.index.now a.steps.now a.item.now a.k (at a.frame a.progress) a.work.now a.res.now v
-          (at a.frame c.in-On.next) onward.new.item onward.new.work onward.new.res n)
+          (at a.frame c.in_ok-on.on) onward.new.item onward.new.work onward.new.res n)
           (sym c.beyond-link.ensures) (subst (λ (g : Going).
           Turned pass-over.result l.item a.k (at a.frame l.on) l.work l.res turning-of' g onward.new.item
-          onward.new.work onward.new.res) (ap (course_at a.frame) c.in-On.is)
+          onward.new.work onward.new.res) (ap (course_at a.frame) c.in_ok-on.was)
           (onward.ensures turning-of')),
     )
 

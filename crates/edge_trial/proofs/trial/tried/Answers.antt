@@ -6,4 +6,4 @@ pub returns-in_default : goal.returns-in_default
 returns-in_default c = sym (ap tried_by (sym c.judge-judged.ensures.value_2 ∙ c.in_default.is))
 
 pub returns : goal.returns
-returns c = sym (ap tried_by (sym c.judge-judged.ensures.value_2 ∙ c.in-Extends.is))
+returns c = sym (ap tried_by (sym c.judge-judged.ensures.value_2 ∙ c.in-Ok.is))

@@ -11,27 +11,27 @@ pub find_loaded-requires : goal.find_loaded-requires
 find_loaded-requires c =
     let load-seen = c.load_seen in
     let a = c.args in
-    let z = answer-accepted (graph_in a.image.now) c.in-Accepted.files c.in-Accepted.nodes c.in-Accepted.edges
-    load-seen.ensures.value c.in-Accepted.is in
+    let z = answer-accepted (graph_in a.image.now) c.in-Ok.counts
+    load-seen.ensures.value c.in-Ok.is in
     record { holds = record { graph = seen (sees a.visible.now) z.graph; loaded = load-seen.ensures.loaded z.graph z.is }; node-count = z.node-count ∙ sym (seen-nodes (sees a.visible.now) z.graph) }
 
-pub returns-in-Refused : goal.returns-in-Refused
-returns-in-Refused c =
-    let zero2 = c.zero-in-Refused in
+pub returns-in-Err : goal.returns-in-Err
+returns-in-Err c =
+    let zero2 = c.zero-in-Err in
     let zero = c.zero in
     let load-seen = c.load_seen in
     let a = c.args in
-    image-refused (name_request_of a.limit a.work.now a.res.now a.node) (seen_in a.image.now a.visible.now) c.in-Refused.r
-    (refused-seen (sees a.visible.now) (graph_in a.image.now) c.in-Refused.r load-seen.ensures.value c.in-Refused.is) zero.new.area
+    image-refused (name_request_of a.limit a.work.now a.res.now a.node) (seen_in a.image.now a.visible.now) c.in-Err.r
+    (refused-seen (sees a.visible.now) (graph_in a.image.now) c.in-Err.r load-seen.ensures.value c.in-Err.is) zero.new.area
     zero2.new.area zero.ensures zero2.ensures
 
-pub returns-in-Accepted : goal.returns-in-Accepted
-returns-in-Accepted c =
+pub returns-in-Ok : goal.returns-in-Ok
+returns-in-Ok c =
     let find-loaded = c.find_loaded in
     let load-seen = c.load_seen in
     let a = c.args in
-    let z = answer-accepted (graph_in a.image.now) c.in-Accepted.files c.in-Accepted.nodes c.in-Accepted.edges
-    load-seen.ensures.value c.in-Accepted.is in
+    let z = answer-accepted (graph_in a.image.now) c.in-Ok.counts
+    load-seen.ensures.value c.in-Ok.is in
     let see = sees a.visible.now in
     image_does (name_request_of a.limit a.work.now a.res.now a.node) (seen_in a.image.now a.visible.now) (seen see z.graph) (accepted-seen see z.is) find-loaded.result
     find-loaded.new.work find-loaded.new.res

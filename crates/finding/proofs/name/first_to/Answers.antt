@@ -1,6 +1,7 @@
 -- `finding::name::first_to`: none of the slots before this one does.
 use Prim.Native.Nat.{ℕ, ◌<◌}
 use native.Mathlib.Omega.{arith}
+use borrow.Author.Rules.{rules}
 use mathlib.Core.Path.{sym, ◌∙◌}
 use Rattle.finding.specs.Names.{slot_to}
 use Rattle.finding.specs.Names.Laws.{before_more}
@@ -13,7 +14,12 @@ pub ends_at-requires : goal.ends_at-requires
 ends_at-requires c = let p = c.requires in (p.0, p.1 c.loop-i.i c.loop-i-test.true)
 
 pub returns-then-ends_at : goal.returns-then-ends_at
-returns-then-ends_at c = let l = c.loop-i in record { within = l.invariant.0; before = l.invariant.1; here = λ h. sym c.ends_at.ensures ∙ c.if-ends_at.true }
+returns-then-ends_at c =
+    let l = c.loop-i in
+    record {
+      first = record { within = l.invariant.0; before = l.invariant.1; here = λ h. sym c.ends_at.ensures ∙ c.if-ends_at.true };
+      kept = search rules;
+    }
 
 pub loop-i-preserved : goal.loop-i-preserved
 loop-i-preserved c =
@@ -25,4 +31,9 @@ loop-i-preserved c =
     )
 
 pub returns : goal.returns
-returns c = let l = c.loop-i in record { within = omega arith; before = λ (j : ℕ) h. l.invariant.1 j (omega (arith, h, c.loop-i-test.false)); here = λ h. absurd (omega (arith, h)) }
+returns c =
+    let l = c.loop-i in
+    record {
+      first = record { within = omega arith; before = λ (j : ℕ) h. l.invariant.1 j (omega (arith, h, c.loop-i-test.false)); here = λ h. absurd (omega (arith, h)) };
+      kept = search rules;
+    }

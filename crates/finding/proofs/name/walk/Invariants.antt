@@ -1,5 +1,4 @@
 -- `finding::name::walk`: what is left decides.
-use Prim.Native.Nat.{◌-◌}
 use mathlib.Core.Path.{◌≡◌}
 use lib.ListN.{length}
 use Rattle.semantics.specs.Graph.{Graph}
@@ -10,6 +9,3 @@ use Rattle.finding.proofs.name.walk.Given as goal
 
 abbrev pub invariant-loop-n : goal.invariant-loop-n
 invariant-loop-n l = (length l.work ≡ length l.initial.work) × (length l.res ≡ length l.initial.res) × (l.res ≡ zeros (length l.res)) × ((g : Graph) → Loaded g l.index → l.nodes ≡ length g.nodes → Left g l.limit (length l.initial.work) (length l.initial.res) l.node l.n)
-
-abbrev pub decreases-loop-n : goal.decreases-loop-n
-decreases-loop-n l = l.nodes - l.n

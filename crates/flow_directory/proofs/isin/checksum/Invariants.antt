@@ -1,13 +1,6 @@
--- `flow_directory::isin::checksum`: the sum of the characters from i on.
-use Prim.Native.Nat.{◌-◌, ◌*◌, ◌≤◌}
-use mathlib.Core.Path.{◌≡◌}
-use lib.ListN.{length, drop}
-use Rattle.semantics.specs.Isin.{digits, luhn}
-use Rattle.flow_directory.specs.Sums.{sum_of}
+-- `flow_directory::isin::checksum`: the sum of the characters behind those that are left.
+use Rattle.flow_directory.specs.Sums.{Summed}
 use Rattle.flow_directory.proofs.isin.checksum.Given as goal
 
-abbrev pub invariant-loop-i : goal.invariant-loop-i
-invariant-loop-i l = (l.i ≤ length l.isin) × (l.sum.total ≤ 100 * (length l.isin - l.i)) × (sum_of l.sum ≡ luhn (digits (drop l.i l.isin)))
-
-abbrev pub decreases-loop-i : goal.decreases-loop-i
-decreases-loop-i l = l.i
+abbrev pub invariant-loop-c : goal.invariant-loop-c
+invariant-loop-c l = Summed l.isin l.c-iterator.iter.rest.now l.sum

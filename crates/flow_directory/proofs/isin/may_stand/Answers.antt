@@ -11,11 +11,5 @@ use Rattle.flow_directory.proofs.isin.may_stand.Goals as goal
 pub returns-then-i-lt-COUNTRY : goal.returns-then-i-lt-COUNTRY
 returns-then-i-lt-COUNTRY c = let a = c.args in c.is_capital.ensures ∙ sym (ap (λ (b : Bool). pick b (is_capital a.c) (pick (ltb a.i 11) (or (is_capital a.c) (is_digit a.c)) (is_digit a.c))) (lt-ltb a.i 2 (omega (arith, c.if-i-lt-COUNTRY.true))))
 
-pub returns-then-is_capital : goal.returns-then-is_capital
-returns-then-is_capital c = let a = c.args in sym (rw (le-ltb a.i 2 (omega (arith, c.if-i-lt-COUNTRY.false)), lt-ltb a.i 11 (omega (arith, c.if-i-lt-CHECK_DIGIT.true))) (ap (λ (b : Bool). or b (is_digit a.c)) (sym c.is_capital-then-i-lt-CHECK_DIGIT.ensures ∙ c.if-is_capital.true)))
-
-pub returns-then-i-lt-CHECK_DIGIT : goal.returns-then-i-lt-CHECK_DIGIT
-returns-then-i-lt-CHECK_DIGIT c = let a = c.args in c.is_digit.ensures ∙ sym (rw (le-ltb a.i 2 (omega (arith, c.if-i-lt-COUNTRY.false)), lt-ltb a.i 11 (omega (arith, c.if-i-lt-CHECK_DIGIT.true))) (ap (λ (b : Bool). or b (is_digit a.c)) (sym c.is_capital-then-i-lt-CHECK_DIGIT.ensures ∙ c.if-is_capital.false)))
-
 pub returns : goal.returns
 returns c = let a = c.args in c.is_digit-2.ensures ∙ sym (rw (le-ltb a.i 2 (omega (arith, c.if-i-lt-COUNTRY.false)), le-ltb a.i 11 (omega (arith, c.if-i-lt-CHECK_DIGIT.false))) refl)

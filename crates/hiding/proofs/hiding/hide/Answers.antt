@@ -8,9 +8,9 @@ use Rattle.image.specs.Filling.{Held}
 use Rattle.hiding.proofs.hiding.hide.Goals as goal
 
 pub returns-then-hides_some : goal.returns-then-hides_some
-returns-then-hides_some c = λ g good f p q h. c.hide_records.ensures g good p q h
+returns-then-hides_some c = λ g good n h. c.hide_records.ensures g good n h
 
 pub returns-else-hides_some : goal.returns-else-hides_some
 returns-else-hides_some c =
     let a = c.args in
-    λ g good f p q h. subst (λ (x : Graph). Held x a.index.now) (sym (seen_all g good (sees a.visible.now) (λ k b. c.hides_some.ensures c.if-hides_some.false k (omega (arith, b, f))))) h
+    λ g good n h. subst (λ (x : Graph). Held x a.index.now) (sym (seen_all g good (sees a.visible.now) (λ k b. c.hides_some.ensures c.if-hides_some.false k (omega (arith, b, n.file-count))))) h

@@ -1,5 +1,5 @@
 -- `hiding::hiding::hide_edges`: the edges below `e` are pruned.
-use Prim.Native.Nat.{ℕ, ◌-◌, ◌≤◌}
+use Prim.Native.Nat.{ℕ}
 use mathlib.Core.Path.{◌≡◌}
 use lib.ListN.{length}
 use Rattle.semantics.specs.declared.graph.Node.{Node}
@@ -9,7 +9,4 @@ use Rattle.hiding.specs.Hiding.{pruned_to}
 use Rattle.hiding.proofs.hiding.hide_edges.Given as goal
 
 abbrev pub invariant-loop-e : goal.invariant-loop-e
-invariant-loop-e l = (l.e ≤ l.count) × (length l.index ≡ length l.initial.index) × ((F : ℕ → Node) (f : ℕ → Edge) → Filled F f l.initial.index → Filled F (pruned_to F l.e f) l.index)
-
-abbrev pub decreases-loop-e : goal.decreases-loop-e
-decreases-loop-e l = l.count - l.e
+invariant-loop-e l = (length l.index ≡ length l.initial.index) × ((F : ℕ → Node) (f : ℕ → Edge) → Filled F f l.initial.index → Filled F (pruned_to F l.e f) l.index)

@@ -11,13 +11,13 @@ use Rattle.hiding.specs.Hiding.Laws.{none_hidden}
 use Rattle.hiding.proofs.hiding.hide_nodes.Goals as goal
 
 pub loop-n-init : goal.loop-n-init
-loop-n-init c = (omega arith, refl, λ f D d. none_hidden (sees c.args.visible.now) c.args.index.now f D d)
+loop-n-init c = (refl, λ f D d. none_hidden (sees c.args.visible.now) c.args.index.now f D d)
 
 pub hide_node-requires : goal.hide_node-requires
-hide_node-requires c = let l = c.loop-n in let p = c.requires in let z = l.invariant.1 in record { blocks = subst (λ m. m % BLOCK ≡ 0) (sym z) p.blocks; n_bound = (omega (arith, c.loop-n-test.true, p.count_bound.0), omega (arith, z, c.loop-n-test.true, p.count_bound.1)) }
+hide_node-requires c = let l = c.loop-n in let p = c.requires in let z = l.invariant.0 in record { blocks = subst (λ m. m % BLOCK ≡ 0) (sym z) p.blocks; n_bound = (omega (arith, c.loop-n-test.true, p.count_bound.0), omega (arith, z, c.loop-n-test.true, p.count_bound.1)) }
 
 pub loop-n-preserved : goal.loop-n-preserved
-loop-n-preserved c = let l = c.loop-n in (omega arith, search rules, λ f D d. c.hide_node.ensures f D (l.invariant.2 f D d))
+loop-n-preserved c = let l = c.loop-n in (search rules, λ f D d. c.hide_node.ensures f D (l.invariant.1 f D d))
 
 pub returns : goal.returns
-returns c = let l = c.loop-n in let a = c.args in let z : l.n ≡ a.count = omega arith in λ f D d. subst (λ m. Filled (seen_to (sees a.visible.now) m f) D l.index) z (l.invariant.2 f D d)
+returns c = let l = c.loop-n in let a = c.args in let z : l.n ≡ a.count = omega arith in λ f D d. subst (λ m. Filled (seen_to (sees a.visible.now) m f) D l.index) z (l.invariant.1 f D d)

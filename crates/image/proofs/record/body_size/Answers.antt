@@ -2,27 +2,29 @@
 use mathlib.Core.Path.{sym, ◌∙◌}
 use native.Mathlib.Omega.{arith}
 use Rattle.image.specs.Records.Laws.{width_few, size-scope, size-named, size-plain, size-drop, size-bare}
+use Rattle.image.specs.Versions.{width_of, width-known}
 use Rattle.image.proofs.record.body_size.Goals as goal
 
 pub overflow_add-result : goal.overflow_add-result
-overflow_add-result c = omega (arith, width_few c.requires.1)
+overflow_add-result c = omega (arith, width_few (width-known c.args.version))
 
 pub returns-then-kind-eq-PUSH_SCOPED : goal.returns-then-kind-eq-PUSH_SCOPED
-returns-then-kind-eq-PUSH_SCOPED c = sym (size-scope c.args.width c.if-kind-eq-PUSH_SCOPED.true)
+returns-then-kind-eq-PUSH_SCOPED c = let e = size-scope (width_of c.args.version) c.if-kind-eq-PUSH_SCOPED.true in omega (arith, e)
 
 pub overflow_add-result-then-has_symbol : goal.overflow_add-result-then-has_symbol
-overflow_add-result-then-has_symbol c = omega (arith, width_few c.requires.1)
+overflow_add-result-then-has_symbol c = omega (arith, width_few (width-known c.args.version))
 
 pub returns-then-has_symbol : goal.returns-then-has_symbol
 returns-then-has_symbol c =
-    size-named c.args.width c.args.kind c.requires.0 (sym c.has_symbol.ensures ∙ c.if-has_symbol.true) c.if-kind-eq-PUSH_SCOPED.false
+    let e = size-named (width_of c.args.version) c.args.kind c.requires (sym c.has_symbol.ensures ∙ c.if-has_symbol.true) c.if-kind-eq-PUSH_SCOPED.false in
+    omega (arith, e)
 
 pub returns-then-kind-eq-SCOPE : goal.returns-then-kind-eq-SCOPE
-returns-then-kind-eq-SCOPE c = sym (size-plain c.args.width c.if-kind-eq-SCOPE.true)
+returns-then-kind-eq-SCOPE c = sym (size-plain (width_of c.args.version) c.if-kind-eq-SCOPE.true)
 
 pub returns-then-kind-eq-DROP_SCOPES : goal.returns-then-kind-eq-DROP_SCOPES
-returns-then-kind-eq-DROP_SCOPES c = sym (size-drop c.args.width c.if-kind-eq-DROP_SCOPES.true)
+returns-then-kind-eq-DROP_SCOPES c = sym (size-drop (width_of c.args.version) c.if-kind-eq-DROP_SCOPES.true)
 
 pub returns : goal.returns
 returns c =
-    size-bare c.args.width c.args.kind c.requires.0 (sym c.has_symbol.ensures ∙ c.if-has_symbol.false) c.if-kind-eq-SCOPE.false c.if-kind-eq-DROP_SCOPES.false
+    size-bare (width_of c.args.version) c.args.kind c.requires (sym c.has_symbol.ensures ∙ c.if-has_symbol.false) c.if-kind-eq-SCOPE.false c.if-kind-eq-DROP_SCOPES.false

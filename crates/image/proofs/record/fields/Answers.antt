@@ -7,13 +7,14 @@ use Rattle.semantics.specs.Bytes.{byte_at}
 use Rattle.semantics.specs.Image.{next_place}
 use Rattle.image.specs.Records.Laws.{size-least, bad-file, drop-fits, bad-flag, flag-fits, drop-put, scope-put, named, full_put}
 use Rattle.image.specs.Reached.Laws.{never}
+use Rattle.image.specs.Versions.{width_of}
 use Rattle.image.proofs.record.fields.Goals as goal
 
 pub short-file-requires : goal.short-file-requires
 short-file-requires c =
     let a = c.args in
     let p = c.requires.fielded.0 in
-    omega (arith, p.whole, size-least a.width a.kind p.low p.high)
+    omega (arith, p.whole, size-least (width_of a.version) a.kind p.low p.high)
 
 pub returns-then-files-file : goal.returns-then-files-file
 returns-then-files-file c =

@@ -7,12 +7,13 @@ use Rattle.semantics.specs.Bytes.{byte_at}
 use Rattle.semantics.specs.Image.{body_size, next_place}
 use Rattle.image.specs.Records.Laws.{whole, node-cut, no_kind, misplaced, miscounted, bare, by-fields, bare-put}
 use Rattle.image.specs.Reached.Laws.{never}
+use Rattle.image.specs.Versions.{width_of, width-known}
 use Rattle.image.proofs.record.node.Goals as goal
 
 pub returns-then-is_cut : goal.returns-then-is_cut
 returns-then-is_cut c =
     let a = c.args in
-    record { result_value = node-cut a.width a.image.now a.files a.n a.at {kind = _} refl (sym c.is_cut.ensures ∙ c.if-is_cut.true); by_index = λ x e. absurd (never e) }
+    record { result_value = node-cut (width_of a.version) a.image.now a.files a.n a.at {kind = _} refl (sym c.is_cut.ensures ∙ c.if-is_cut.true); by_index = λ x e. absurd (never e) }
 
 pub overflow_add-at : goal.overflow_add-at
 overflow_add-at c = let w = whole c.args.image.now c.args.at (sym c.is_cut.ensures ∙ c.if-is_cut.false) in omega (arith, w.1)
@@ -26,7 +27,7 @@ overflow_cast-result c = let w = whole c.args.image.now c.args.at (sym c.is_cut.
 pub returns-then-kind-gt-DROP_SCOPES : goal.returns-then-kind-gt-DROP_SCOPES
 returns-then-kind-gt-DROP_SCOPES c =
     let a = c.args in
-    record { result_value = no_kind a.width a.image.now a.files a.n a.at (sym c.byte-kind.ensures.value) (sym c.is_cut.ensures ∙ c.if-is_cut.false) c.if-kind-gt-DROP_SCOPES.true; by_index = λ x e. absurd (never e) }
+    record { result_value = no_kind (width_of a.version) a.image.now a.files a.n a.at (sym c.byte-kind.ensures.value) (sym c.is_cut.ensures ∙ c.if-is_cut.false) c.if-kind-gt-DROP_SCOPES.true; by_index = λ x e. absurd (never e) }
 
 pub overflow_cast-result-then-not-may_stand : goal.overflow_cast-result-then-not-may_stand
 overflow_cast-result-then-not-may_stand c =
@@ -38,7 +39,7 @@ overflow_cast-result-then-not-may_stand c =
 pub returns-then-not-may_stand : goal.returns-then-not-may_stand
 returns-then-not-may_stand c =
     let a = c.args in record {
-      result_value = misplaced a.width a.image.now a.files a.n a.at (sym c.byte-kind.ensures.value)
+      result_value = misplaced (width_of a.version) a.image.now a.files a.n a.at (sym c.byte-kind.ensures.value)
           (sym c.is_cut.ensures ∙ c.if-is_cut.false) c.if-kind-gt-DROP_SCOPES.false
           (sym c.may_stand.ensures ∙ c.if-not-may_stand.true);
       by_index = λ x e. absurd (never e);
@@ -57,7 +58,7 @@ returns-then-count-body_size c =
     let if1 = c.if-is_cut in
     let is_cut = c.is_cut in
     let a = c.args in record {
-      result_value = miscounted a.width a.image.now a.files a.n a.at (sym c.byte-kind.ensures.value)
+      result_value = miscounted (width_of a.version) a.image.now a.files a.n a.at (sym c.byte-kind.ensures.value)
           (sym is_cut.ensures ∙ if1.false) c.if-kind-gt-DROP_SCOPES.false
           (sym may-stand.ensures ∙ c.if-not-may_stand.false)
           (λ e. c.if-count-body_size.true (c.byte-count.ensures.value ∙ e ∙ sym c.body_size.ensures));
@@ -94,14 +95,14 @@ returns-then-kind-lt-SCOPE c =
     let a = c.args in
     let p = c.requires in
     let im = a.image.now in
-    let s : byte_at im a.at ≡ body_size a.width byte.result = sym byte2.ensures.value
+    let s : byte_at im a.at ≡ body_size (width_of a.version) byte.result = sym byte2.ensures.value
     ∙ c.if-count-body_size.false
     ∙ body-size.ensures in
     let z : a.at + byte2.result + 1 ≡ next_place im a.at = omega (arith, byte2.ensures.value) in record {
       result_value = ap ok z
-          ∙ bare a.width im a.files a.n a.at (sym byte.ensures.value) (sym is_cut.ensures ∙ if1.false) if2.false
+          ∙ bare (width_of a.version) im a.files a.n a.at (sym byte.ensures.value) (sym is_cut.ensures ∙ if1.false) if2.false
           (sym may-stand.ensures ∙ if3.false) s if5;
-      by_index = λ x e. bare-put a.width im a.n a.at a.index.now p.n_in_bounds (sym byte.ensures.value) if5 c.put_node.ensures;
+      by_index = λ x e. bare-put (width_of a.version) im a.n a.at a.index.now p.n_in_bounds (sym byte.ensures.value) if5 c.put_node.ensures;
     }
 
 pub fields-requires : goal.fields-requires
@@ -113,7 +114,7 @@ fields-requires c =
     let a = c.args in
     let p = c.requires in
     let im = a.image.now in
-    let s : byte_at im a.at ≡ body_size a.width byte.result = sym c.byte-count.ensures.value
+    let s : byte_at im a.at ≡ body_size (width_of a.version) byte.result = sym c.byte-count.ensures.value
     ∙ c.if-count-body_size.false
     ∙ c.body_size.ensures in
     let w = whole im a.at (sym is_cut.ensures ∙ if1.false) in record {
@@ -124,8 +125,8 @@ fields-requires c =
           reads = sym byte.ensures.value;
           size = s;
           whole = omega (arith, w.1, s);
-          small = p.known_width.1;
-          known = p.known_width.0;
+          small = p.image_len_bound;
+          known = width-known a.version;
         },
         c.byte-count.ensures.value,
       );
@@ -145,11 +146,11 @@ returns c =
     let is_cut = c.is_cut in
     let a = c.args in
     let im = a.image.now in
-    let s : byte_at im a.at ≡ body_size a.width byte.result = sym byte2.ensures.value
+    let s : byte_at im a.at ≡ body_size (width_of a.version) byte.result = sym byte2.ensures.value
     ∙ c.if-count-body_size.false
     ∙ body-size.ensures in record {
       result_value = c.fields.ensures.result_value
-          ∙ by-fields a.width im a.files a.n a.at (sym byte.ensures.value) (sym is_cut.ensures ∙ if1.false) if2.false
+          ∙ by-fields (width_of a.version) im a.files a.n a.at (sym byte.ensures.value) (sym is_cut.ensures ∙ if1.false) if2.false
           (sym may-stand.ensures ∙ if3.false) s c.if-kind-lt-SCOPE.false;
       by_index = c.fields.ensures.by_index;
     }

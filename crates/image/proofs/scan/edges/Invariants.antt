@@ -1,5 +1,4 @@
 -- `image::scan::edges`: the run over the edge records, one more each turn.
-use Prim.Native.Nat.{◌-◌, ◌≤◌}
 use mathlib.Core.Path.{◌≡◌}
 use lib.ListN.{length}
 use Rattle.semantics.specs.Image.{edge_record}
@@ -7,7 +6,4 @@ use Rattle.image.specs.Records.{Run, EdgesPut}
 use Rattle.image.proofs.scan.edges.Given as goal
 
 abbrev pub invariant-loop-e : goal.invariant-loop-e
-invariant-loop-e l = (l.e ≤ l.count) × (length l.index ≡ length l.initial.index) × Run l.image (λ k. edge_record l.image) l.from l.count l.e l.at × EdgesPut l.image l.from l.e l.initial.index l.index
-
-abbrev pub decreases-loop-e : goal.decreases-loop-e
-decreases-loop-e l = l.count - l.e
+invariant-loop-e l = (length l.index ≡ length l.initial.index) × Run l.image (λ k. edge_record l.image) l.from l.count l.e l.at × EdgesPut l.image l.from l.e l.initial.index l.index

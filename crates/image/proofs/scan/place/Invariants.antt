@@ -1,11 +1,7 @@
--- `image::scan::place`: `at` is the place of record `i`.
-use Prim.Native.Nat.{◌+◌, ◌*◌, ◌-◌, ◌≤◌}
-use mathlib.Core.Path.{◌≡◌}
+-- `image::scan::place`: `at` is the place of the record of this turn.
+use Rattle.std.proofs.Common.{◌≡◌, ◌+◌, ◌*◌, ◌≤◌}
 use Rattle.semantics.specs.Image.{place_of}
 use Rattle.image.proofs.scan.place.Given as goal
 
-abbrev pub invariant-loop-i : goal.invariant-loop-i
-invariant-loop-i l = (l.i ≤ l.k) × (l.at ≤ l.from + 256 * l.i) × (l.at ≡ place_of l.image l.from l.i)
-
-abbrev pub decreases-loop-i : goal.decreases-loop-i
-decreases-loop-i l = l.k - l.i
+abbrev pub invariant-loop : goal.invariant-loop
+invariant-loop l = (l.at ≤ l.from + 256 * l.counter) × (l.at ≡ place_of l.image l.from l.counter)

@@ -6,35 +6,35 @@ use Rattle.search_state.specs.States.{new_state}
 use Rattle.linear_search.specs.LinearAnswers.Laws.{begin-refused, begin-walking, begin-walked}
 use Rattle.linear_search.proofs.linear.attempt.Goals as goal
 
-pub begin-begun-requires : goal.begin-begun-requires
-begin-begun-requires c = c.requires.loaded.long
+pub begin-requires : goal.begin-requires
+begin-requires c = c.requires.loaded.long
 
 pub walk-requires : goal.walk-requires
 walk-requires c =
-    let begin = c.begin-begun in
+    let begin = c.begin in
     let zero' = c.zero in
     let a = c.args in
     let p = c.requires in
-    begin-walking p.loaded a.limits a.res.now a.reference begin.ensures c.in-Done.first c.in-Done.is zero'.ensures
+    begin-walking p.loaded a.limits a.res.now a.reference begin.ensures c.in-Ok.first c.in-Ok.is zero'.ensures
     (c.new-state.ensures ∙ ap (λ (k : ℕ). new_state a.limits (k / slot_length)) zero'.auto.area)
     c.put_step.ensures {item = replicate slot_length 0} refl
 
-pub returns-in-Refused : goal.returns-in-Refused
-returns-in-Refused c =
+pub returns-in-Err : goal.returns-in-Err
+returns-in-Err c =
     let a = c.args in
     λ g l.
-    begin-refused l a.limits a.res.now a.reference c.begin-begun.ensures
-    c.zero.new.area c.in-Refused.r c.in-Refused.is
+    begin-refused l a.limits a.res.now a.reference c.begin.ensures
+    c.zero.new.area c.in-Err.r c.in-Err.is
 
-pub returns-in-Done : goal.returns-in-Done
-returns-in-Done c =
+pub returns-in-Ok : goal.returns-in-Ok
+returns-in-Ok c =
     let walk = c.walk in
     let new = c.new-state in
     let put_step = c.put_step in
-    let begin = c.begin-begun in
+    let begin = c.begin in
     let zero' = c.zero in
     let a = c.args in
     λ g l.
-    begin-walked l a.limits a.res.now a.reference begin.ensures c.in-Done.first c.in-Done.is zero'.ensures
+    begin-walked l a.limits a.res.now a.reference begin.ensures c.in-Ok.first c.in-Ok.is zero'.ensures
     (new.ensures ∙ ap (λ (k : ℕ). new_state a.limits (k / slot_length)) zero'.auto.area) put_step.ensures {item = replicate slot_length 0} refl
     walk.result walk.new.res walk.ensures

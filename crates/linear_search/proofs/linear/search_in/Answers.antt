@@ -11,24 +11,24 @@ pub search_loaded-requires : goal.search_loaded-requires
 search_loaded-requires c =
     let load-seen = c.load_seen in
     let a = c.args in
-    let z = answer-accepted (graph_in a.image.now) c.in-Accepted.files c.in-Accepted.nodes c.in-Accepted.edges
-    load-seen.ensures.value c.in-Accepted.is in
+    let z = answer-accepted (graph_in a.image.now) c.in-Ok.field-0
+    load-seen.ensures.value c.in-Ok.is in
     record { graph = seen (sees a.visible.now) z.graph; loaded = load-seen.ensures.loaded z.graph z.is }
 
-pub returns-in-Refused : goal.returns-in-Refused
-returns-in-Refused c =
+pub returns-in-Err : goal.returns-in-Err
+returns-in-Err c =
     let load-seen = c.load_seen in
     let a = c.args in
-    image-refused a.reply (linear_request_of a.limits a.res.now a.reference) c.in-Refused.r
-    (refused-seen (sees a.visible.now) (graph_in a.image.now) c.in-Refused.r load-seen.ensures.value c.in-Refused.is) c.zero.ensures
+    image-refused a.reply (linear_request_of a.limits a.res.now a.reference) c.in-Err.r
+    (refused-seen (sees a.visible.now) (graph_in a.image.now) c.in-Err.r load-seen.ensures.value c.in-Err.is) c.zero.ensures
 
-pub returns-in-Accepted : goal.returns-in-Accepted
-returns-in-Accepted c =
+pub returns-in-Ok : goal.returns-in-Ok
+returns-in-Ok c =
     let search-loaded = c.search_loaded in
     let load-seen = c.load_seen in
     let a = c.args in
-    let z = answer-accepted (graph_in a.image.now) c.in-Accepted.files c.in-Accepted.nodes c.in-Accepted.edges
-    load-seen.ensures.value c.in-Accepted.is in
+    let z = answer-accepted (graph_in a.image.now) c.in-Ok.field-0
+    load-seen.ensures.value c.in-Ok.is in
     let see = sees a.visible.now in
     image_does a.reply (linear_request_of a.limits a.res.now a.reference) (seen see z.graph) (accepted-seen see z.is) search-loaded.result
     search-loaded.new.res

@@ -1,3 +1,5 @@
+use Rattle.std.specs.Prelude.{Ok, Err, ◌≡◌}
+use borrow.Author.Rules.{rules}
 use Prim.Native.Nat.{◌-◌}
 use native.Mathlib.Omega.{arith}
 use mathlib.Core.Path.{ap, subst, ◌∙◌}
@@ -6,7 +8,7 @@ use Rattle.semantics.specs.Graph.{view_of}
 use Rattle.search_state.specs.declared.state.SearchState.{SearchState}
 use Rattle.edge_trial.specs.declared.trial.EdgeTrial.{EdgeTrial}
 use Rattle.edge_trial.specs.Trials.Laws.{Judged}
-use Rattle.linear_search.specs.Walks.{with_state}
+use Rattle.linear_search.specs.Walks.{Chose, Chosen, with_state}
 use Rattle.linear_search.specs.Walks.Laws.{track-short, track-slice, track-edges, track-ready, walk-cycles, walk-rejected, walk-trial, paced-cut, paced-rejected, paced-overlong, paced-bound, paced-second, paced-short, paced-choosing, paced-chosen}
 use Rattle.linear_search.proofs.linear.try_edge.Goals as goal
 
@@ -96,15 +98,31 @@ returns-in-TooLong c =
     (λ (t : EdgeTrial). Judged Linear.TooLong a.on.state.budget.max_length (view_of v.track.graph) v.track.path (a.link - 1) t)
     c.in-TooLong.is (walk-trial v (track-edges v.track) c.judge_edge.ensures)) a.item.now a.res.now
 
-pub returns-else-on-gt0 : goal.returns-else-on-gt0
-returns-else-on-gt0 c =
+pub returns-in_ok-choose-in-Extended : goal.returns-in_ok-choose-in-Extended
+returns-in_ok-choose-in-Extended c =
     let choose = c.choose in
     let with-edge = c.with_edge in
-    let if1 = c.if-on-gt0 in
     let judge-edge = c.judge_edge in
     let a = c.args in
+    let next = c.in_ok-choose-in-Extended.field-0 in
     λ v.
     paced-chosen v c.in-Extended.complete (subst
     (λ (t : EdgeTrial). Judged Linear.TooLong a.on.state.budget.max_length (view_of v.track.graph) v.track.path (a.link - 1) t)
-    c.in-Extended.is (walk-trial v (track-edges v.track) judge-edge.ensures)) (omega (arith, if1.false)) with-edge.ensures
-    choose.result choose.new.res choose.ensures
+    c.in-Extended.is (walk-trial v (track-edges v.track) judge-edge.ensures)) (omega (arith, c.if-on-gt0.false)) with-edge.ensures
+    (Ok next) choose.new.res
+    (subst (λ (x : Chose). Chosen a.on.state a.link c.in-Extended.complete a.res.now with-edge.new.item x choose.new.res) c.in_ok-choose-in-Extended.was choose.ensures)
+
+pub returns-in_err-choose-in-Extended : goal.returns-in_err-choose-in-Extended
+returns-in_err-choose-in-Extended c =
+    let choose = c.choose in
+    let with-edge = c.with_edge in
+    let judge-edge = c.judge_edge in
+    let a = c.args in
+    let y = c.in_err-choose-in-Extended.field-0.0 in
+    let e : c.from_residual.result ≡ Err y = search rules in
+    λ v.
+    rw e (paced-chosen v c.in-Extended.complete (subst
+    (λ (t : EdgeTrial). Judged Linear.TooLong a.on.state.budget.max_length (view_of v.track.graph) v.track.path (a.link - 1) t)
+    c.in-Extended.is (walk-trial v (track-edges v.track) judge-edge.ensures)) (omega (arith, c.if-on-gt0.false)) with-edge.ensures
+    (Err y) choose.new.res
+    (subst (λ (x : Chose). Chosen a.on.state a.link c.in-Extended.complete a.res.now with-edge.new.item x choose.new.res) c.in_err-choose-in-Extended.was choose.ensures))

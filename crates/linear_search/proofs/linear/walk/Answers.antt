@@ -1,3 +1,6 @@
+use Rattle.std.specs.Prelude.{Option, Ok, Err, ◌≡◌}
+use borrow.Author.Rules.{rules}
+use Rattle.linear_search.specs.declared.linear.Expansion.{Expansion}
 use Prim.Native.Nat.{ℕ, ◌<◌}
 use native.Mathlib.Omega.{arith}
 use mathlib.Core.Path.{refl, sym, ap, subst, ◌∙◌}
@@ -7,8 +10,7 @@ use Rattle.semantics.specs.declared.refusal.LinearRefusal.TheVariants as Linear
 use Rattle.semantics.specs.Graph.{node_id}
 use Rattle.storage.specs.Index.Use.{left}
 use Rattle.semantics.specs.declared.replayed.Step.{Step}
-use Rattle.linear_search.specs.declared.linear.Pace.{Pace}
-use Rattle.linear_search.specs.Walks.{Paced}
+use Rattle.linear_search.specs.Walks.{Pace, Paced}
 use Rattle.linear_search.specs.Walks.Edges.{mid_start, mid-walk, mid-less, mid-second, mid-refused, mid-again}
 use Rattle.linear_search.specs.Walks.Rounds.{turn-start, turn-short, turn-fits, turn-over, turn-opening, turn-refused, turn-none, turn-room, turn-ready, turn-accepted, turn-again}
 use Rattle.linear_search.proofs.linear.walk.Goals as goal
@@ -58,8 +60,10 @@ try_edge-requires c =
     (not-false admitted-expansion.result.allowed if1.false) (ap (λ (s : Step). s.end) get-step.ensures) in
     (mid-walk opening (l.invariant.2 opening) (omega (arith, c.loop-link-test.true)))
 
-pub returns-in-Refused : goal.returns-in-Refused
-returns-in-Refused c =
+pub returns-in_err-next : goal.returns-in_err-next
+returns-in_err-next c =
+    let y = c.in_err-next.field-0.0 in
+    let from_e : c.from_residual.result ≡ Err y = search rules in
     let try-edge = c.try_edge in
     let loop-test = c.loop-link-test in
     let l = c.loop-link in
@@ -75,11 +79,11 @@ returns-in-Refused c =
     let opening = turn-opening v e.invariant.0 (e.invariant.3 v) admitted-expansion.ensures with-budget.ensures allowed-told end_is in
     let inv = l.invariant.2 opening in
     let walk = mid-walk opening inv (omega (arith, loop-test.true)) in
-    turn-refused v e.invariant.0 (e.invariant.3 v) admitted-expansion.ensures with-budget.ensures allowed-told end_is c.in-Refused.r
+    rw from_e (turn-refused v e.invariant.0 (e.invariant.3 v) admitted-expansion.ensures with-budget.ensures allowed-told end_is y
     (mid-refused opening inv (omega (arith, loop-test.true)) try-edge.new.item try-edge.new.res
-    c.in-Refused.r (subst (λ (q : Pace).
+    y (subst (λ (q : Pace).
     Paced looked_ever a.index.now e.steps l.item e.k l.link l.on l.res walk q try-edge.new.item
-    try-edge.new.res) c.in-Refused.is (try-edge.ensures walk))) try-edge.new.res
+    try-edge.new.res) c.in_err-next.was (try-edge.ensures walk))) try-edge.new.res)
 
 pub next-link-requires : goal.next-link-requires
 next-link-requires c =
@@ -114,9 +118,9 @@ loop-link-preserved c =
       λ w.
           let walk = mid-walk w (l.invariant.2 w) (omega (arith, loop-test.true)) in
           mid-again w (l.invariant.2 w) (omega (arith, loop-test.true)) try-edge.new.item try-edge.new.res
-          c.in-On.next (subst (λ (q : Pace).
+          c.in-Some.next (subst (λ (q : Pace).
           Paced looked_ever a.index.now e.steps l.item e.k l.link l.on l.res walk q try-edge.new.item
-          try-edge.new.res) c.in-On.is (try-edge.ensures walk)) c.next-link.ensures,
+          try-edge.new.res) (c.in_ok-next.was ∙ ap (λ (o : Option Expansion). Ok o) c.in-Some.is) (try-edge.ensures walk)) c.next-link.ensures,
     )
 
 pub returns-then-on-lt1 : goal.returns-then-on-lt1
@@ -222,4 +226,4 @@ returns c =
     (Linear.MultipleEdges (node_id get-step.result.end)) (mid-second opening inv (omega (arith, loop-test.true)) try-edge.new.item
     try-edge.new.res (subst (λ (q : Pace).
     Paced looked_ever a.index.now e.steps l.item e.k l.link l.on l.res walk q try-edge.new.item
-    try-edge.new.res) c.in-Second.is (try-edge.ensures walk))) try-edge.new.res
+    try-edge.new.res) (c.in_ok-next.was ∙ ap (λ (o : Option Expansion). Ok o) c.in_default.is) (try-edge.ensures walk))) try-edge.new.res

@@ -15,29 +15,29 @@ pub replace_loaded-answer-requires : goal.replace_loaded-answer-requires
 replace_loaded-answer-requires c =
     let Load-fresh = c.load_fresh-checked in
     let a = c.args in
-    let z = answer-accepted (graph_in a.image.now) c.in-Accepted.files c.in-Accepted.nodes c.in-Accepted.edges
-    Load-fresh.ensures.value c.in-Accepted.is in
+    let z = answer-accepted (graph_in a.image.now) c.in-Ok.counts
+    Load-fresh.ensures.value c.in-Ok.is in
     record {
       sized = record { holds = record { graph = z.graph; loaded = Load-fresh.ensures.loaded z.graph z.is }; node-count = z.node-count; file-count = z.file-count };
       few = omega (arith, z.file-count, few-files z.graph (Image.image-accepted symbol_bytes a.image.now z.graph z.is));
     }
 
-pub returns-in-Refused : goal.returns-in-Refused
-returns-in-Refused c =
+pub returns-in-Err : goal.returns-in-Err
+returns-in-Err c =
     let Load-fresh = c.load_fresh-checked in
     let a = c.args in
-    image-refused a.owner (asked_by a.config a.work.now (number_of a.owner)) a.words.now c.zero.ensures c.in-Refused.r
-    (answer-refused (graph_in a.image.now) c.in-Refused.r Load-fresh.ensures.value c.in-Refused.is)
+    image-refused a.owner (asked_by a.config a.work.now (number_of a.owner)) a.words.now c.zero.ensures c.in-Err.r
+    (answer-refused (graph_in a.image.now) c.in-Err.r Load-fresh.ensures.value c.in-Err.is)
 
-pub returns-in-Accepted : goal.returns-in-Accepted
-returns-in-Accepted c =
+pub returns-in-Ok : goal.returns-in-Ok
+returns-in-Ok c =
     let replace-loaded = c.replace_loaded-answer in
     let Load-fresh = c.load_fresh-checked in
     let a = c.args in
-    let z = answer-accepted (graph_in a.image.now) c.in-Accepted.files c.in-Accepted.nodes c.in-Accepted.edges
-    Load-fresh.ensures.value c.in-Accepted.is in
+    let z = answer-accepted (graph_in a.image.now) c.in-Ok.counts
+    Load-fresh.ensures.value c.in-Ok.is in
     image-accepted a.owner (asked_by a.config a.work.now (number_of a.owner)) a.words.now
-    (c.zero-in-Accepted.ensures ∙ ap zeros replace-loaded.auto.work) z.graph z.is replace-loaded.result
+    (c.zero-in-Ok.ensures ∙ ap zeros replace-loaded.auto.work) z.graph z.is replace-loaded.result
     replace-loaded.new.words (replace-loaded.ensures
     (record {
       sized = record { holds = record { graph = z.graph; loaded = Load-fresh.ensures.loaded z.graph z.is }; node-count = z.node-count; file-count = z.file-count };

@@ -2,20 +2,20 @@ use native.Mathlib.Omega.{arith}
 use Rattle.partial.specs.Replacements.Laws.{replaced-unknown, replaced-known}
 use Rattle.partial.proofs.replace.replace_known.Goals as goal
 
-pub returns-then-sizes-file : goal.returns-then-sizes-file
-returns-then-sizes-file c =
+pub returns-then-counts-file : goal.returns-then-counts-file
+returns-then-counts-file c =
     let a = c.args in
-    λ v. replaced-unknown a.file a.config a.work.now v (omega (arith, c.if-sizes-file.true))
+    λ v. replaced-unknown a.file a.config a.work.now v (omega (arith, c.if-counts-file.true))
 
 pub replace_owner-requires : goal.replace_owner-requires
 replace_owner-requires c =
     let p = c.requires in
-    (p.0, omega (arith, c.if-sizes-file.false, p.1))
+    (p.0, omega (arith, c.if-counts-file.false, p.1))
 
 pub returns : goal.returns
 returns c =
     let replace-owner = c.replace_owner in
-    let if1 = c.if-sizes-file in
+    let if1 = c.if-counts-file in
     let a = c.args in
     let p = c.requires in
     λ v.

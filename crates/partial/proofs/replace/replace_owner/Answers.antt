@@ -14,7 +14,7 @@ has_room-requires c =
     let a = c.args in
     let p = c.requires in
     counted-asks a.owner a.config a.work.now p.0 p.1 number.ensures.0 compute.result
-    compute.new.words compute.ensures c.in-Done.stats c.in-Done.is
+    compute.new.words compute.ensures c.in-Ok.stats c.in-Ok.is
 
 pub store-requires : goal.store-requires
 store-requires c =
@@ -23,7 +23,7 @@ store-requires c =
     let a = c.args in
     let p = c.requires in
     storing a.owner a.config a.work.now p.0 p.1 number.ensures.0 compute.result compute.new.words
-    compute.ensures c.in-Done.stats c.in-Done.is c.has_room.ensures c.if-has_room.true
+    compute.ensures c.in-Ok.stats c.in-Ok.is c.has_room.ensures c.if-has_room.true
     compute.new.work compute.auto.work
 
 pub returns-then-has_room : goal.returns-then-has_room
@@ -36,21 +36,21 @@ returns-then-has_room c =
     let p = c.requires in
     λ v.
     replaced-done a.owner a.config a.work.now v p.1 number.ensures.0 compute.result
-    compute.new.words compute.ensures c.in-Done.stats c.in-Done.is has_room.ensures if1.true
+    compute.new.words compute.ensures c.in-Ok.stats c.in-Ok.is has_room.ensures if1.true
     compute.new.work compute.auto.work
     (c.store.ensures (storing a.owner a.config a.work.now v p.1 number.ensures.0 compute.result
-    compute.new.words compute.ensures c.in-Done.stats c.in-Done.is has_room.ensures if1.true
+    compute.new.words compute.ensures c.in-Ok.stats c.in-Ok.is has_room.ensures if1.true
     compute.new.work compute.auto.work))
 
-pub returns-in-Refused : goal.returns-in-Refused
-returns-in-Refused c =
+pub returns-in-Err : goal.returns-in-Err
+returns-in-Err c =
     let compute = c.compute in
     let number = c.number-first in
     let a = c.args in
     let p = c.requires in
     λ v.
     replaced-refused a.owner a.config a.work.now v p.1 number.ensures.0 compute.result
-    compute.new.words compute.ensures c.in-Refused.r c.in-Refused.is
+    compute.new.words compute.ensures c.in-Err.r c.in-Err.is
 
 pub returns-else-has_room : goal.returns-else-has_room
 returns-else-has_room c =
@@ -60,4 +60,4 @@ returns-else-has_room c =
     let p = c.requires in
     λ v.
     replaced-full a.owner a.config a.work.now v p.1 number.ensures.0 compute.result
-    compute.new.words compute.ensures c.in-Done.stats c.in-Done.is c.has_room.ensures c.if-has_room.false
+    compute.new.words compute.ensures c.in-Ok.stats c.in-Ok.is c.has_room.ensures c.if-has_room.false

@@ -1,8 +1,13 @@
 -- `partial_trial::expand::expand`: edge by edge.
+use borrow.Author.Rules.{rules}
+use Rattle.std.specs.Prelude.{Result}
+use Rattle.semantics.specs.declared.refusal.PartialPathRefusal.{PartialPathRefusal}
+use Rattle.partial_state.specs.declared.extraction.Extraction.{Extraction}
+use Rattle.partial_trial.specs.Expansions.{Expanded}
 use Prim.Native.Nat.{ℕ, ◌<◌}
 use native.Mathlib.Omega.{arith}
 use mathlib.Core.Path.{refl, sym, ap, subst, ◌∙◌}
-use Rattle.semantics.specs.Limits.{looked_ever}
+use Rattle.semantics.specs.Limits.{looked_before, looked_ever}
 use Rattle.storage.specs.Index.Use.{left}
 use Rattle.partial_state.specs.Extractions.{at, going_at}
 use Rattle.partial_trial.specs.Expansions.Edges.{mid_start, mid-owning, mid-less, mid-again, mid-refused, mid-end}
@@ -61,7 +66,7 @@ loop-link-preserved c =
           mid-again v (l.invariant.4 v) (omega (arith, loop-test.true)) l.invariant.2 looked_ever (omega arith) (going_at a.frame look_at.result)
           look_at.new.item look_at.new.work look_at.new.words
           (look_at.ensures (mid-owning v (l.invariant.4 v) (omega (arith, loop-test.true)) l.invariant.2 looked_ever (omega arith) l.invariant.3))
-          (at a.frame c.in-On.next) (ap (going_at a.frame) c.in-On.is) c.next-link.ensures,
+          (at a.frame c.in-Ok.next) (ap (going_at a.frame) c.in-Ok.is) c.next-link.ensures,
     )
 
 pub returns : goal.returns

@@ -14,7 +14,7 @@ returns-in_default c =
     c.judged.ensures
     ∙ left-stops replay-loaded.result (replay base (view_of g) a.left a.left_edges.now)
     (replay base (view_of g) a.right a.right_edges.now) (replay-loaded.ensures.answers g l j)
-    c.in_default.not-Done
+    (c.in_default.not-Ok tt)
 
 pub returns : goal.returns
 returns c =
@@ -25,4 +25,4 @@ returns c =
     c.judged-2.ensures
     ∙ ap (judged_as replay-loaded2.result.answer) c.shadows.ensures
     ∙ right-judged l j a'.left a'.right a'.left_edges.now a'.right_edges.now replay-loaded.result replay-loaded2.result
-    (replay-loaded.ensures.answers g l j) c.in-Done.is (replay-loaded2.ensures.answers g l j)
+    (replay-loaded.ensures.answers g l j) c.in-Ok.is (replay-loaded2.ensures.answers g l j)

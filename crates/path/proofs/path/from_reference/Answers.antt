@@ -7,15 +7,14 @@ pub returns-in_default : goal.returns-in_default
 returns-in_default c =
     let a = c.args in
     started-refused a.reference c.begin-effect.result c.in_default.field-0 c.in_default.is
-    c.empty.ensures
+    c.requires.1
     ∙ ap (started_by a.reference) c.begin-effect.ensures
 
 pub put_step-requires : goal.put_step-requires
-put_step-requires c = empty-long c.empty-path.ensures
+put_step-requires c = empty-long c.requires.1
 
 pub returns : goal.returns
 returns c =
-    let begin = c.begin-effect in
     let a = c.args in
-    started-done a.reference c.in-Done.step c.empty-path.ensures c.put_step.ensures
-    ∙ ap (started_by a.reference) (sym c.in-Done.is ∙ begin.ensures)
+    started-done a.reference c.in-Ok.step c.requires.1 c.put_step.ensures
+    ∙ ap (started_by a.reference) (sym c.in-Ok.is ∙ c.begin-effect.ensures)

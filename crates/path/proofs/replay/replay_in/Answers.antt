@@ -5,20 +5,20 @@ use Rattle.storage.specs.Index.Use.{answer-refused, answer-accepted}
 use Rattle.path.specs.Replays.Calls.{accepted-jump, replay-image, replay-answers}
 use Rattle.path.proofs.replay.replay_in.Goals as goal
 
-pub returns-in-Refused : goal.returns-in-Refused
-returns-in-Refused c =
+pub returns-in-Err : goal.returns-in-Err
+returns-in-Err c =
     let Load-fresh = c.load_fresh in
     let a = c.args in
-    let e = answer-refused (graph_in a.image.now) c.in-Refused.r Load-fresh.ensures.value c.in-Refused.is in
-    let k = replay-image c.in-Refused.r e a.reference a.edges.now c.empty.ensures in
+    let e = answer-refused (graph_in a.image.now) c.in-Err.r Load-fresh.ensures.value c.in-Err.is in
+    let k = replay-image c.in-Err.r e a.reference a.edges.now c.empty.ensures in
     record { answer_value = k.0; path_value = k.1; value = k.2 }
 
-pub returns-in-Accepted : goal.returns-in-Accepted
-returns-in-Accepted c =
+pub returns-in-Ok : goal.returns-in-Ok
+returns-in-Ok c =
     let Load-fresh = c.load_fresh in
     let a = c.args in
-    let z = answer-accepted (graph_in a.image.now) c.in-Accepted.files c.in-Accepted.nodes c.in-Accepted.edges
-    Load-fresh.ensures.value c.in-Accepted.is in
+    let z = answer-accepted (graph_in a.image.now) c.in-Ok.field-0
+    Load-fresh.ensures.value c.in-Ok.is in
     let g = z.graph in
     let l = Load-fresh.ensures.loaded g z.is in
     let j = accepted-jump symbol_bytes a.image.now g z.is in

@@ -1,33 +1,19 @@
-use native.Mathlib.Omega.{arith}
-use mathlib.Core.Path.{sym, ◌∙◌}
+-- `path::shadows::shadows`: one pair of edges, and what is left behind it.
+use Rattle.std.proofs.Common.{◌∙◌}
+use Rattle.std.proofs.lemmas.Slice.Zip.{Zip-more, either_empty_from_Zip}
 use Rattle.storage.specs.Index.{edge_row}
-use Rattle.path.specs.Shadows.Laws.{walk-decided, walk-onward, walk-left, walk-right}
+use Rattle.path.specs.Shadows.Laws.{walk-decided, walk-onward, walk-over}
 use Rattle.path.proofs.shadows.shadows.Goals as goal
 
-pub returns-then-right-i : goal.returns-then-right-i
-returns-then-right-i c = let a = c.args in let l = c.loop-i in sym (walk-right (edge_row a.index.now) a.left.now a.right.now l.i c.if-right-i.true) ∙ l.invariant.1
+pub returns-in-Some-meet_edges : goal.returns-in-Some-meet_edges
+returns-in-Some-meet_edges c =
+    let z = Zip-more c.loop-x.x-iterator c.next.new.self c.next.result (c.in-Some.x, c.in-Some.y) c.in-Some.is c.next.ensures.steps in
+    walk-decided (edge_row c.args.index.now) z.0 z.1 c.meet_edges.ensures c.in-Some-meet_edges.decided c.in-Some-meet_edges.is ∙ c.loop-x.invariant
 
-pub returns-in_default : goal.returns-in_default
-returns-in_default c =
-    let loop-test = c.loop-i-test in
-    let l = c.loop-i in
-    let a = c.args in
-    c.is_yes.ensures
-    ∙ walk-decided (edge_row a.index.now) a.left.now a.right.now l.i loop-test.true
-    (omega (arith, c.if-right-i.false)) c.meet_edges-met.ensures
-    c.in_default.field-0 c.in_default.is
-    ∙ l.invariant.1
-
-pub loop-i-preserved : goal.loop-i-preserved
-loop-i-preserved c =
-    let loop-test = c.loop-i-test in
-    let l = c.loop-i in
-    let a = c.args in (
-      omega (arith, loop-test.true),
-      walk-onward (edge_row a.index.now) a.left.now a.right.now l.i loop-test.true
-          (omega (arith, c.if-right-i.false)) c.meet_edges-met.ensures c.in-Onward.is
-          ∙ l.invariant.1,
-    )
+pub loop-x-preserved : goal.loop-x-preserved
+loop-x-preserved c =
+    let z = Zip-more c.loop-x.x-iterator c.next.new.self c.next.result (c.in-Some.x, c.in-Some.y) c.in-Some.is c.next.ensures.steps in
+    walk-onward (edge_row c.args.index.now) z.0 z.1 c.meet_edges.ensures c.in_default.is ∙ c.loop-x.invariant
 
 pub returns : goal.returns
-returns c = let a = c.args in let l = c.loop-i in sym (walk-left (edge_row a.index.now) a.left.now a.right.now l.i c.loop-i-test.false) ∙ l.invariant.1
+returns c = walk-over (edge_row c.args.index.now) (either_empty_from_Zip c.loop-x.x-iterator c.next.new.self c.next.result c.in-None.is c.next.ensures.steps) ∙ c.loop-x.invariant

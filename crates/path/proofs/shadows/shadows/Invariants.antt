@@ -1,12 +1,8 @@
-use Prim.Native.Nat.{◌-◌, ◌≤◌}
-use mathlib.Core.Path.{◌≡◌}
-use lib.ListN.{length, drop}
+-- `path::shadows::shadows`: what is left of both lists decides what both decide.
+use Rattle.std.proofs.Common.{◌≡◌}
 use Rattle.storage.specs.Index.{edge_row}
 use Rattle.path.specs.Shadows.{shadows_edges}
 use Rattle.path.proofs.shadows.shadows.Given as goal
 
-abbrev pub invariant-loop-i : goal.invariant-loop-i
-invariant-loop-i l = (l.i ≤ length l.left) × (shadows_edges (edge_row l.index) (drop l.i l.left) (drop l.i l.right) ≡ shadows_edges (edge_row l.index) l.left l.right)
-
-abbrev pub decreases-loop-i : goal.decreases-loop-i
-decreases-loop-i l = length l.left - l.i
+abbrev pub invariant-loop-x : goal.invariant-loop-x
+invariant-loop-x l = shadows_edges (edge_row l.index) l.x-iterator.a.rest.now l.x-iterator.b.rest.now ≡ shadows_edges (edge_row l.index) l.left l.right

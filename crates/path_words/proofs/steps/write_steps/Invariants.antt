@@ -1,5 +1,4 @@
 -- the steps of the edges before i are written
-use Prim.Native.Nat.{◌-◌, ◌≤◌}
 use mathlib.Core.Path.{◌≡◌}
 use lib.ListN.{length}
 use Rattle.semantics.specs.ReplayedPaths.{passages_to}
@@ -8,8 +7,5 @@ use Rattle.semantics.specs.PathWords.{step_words}
 use Rattle.path_words.proofs.steps.write_steps.Given as goal
 
 abbrev pub invariant-loop-i : goal.invariant-loop-i
-invariant-loop-i l = (l.i ≤ l.path.count) × (length l.area ≡ length l.initial.area) × (l.edges ≡ l.path.edges) × (l.jumps ≡ l.path.jumps) × (l.steps ≡ l.path.steps)
-    × Adds l.initial.area l.from l.area l.at (step_words (passages_to l.path l.i))
-
-abbrev pub decreases-loop-i : goal.decreases-loop-i
-decreases-loop-i l = l.path.count - l.i
+invariant-loop-i l = (length l.area ≡ length l.initial.area) × (l.edges ≡ l.fn.path.edges) × (l.jumps ≡ l.fn.path.jumps) × (l.steps ≡ l.fn.path.steps)
+    × Adds l.initial.area l.from l.area l.at (step_words (passages_to l.fn.path l.i))

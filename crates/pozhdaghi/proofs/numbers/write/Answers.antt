@@ -5,7 +5,6 @@ use Prim.Native.Nat.{ℕ}
 use lib.ListN.{length, set, length-set}
 use Rattle.semantics.specs.Written.{written}
 use Rattle.words.specs.Copies.{copy_more, copy-all}
-use Rattle.pozhdaghi.specs.Written.{numbers_in}
 use Rattle.path_words.specs.Written.Laws.{written-length, written_at}
 use borrow.Author.Rules.{rules}
 use Rattle.pozhdaghi.proofs.numbers.write.Goals as goal
@@ -15,15 +14,15 @@ loop-i-preserved c =
     let l = c.loop-i in
     let a = c.args in
     let n = length a.answer.now in
-    let s = written n (numbers_in a.numbers) in
-    let k : length s ≡ n = written-length n (numbers_in a.numbers) in
-    (search rules, refl, simp length-set l.invariant.2, ap (λ (v : ℕ). set l.answer l.i v) (c.at.ensures ∙ sym (written_at n (numbers_in a.numbers) l.i (omega arith))) ∙ copy_more l.answer l.i s a.answer.now l.invariant.3 (omega (arith, k)) (omega arith))
+    let s = written n a.numbers.now in
+    let k : length s ≡ n = written-length n a.numbers.now in
+    (search rules, refl, simp length-set l.invariant.2, ap (λ (v : ℕ). set l.answer l.i v) (c.number.ensures ∙ sym (written_at n a.numbers.now l.i (omega arith))) ∙ copy_more l.answer l.i s a.answer.now l.invariant.3 (omega (arith, k)) (omega arith))
 
 pub returns : goal.returns
 returns c =
     let l = c.loop-i in
     let a = c.args in
     let n = length a.answer.now in
-    let s = written n (numbers_in a.numbers) in
-    let k : length s ≡ n = written-length n (numbers_in a.numbers) in
+    let s = written n a.numbers.now in
+    let k : length s ≡ n = written-length n a.numbers.now in
     l.invariant.3 ∙ copy-all l.i s a.answer.now (omega (arith, k)) k

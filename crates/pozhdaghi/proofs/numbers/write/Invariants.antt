@@ -1,11 +1,7 @@
 -- the numbers before i are written, the others as they were
-use Prim.Native.Nat.{◌≤◌}
-use mathlib.Core.Path.{◌≡◌}
-use mathlib.Core.List.{◌++◌}
-use lib.ListN.{length, take, drop}
+use Rattle.std.proofs.Common.{◌≡◌, ◌++◌, ◌≤◌, length, take, drop}
 use Rattle.semantics.specs.Written.{written}
-use Rattle.pozhdaghi.specs.Written.{numbers_in}
 use Rattle.pozhdaghi.proofs.numbers.write.Given as goal
 
 abbrev pub invariant-loop-i : goal.invariant-loop-i
-invariant-loop-i l = (l.i ≤ length l.initial.answer) × (l.i-end ≡ length l.initial.answer) × (length l.answer ≡ length l.initial.answer) × (l.answer ≡ take l.i (written (length l.initial.answer) (numbers_in l.numbers)) ++ drop l.i l.initial.answer)
+invariant-loop-i l = (l.i ≤ length l.initial.answer) × (l.i-end ≡ length l.initial.answer) × (length l.answer ≡ length l.initial.answer) × (l.answer ≡ take l.i (written (length l.initial.answer) l.numbers) ++ drop l.i l.initial.answer)

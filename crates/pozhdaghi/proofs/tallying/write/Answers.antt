@@ -1,29 +1,19 @@
--- `pozhdaghi::tallying::write`: the numbers before i are written, the others as they were.
+-- the first number and those behind it, or none
 use native.Mathlib.Omega.{arith}
-use mathlib.Core.Path.{◌≡◌, refl, sym, ap, ◌∙◌}
-use mathlib.Core.List.{◌∷◌}
-use Prim.Native.Nat.{ℕ}
-use lib.ListN.{length, set, length-set}
+use Rattle.std.proofs.Common.{ℕ, ◌≡◌, List, [], ◌∷◌, length, refl, sym, ap, ◌∙◌}
 use Rattle.semantics.specs.Written.{written}
-use Rattle.words.specs.Copies.{copy_more, copy-all}
-use Rattle.path_words.specs.Written.Laws.{written-length, written_at}
-use borrow.Author.Rules.{rules}
 use Rattle.pozhdaghi.proofs.tallying.write.Goals as goal
 
-pub loop-i-preserved : goal.loop-i-preserved
-loop-i-preserved c =
-    let l = c.loop-i in
-    let a = c.args in
-    let n = length a.answer.now in
-    let s = written n (0 ∷ a.counts.now) in
-    let k : length s ≡ n = written-length n (0 ∷ a.counts.now) in
-    (search rules, refl, simp length-set l.invariant.2, ap (λ (v : ℕ). set l.answer l.i v) (c.at.ensures ∙ sym (written_at n (0 ∷ a.counts.now) l.i (omega arith))) ∙ copy_more l.answer l.i s a.answer.now l.invariant.3 (omega (arith, k)) (omega arith))
+pub returns-in-Some : goal.returns-in-Some
+unfolding written
+returns-in-Some c =
+    ap (λ (l : List ℕ). 0 ∷ l) c.write.ensures
+    ∙ sym (ap (λ (l : List ℕ). written (length l) (0 ∷ c.args.counts.now)) c.in-Some.ensures.cases.0)
 
-pub returns : goal.returns
-returns c =
-    let l = c.loop-i in
-    let a = c.args in
-    let n = length a.answer.now in
-    let s = written n (0 ∷ a.counts.now) in
-    let k : length s ≡ n = written-length n (0 ∷ a.counts.now) in
-    l.invariant.3 ∙ copy-all l.i s a.answer.now (omega (arith, k)) k
+none : (l ns : List ℕ) → length l ≡ 0 → l ≡ written (length l) ns
+unfolding written
+none [] ns e = refl
+none (x ∷ l) ns e = absurd (omega (arith, e))
+
+pub returns-in_default : goal.returns-in_default
+returns-in_default c = none c.args.answer.now (0 ∷ c.args.counts.now) c.in_default.ensures.cases

@@ -1,9 +1,9 @@
-use Rattle.std.proofs.Common.{◌++◌, take, drop}
+use Rattle.std.proofs.Common.{◌++◌, take}
 use Rattle.std.specs.Io.KnownBytes.{Appends}
 use Rattle.printing.specs.Lines.{spaced}
 use Rattle.printing.proofs.paths.print_path.Given as goal
 
 -- the name and the first edges were printed
-abbrev pub invariant-loop-j : goal.invariant-loop-j
-invariant-loop-j g l =
-    Appends (g.W.Write.contents l.fn.out) (g.W.Write.contents l.out) (l.name ++ spaced (take l.j (drop 1 l.slot)))
+abbrev pub invariant-loop-edge : goal.invariant-loop-edge
+invariant-loop-edge g l =
+    Appends (g.W.Write.contents l.fn.out) (g.W.Write.contents l.out) (l.name ++ spaced (take l.edge-index l.edges))

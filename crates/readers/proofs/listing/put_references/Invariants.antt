@@ -9,6 +9,3 @@ use Rattle.readers.proofs.listing.put_references.Given as goal
 
 abbrev pub invariant-loop-n : goal.invariant-loop-n
 invariant-loop-n l = (length l.res ≡ length l.initial.res) × (l.n ≤ l.nodes) × ((g : Graph) → Loaded g l.index → l.nodes ≡ length g.nodes → Referred g.nodes l.res l.count l.n)
-
-abbrev pub decreases-loop-n : goal.decreases-loop-n
-decreases-loop-n l = l.nodes - l.n

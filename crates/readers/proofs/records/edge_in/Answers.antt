@@ -1,30 +1,36 @@
 -- `readers::records::edge_in`: the refusal of the image, or the record of the graph that it holds.
-use mathlib.Core.Path.{sym, ap, ◌∙◌}
+use borrow.Author.Rules.{rules}
+use Rattle.std.specs.Prelude.{Err}
+use mathlib.Core.Path.{sym, ap, ◌∙◌, ◌≡◌, subst}
 use Rattle.semantics.specs.Entries.{graph_in}
 use Rattle.semantics.specs.Hidden.{sees}
 use Rattle.semantics.specs.Reading.{edge_read, edge_call}
 use Rattle.storage.specs.Index.Use.{answer-accepted, refused-seen, accepted-seen}
+use Rattle.semantics.specs.declared.answer.ReadingRefusal.{ReadingRefusal}
+use Rattle.semantics.proofs.Theorems.PublicAnswers.{made, let_through}
 use Rattle.readers.proofs.records.edge_in.Goals as goal
 
 pub known_edge-requires : goal.known_edge-requires
 known_edge-requires c =
     let load = c.load_seen in
     let a = c.args in
-    let z = answer-accepted (graph_in a.image.now) c.in-Accepted.files c.in-Accepted.nodes c.in-Accepted.edges load.ensures.value c.in-Accepted.is in
+    let z = answer-accepted (graph_in a.image.now) c.in_ok-map_err.field-0 load.ensures.value (let_through ReadingRefusal.Image c.load_seen.result c.map_err.result c.in_ok-map_err.field-0 c.map_err.ensures.cases c.in_ok-map_err.was) in
     (load.ensures.loaded z.graph z.is).long
 
-pub returns-in-Refused : goal.returns-in-Refused
+pub returns-in_err-map_err : goal.returns-in_err-map_err
 unfolding edge_call
-returns-in-Refused c =
+returns-in_err-map_err c =
     let a = c.args in
-    sym (ap (λ x. edge_call x a.e) (refused-seen (sees a.visible.now) (graph_in a.image.now) c.in-Refused.r c.load_seen.ensures.value c.in-Refused.is))
+    let t : c.from_residual.result ≡ Err c.in_err-map_err.field-0.0 = search rules in
+    let m = made ReadingRefusal.Image c.load_seen.result c.map_err.result c.in_err-map_err.field-0.0 c.map_err.ensures.cases c.in_err-map_err.was in
+    t ∙ ap Err m.is ∙ sym (ap (λ x. edge_call x a.e) (refused-seen (sees a.visible.now) (graph_in a.image.now) m.error c.load_seen.ensures.value m.was))
 
-pub returns-in-Accepted : goal.returns-in-Accepted
+pub returns : goal.returns
 unfolding edge_call
-returns-in-Accepted c =
+returns c =
     let load = c.load_seen in
     let a = c.args in
-    let z = answer-accepted (graph_in a.image.now) c.in-Accepted.files c.in-Accepted.nodes c.in-Accepted.edges load.ensures.value c.in-Accepted.is in
+    let z = answer-accepted (graph_in a.image.now) c.in_ok-map_err.field-0 load.ensures.value (let_through ReadingRefusal.Image c.load_seen.result c.map_err.result c.in_ok-map_err.field-0 c.map_err.ensures.cases c.in_ok-map_err.was) in
     c.known_edge.ensures
     ∙ ap (edge_read a.e) ((load.ensures.loaded z.graph z.is).edge a.e)
     ∙ sym (ap (λ x. edge_call x a.e) (accepted-seen (sees a.visible.now) z.is))

@@ -1,9 +1,6 @@
--- `is_ahead` meets its contract: in the words before k both are the same, so those from k on decide.
-use mathlib.Core.Path.{◌≡◌}
-use Prim.Native.Nat.{◌≤◌}
-use lib.ListN.{length, drop}
+-- `is_ahead` meets its contract: before what is left both are the same, so what is left decides.
 use Rattle.reply.specs.Ascending.{Ahead}
 use Rattle.reply.proofs.ascending.is_ahead.Given as goal
 
-abbrev pub invariant-loop-k : goal.invariant-loop-k
-invariant-loop-k l = (l.k-end ≡ length l.left) × (l.k ≤ length l.left) × (length l.left ≡ length l.right) × (Ahead (drop l.k l.left) (drop l.k l.right) → Ahead l.left l.right)
+abbrev pub invariant-loop-x : goal.invariant-loop-x
+invariant-loop-x l = Ahead l.x-iterator.a.rest.now l.x-iterator.b.rest.now → Ahead l.left l.right

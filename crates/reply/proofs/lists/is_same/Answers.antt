@@ -1,8 +1,7 @@
--- `is_same` meets its contract: what stands from k on is the same in both lists.
+-- `is_same` meets its contract: what is left of both lists decides.
 use mathlib.Core.Path.{sym, ◌∙◌}
-use native.Mathlib.Omega.{arith}
-use Rattle.reply.specs.EdgeLists.Laws.{same-lengths, same_whole, same_none, same-on, same_not}
-use borrow.Author.Rules.{rules}
+use Rattle.std.proofs.Math.Logic.{⊎_elim}
+use Rattle.reply.specs.EdgeLists.Laws.{same-lengths, same-long, same-on, same_not, same_none}
 use Rattle.reply.proofs.lists.is_same.Goals as goal
 
 pub returns-then-left-right : goal.returns-then-left-right
@@ -13,25 +12,23 @@ pub returns-then-starts_apart : goal.returns-then-starts_apart
 returns-then-starts_apart c =
     sym (c.starts_apart.ensures c.if-starts_apart.true)
 
-pub loop-k-init : goal.loop-k-init
-loop-k-init c =
-    let a = c.args in
-    (search rules, c.if-left-right.false, same_whole a.left.now a.right.now c.if-left-right.false)
+pub returns-then-x-y : goal.returns-then-x-y
+returns-then-x-y c =
+    let l = c.loop-x.invariant in
+    let z = c.in-Some.ensures.steps in
+    same_not c.next.new.self.a.iter.rest.now c.next.new.self.b.iter.rest.now c.in-Some.x.now c.in-Some.y.now z.0 z.1 l.0 c.if-x-y.true ∙ l.1
 
-pub returns-then-left-k : goal.returns-then-left-k
-returns-then-left-k c =
-    let a = c.args in
-    let l = c.loop-k in
-    same_not a.left.now a.right.now l.k (omega (arith, c.loop-k-test.true)) l.invariant.0 l.invariant.1 c.if-left-k.true ∙ l.invariant.2
-
-pub loop-k-preserved : goal.loop-k-preserved
-loop-k-preserved c =
-    let a = c.args in
-    let l = c.loop-k in
-    (search rules, l.invariant.1, same-on a.left.now a.right.now l.k (omega (arith, c.loop-k-test.true)) l.invariant.0 l.invariant.1 c.if-left-k.false ∙ l.invariant.2)
+pub loop-x-preserved : goal.loop-x-preserved
+loop-x-preserved c =
+    let l = c.loop-x.invariant in
+    let z = c.in-Some.ensures.steps in (
+      same-long c.next.new.self.a.iter.rest.now c.next.new.self.b.iter.rest.now c.in-Some.x.now c.in-Some.y.now z.0 z.1 l.0,
+      same-on c.next.new.self.a.iter.rest.now c.next.new.self.b.iter.rest.now c.in-Some.x.now c.in-Some.y.now z.0 z.1 l.0 c.if-x-y.false ∙ l.1,
+    )
 
 pub returns : goal.returns
 returns c =
-    let a = c.args in
-    let l = c.loop-k in
-    same_none a.left.now a.right.now l.k (omega (arith, c.loop-k-test.false)) ∙ l.invariant.2
+    let l = c.loop-x.invariant in
+    let a = c.loop-x.x-iterator.a.iter.rest.now in
+    let b = c.loop-x.x-iterator.b.iter.rest.now in
+    ⊎_elim (λ x. same_none a b l.0 x.1.0 ∙ l.1) (λ x. same_none a b l.0 (l.0 ∙ x.1.0) ∙ l.1) c.in-None.ensures.steps

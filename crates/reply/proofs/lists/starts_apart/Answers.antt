@@ -1,16 +1,12 @@
 -- `starts_apart` meets its contract: equal lists have the same first number.
-use mathlib.Core.Path.{sym}
-use mathlib.Core.Bool.{true≢false}
+use mathlib.Core.Path.{sym, ap, ◌∙◌}
+use mathlib.Core.Bool.{not, true≢false}
+use Rattle.std.proofs.Common.{get_or, eq-eqb}
 use Rattle.reply.specs.EdgeLists.Laws.{same-starts}
 use Rattle.reply.proofs.lists.starts_apart.Goals as goal
 
-pub returns-then-left-right : goal.returns-then-left-right
-returns-then-left-right c =
-    let a = c.args in
-    λ e. same-starts a.left.now a.right.now c.if-left-right.true
-
-pub returns-else-left-right : goal.returns-else-left-right
-returns-else-left-right c = λ e. absurd (true≢false (sym e))
-
-pub returns-else-left-gt0 : goal.returns-else-left-gt0
-returns-else-left-gt0 c = λ e. absurd (true≢false (sym e))
+pub returns-then-left-gt0 : goal.returns-then-left-gt0
+returns-then-left-gt0 c =
+    let l = c.args.left.now in
+    let r = c.args.right.now in
+    λ e. same-starts l r (λ q. true≢false (sym e ∙ ap not (eq-eqb (get_or l 0 0) (get_or r 0 0) q)))

@@ -1,19 +1,18 @@
 -- `rewriting::back::narrow_graph`: the first symbol that does not fit, or four bytes less for each symbol.
 use Prim.Native.Nat.{◌-◌, ◌*◌}
 use native.Mathlib.Omega.{arith}
-use mathlib.Core.Path.{◌≡◌, refl, ◌∙◌}
-use mathlib.Core.Logic.{inl}
+use mathlib.Core.Path.{◌≡◌, ◌∙◌}
 use lib.ListN.{length}
 use Rattle.semantics.specs.Bytes.Written.{AllBytes}
 use Rattle.semantics.specs.Image.Encoding.{encode_image}
 use Rattle.rewriting.specs.Rewrites.{size-held, front-held, narrow_size, narrow_short, first-place, first-none, does-wide, does-cramped, does-write}
 use Rattle.rewriting.proofs.back.narrow_graph.Goals as goal
 
-pub returns-then-n-nodes : goal.returns-then-n-nodes
-returns-then-n-nodes c =
+pub returns-in-Some : goal.returns-in-Some
+returns-in-Some c =
     let a = c.args in
     let d = c.requires.given in
-    let q = does-wide 1 4 d.is a.image.now (length a.area.now) c.requires.area_value _ (first-place d 4 c.first_wide-n.ensures.first (omega arith)) in
+    let q = does-wide 1 4 d.is a.image.now (length a.area.now) c.requires.area_value _ (first-place d 4 c.in-Some.ensures.1 c.in-Some.ensures.0) in
     (c.wide_symbol.ensures ∙ q.0, q.1)
 
 pub overflow_sub-size : goal.overflow_sub-size
@@ -34,7 +33,7 @@ returns-then-area-size c =
     let s = narrow_size b d c.count_symbols.ensures.value in
     let k : length im - 4 * c.count_symbols.result ≡ length (encode_image 1 4 d.graph) = omega arith in
     let m = narrow_short b d in
-    let f = first-none d 4 c.first_wide-n.ensures.first (omega arith) in
+    let f = first-none d 4 c.in_default.ensures (omega arith) in
     does-cramped 1 4 d.is im (length a.area.now) c.requires.area_value f k (omega arith) (omega arith)
 
 pub overflow_cast-length : goal.overflow_cast-length
@@ -57,7 +56,7 @@ write_image-requires c =
     let s = narrow_size b d c.count_symbols.ensures.value in
     let k : length im - 4 * c.count_symbols.result ≡ length (encode_image 1 4 d.graph) = omega arith in
     let m = narrow_short b d in
-    record { blocks = d.loaded.long; known_width = (inl refl, omega arith); size_value = size-held d 1 4 k; size_in_bounds = omega arith }
+    record { blocks = d.loaded.long; size_value = size-held d 1 4 k; size_in_bounds = omega arith }
 
 pub returns : goal.returns
 returns c =
@@ -68,5 +67,5 @@ returns c =
     let s = narrow_size b d c.count_symbols.ensures.value in
     let k : length im - 4 * c.count_symbols.result ≡ length (encode_image 1 4 d.graph) = omega arith in
     let m = narrow_short b d in
-    let f = first-none d 4 c.first_wide-n.ensures.first (omega arith) in
+    let f = first-none d 4 c.in_default.ensures (omega arith) in
     does-write 1 4 d.is im (length a.area.now) c.requires.area_value f k (omega arith) (omega arith) (front-held d 1 4 a.area.now c.write_image.ensures)

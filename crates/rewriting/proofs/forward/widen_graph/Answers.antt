@@ -1,7 +1,5 @@
 -- `rewriting::forward::widen_graph`: four bytes more for each symbol are the size of the result.
 use native.Mathlib.Omega.{arith}
-use mathlib.Core.Path.{refl}
-use mathlib.Core.Logic.{inr}
 use lib.ListN.{length}
 use Rattle.semantics.specs.Bytes.Written.{AllBytes}
 use Rattle.rewriting.specs.Rewrites.{size-held, front-held, widen-fits, widen-size, does-long, does-cramped, does-write}
@@ -32,7 +30,7 @@ write_image-requires c =
     let d = c.requires.given in
     let b : AllBytes im = λ i. omega (arith, c.shared_slice_known-1.given i) in
     let s = widen-size b d c.count_symbols.ensures.value in
-    record { blocks = d.loaded.long; known_width = (inr refl, omega arith); size_value = size-held d 2 8 s; size_in_bounds = omega arith }
+    record { blocks = d.loaded.long; size_value = size-held d 2 8 s; size_in_bounds = omega arith }
 
 pub returns : goal.returns
 returns c =

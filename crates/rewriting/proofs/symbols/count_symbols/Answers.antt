@@ -10,7 +10,7 @@ use Rattle.rewriting.proofs.symbols.count_symbols.Goals as goal
 
 pub loop-n-init : goal.loop-n-init
 unfolding first_of
-loop-n-init c = (omega arith, omega arith, refl)
+loop-n-init c = (omega arith, refl)
 
 pub overflow_add-count : goal.overflow_add-count
 overflow_add-count c =
@@ -25,10 +25,10 @@ loop-n-preserved c =
     let e : c.symbols-count.result ≡ one_if (symbol_of (node_row a.index.now l.n)) = c.symbols-count.ensures ∙ ap (λ (x : Node). one_if (symbol_of x)) c.node.ensures in
     let b = one-most (symbol_of (node_row a.index.now l.n)) in
     let s = symbols-next (node_row a.index.now) l.n in
-    (omega arith, omega arith, omega arith)
+    (omega arith, omega arith)
 
 pub returns : goal.returns
 returns c =
     let a = c.args in let l = c.loop-n in
     let z : l.n ≡ a.nodes = omega arith in
-    record { value = l.invariant.2 ∙ ap (λ (i : ℕ). symbols_in (nodes_in a.index.now i)) z; upper_bound = omega arith }
+    record { value = l.invariant.1 ∙ ap (λ (i : ℕ). symbols_in (nodes_in a.index.now i)) z; upper_bound = omega arith }

@@ -9,8 +9,8 @@ use Rattle.stepping.specs.StepWords.{with_step}
 use Rattle.search_rounds.specs.Starts.{made-extends, made-pushable, begin-refused, begin-begun, begin-started}
 use Rattle.search_rounds.proofs.start.start.Goals as goal
 
-pub begin-begun-requires : goal.begin-begun-requires
-begin-begun-requires c = c.requires.0.loaded.long
+pub begin-requires : goal.begin-requires
+begin-requires c = c.requires.0.loaded.long
 
 pub put_step-requires : goal.put_step-requires
 put_step-requires c =
@@ -23,33 +23,33 @@ pub push-requires : goal.push-requires
 push-requires c =
     let a = c.args in
     let p = c.requires in
-    made-pushable a.order a.limits a.work.now a.res.now c.new.ensures c.new-in-Done.ensures p.2
+    made-pushable a.order a.limits a.work.now a.res.now c.new.ensures c.new-in-Ok.ensures p.2
 
-pub returns-in-Refused : goal.returns-in-Refused
-returns-in-Refused c =
+pub returns-in-Err : goal.returns-in-Err
+returns-in-Err c =
     let a = c.args in
     record {
       started = λ tries g l rs.
-          begin-refused tries l a.order a.limits a.work.now a.res.now a.reference c.begin-begun.ensures rs c.in-Refused.r c.in-Refused.is;
+          begin-refused tries l a.order a.limits a.work.now a.res.now a.reference c.begin.ensures rs c.in-Err.r c.in-Err.is;
       begun = λ tries g l rs.
-          begin-refused tries l a.order a.limits a.work.now a.res.now a.reference c.begin-begun.ensures rs c.in-Refused.r c.in-Refused.is;
+          begin-refused tries l a.order a.limits a.work.now a.res.now a.reference c.begin.ensures rs c.in-Err.r c.in-Err.is;
     }
 
-pub returns-in-Done : goal.returns-in-Done
-returns-in-Done c =
+pub returns-in-Ok : goal.returns-in-Ok
+returns-in-Ok c =
     let put_step = c.put_step in
-    let begin = c.begin-begun in
+    let begin = c.begin in
     let a = c.args in
     let p = c.requires in
     record {
       started = λ tries g l.
-          begin-started tries l a.order a.limits a.work.now a.res.now a.reference begin.ensures c.in-Done.first
-          c.in-Done.is p.3 p.2 (made-extends a.order a.limits a.work.now a.res.now
-          c.new.ensures c.new-in-Done.ensures c.push.ensures)
-          (put_step.ensures ∙ ap (λ (z : List ℕ). with_step z 0 c.in-Done.first) p.1);
+          begin-started tries l a.order a.limits a.work.now a.res.now a.reference begin.ensures c.in-Ok.first
+          c.in-Ok.is p.3 p.2 (made-extends a.order a.limits a.work.now a.res.now
+          c.new.ensures c.new-in-Ok.ensures c.push.ensures)
+          (put_step.ensures ∙ ap (λ (z : List ℕ). with_step z 0 c.in-Ok.first) p.1);
       begun = λ tries g l.
-          begin-begun tries l a.order a.limits a.work.now a.res.now a.reference begin.ensures c.in-Done.first
-          c.in-Done.is p.3 p.2 (made-extends a.order a.limits a.work.now a.res.now
-          c.new.ensures c.new-in-Done.ensures c.push.ensures)
-          (put_step.ensures ∙ ap (λ (z : List ℕ). with_step z 0 c.in-Done.first) p.1);
+          begin-begun tries l a.order a.limits a.work.now a.res.now a.reference begin.ensures c.in-Ok.first
+          c.in-Ok.is p.3 p.2 (made-extends a.order a.limits a.work.now a.res.now
+          c.new.ensures c.new-in-Ok.ensures c.push.ensures)
+          (put_step.ensures ∙ ap (λ (z : List ℕ). with_step z 0 c.in-Ok.first) p.1);
     }

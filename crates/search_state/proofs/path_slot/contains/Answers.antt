@@ -1,27 +1,22 @@
-use Prim.Native.Nat.{◌+◌}
-use native.Mathlib.Omega.{arith}
-use mathlib.Core.Path.{refl, ap, ◌∙◌}
-use mathlib.Core.Bool.{Bool}
-use lib.ListN.{drop}
+use Rattle.std.specs.Prelude.{◌+◌, ◌||◌, Bool, true, false, eqb, drop, get_or, refl}
+use mathlib.Core.Path.{◌≡◌, ap, ◌∙◌}
 use Rattle.semantics.specs.Lists.{or, has}
 use Rattle.search_state.specs.Items.Laws.{has_one, has_all}
-use borrow.Author.Rules.{rules}
 use Rattle.search_state.proofs.path_slot.contains.Goals as goal
 
-pub loop-i-init : goal.loop-i-init
-loop-i-init c = (omega arith, refl, refl)
+turned : (a b : Bool) → (a || b) ≡ or b a
+turned true true = refl
+turned true false = refl
+turned false true = refl
+turned false false = refl
 
-pub loop-i-smaller : goal.loop-i-smaller
-loop-i-smaller c = let l = c.loop-i in omega (arith, c.loop-i-test.true, l.invariant.1)
-
-pub loop-i-preserved : goal.loop-i-preserved
-loop-i-preserved c =
+pub loop-other-preserved : goal.loop-other-preserved
+loop-other-preserved c =
     let a = c.args in
-    let l = c.loop-i in (
-      search rules,
-      l.invariant.1,
-      ap (λ (f : Bool). or f (has a.edge (drop (l.i + 1) a.edges.now))) c.found_by-found.ensures ∙ has_one a.edge a.edges.now l.i l.found (omega (arith, c.loop-i-test.true, l.invariant.1)) ∙ l.invariant.2,
-    )
+    let l = c.loop-other in
+    ap (λ (f : Bool). or f (has a.edge (drop (l.other-index + 1) a.edges.now))) (turned l.found (eqb a.edge (get_or a.edges.now l.other-index 0)))
+    ∙ has_one a.edge a.edges.now l.other-index l.found c.loop-other-test.true
+    ∙ l.invariant
 
 pub returns : goal.returns
-returns c = let a = c.args in let l = c.loop-i in has_all a.edge a.edges.now l.i l.found (omega (arith, c.loop-i-test.false, l.invariant.1)) ∙ l.invariant.2
+returns c = let a = c.args in let l = c.loop-other in has_all a.edge a.edges.now l.other-index l.found c.loop-other-test.false ∙ l.invariant

@@ -7,14 +7,14 @@ use Rattle.semantics.specs.Limits.{step_length}
 use Rattle.search_state.specs.Retraces.Laws.{way_of, mid_start, mid-end, mid-edge, mid-node, mid-behind, mid-again, mid-last}
 use Rattle.search_state.proofs.retrace.retrace.Goals as goal
 
-pub shared-i-requires : goal.shared-i-requires
-shared-i-requires c = let p = c.requires in (p.few, p.room)
+pub shared-first-requires : goal.shared-first-requires
+shared-first-requires c = let p = c.requires in (p.few, p.room)
 
 pub get_step-last-requires : goal.get_step-last-requires
-get_step-last-requires c = omega (arith, c.shared-i.ensures.inside, c.requires.room)
+get_step-last-requires c = omega (arith, c.shared-first.ensures.inside, c.requires.room)
 
 pub loop-i-init : goal.loop-i-init
-loop-i-init c = (c.shared-i.ensures.inside, refl, c.get_step-last.ensures, λ t. mid_start t c.shared-i.ensures)
+loop-i-init c = (c.shared-first.ensures.inside, refl, c.get_step-last.ensures, λ t. mid_start t c.shared-first.ensures)
 
 pub remake-last-requires : goal.remake-last-requires
 remake-last-requires c =

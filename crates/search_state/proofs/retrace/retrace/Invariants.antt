@@ -1,5 +1,5 @@
 -- `search_state::retrace::retrace`: from the edges that stand there already, step by step.
-use Prim.Native.Nat.{◌-◌, ◌≤◌}
+use Prim.Native.Nat.{◌≤◌}
 use mathlib.Core.Path.{◌≡◌}
 use lib.ListN.{length}
 use Rattle.semantics.specs.ReplayedPaths.{step_at}
@@ -9,6 +9,3 @@ use Rattle.search_state.proofs.retrace.retrace.Given as goal
 
 abbrev pub invariant-loop-i : goal.invariant-loop-i
 invariant-loop-i l = (l.i ≤ length l.edges) × (length l.steps ≡ length l.initial.steps) × (l.last ≡ step_at l.steps l.i) × ((t : Retraces l.index l.initial.steps l.edges l.n) → Mid l.index l.edges (way_of t) l.steps l.i)
-
-abbrev pub decreases-loop-i : goal.decreases-loop-i
-decreases-loop-i l = length l.edges - l.i

@@ -3,7 +3,7 @@
 use Prim.Native.Nat.{ℕ, ◌+◌, ◌≤◌, ◌<◌}
 use Rattle.std.proofs.Math.Path.{◌≡◌, refl, sym, ap}
 use Rattle.std.proofs.Common.{◌∙◌, subst, le-leb, leb-true, leb-false}
-use Rattle.std.specs.Prelude.{Bool}
+use Rattle.std.specs.Prelude.{Bool, Err, Ok}
 use Rattle.std.proofs.Math.Bool.{true, false, true≢false}
 use mathlib.Core.List.{List}
 use Rattle.std.proofs.lemmas.Bool.{lt-leb}
@@ -15,9 +15,6 @@ use Rattle.semantics.specs.declared.refusal.ImageRefusal.{ImageRefusal}
 use Rattle.semantics.specs.declared.refusal.DatabaseRefusal.{DatabaseRefusal}
 use Rattle.semantics.specs.declared.refusal.DatabaseRefusal.TheVariants.{Malformed, Outgrown}
 use Rattle.semantics.specs.declared.refusal.PartialPathRefusal.{PartialPathRefusal}
-use Rattle.semantics.specs.declared.answer.Compaction.TheVariants as Compaction
-use Rattle.semantics.specs.declared.answer.Resolution.{Resolution}
-use Rattle.semantics.specs.declared.answer.Replacement.{Replacement}
 use Rattle.semantics.specs.Lists.{and}
 use Rattle.semantics.specs.Lists.Laws.{and-true}
 use Rattle.semantics.specs.Limits.{Bounds}
@@ -37,6 +34,8 @@ use Rattle.semantics.proofs.Theorems.Database.Compaction.Laws.{Compacts, compact
 use Rattle.semantics.specs.Calls.{Request, FileRequest, Outcome, Reply, setting_of, file_setting_of, search_outcome, stitched_outcome, stitched_call, filing_outcome, computation_outcome, replacement_outcome, replace_call, alias_outcome, alias_call}
 use Rattle.semantics.specs.Calls.Whole.{Finished, stitched_recorded, Premises, AliasPremises}
 use Rattle.semantics.specs.Entries.{seen_in, stitched_search, compact_database}
+use Rattle.semantics.specs.PublicAnswers.{Replacement, Resolution}
+use Rattle.semantics.specs.declared.answer.ReplacementRefusal.{ReplacementRefusal}
 
 -- 35, 34 and the slots, each by itself
 checked_by : Bool → Bool → List Slot → Answer DatabaseRefusal (List Slot)
@@ -126,16 +125,16 @@ pub record Overfull (bd : Bounds) (image : Answer ImageRefusal Graph) (computati
 
 module _ (bd : Bounds) (g : Graph) (q : FileRequest) (words : List ℕ) where
   -- a computation ends with 33 exactly when it is done and there is no room
-  full-computed : (a : Answer PartialPathRefusal (State Route)) → (computation_outcome bd g q words a).answer ≡ Replacement.Full → (s : State Route) × (a ≡ ok s) × (has_room bd s words ≡ false)
+  full-computed : (a : Answer PartialPathRefusal (State Route)) → (computation_outcome bd g q words a).answer ≡ Err ReplacementRefusal.Full → (s : State Route) × (a ≡ ok s) × (has_room bd s words ≡ false)
   unfolding computation_outcome filing_outcome
   full-computed (refuse r) e = absurd (let z : ◌≡◌ {A = Bool} true false = cc in true≢false z)
   full-computed (ok s) e = on (has_room bd s words) refl e
     where
-      on : (b : Bool) → has_room bd s words ≡ b → (filing_outcome bd b g q words s).answer ≡ Replacement.Full → (t : State Route) × (◌≡◌ {A = Answer PartialPathRefusal (State Route)} (ok s) (ok t)) × (has_room bd t words ≡ false)
+      on : (b : Bool) → has_room bd s words ≡ b → (filing_outcome bd b g q words s).answer ≡ Err ReplacementRefusal.Full → (t : State Route) × (◌≡◌ {A = Answer PartialPathRefusal (State Route)} (ok s) (ok t)) × (has_room bd t words ≡ false)
       on true h k = absurd (let z : ◌≡◌ {A = Bool} true false = cc in true≢false z)
       on false h k = (s, refl, h)
 
-  computed-full : (s : State Route) → has_room bd s words ≡ false → (computation_outcome bd g q words (ok s)).answer ≡ Replacement.Full
+  computed-full : (s : State Route) → has_room bd s words ≡ false → (computation_outcome bd g q words (ok s)).answer ≡ Err ReplacementRefusal.Full
   unfolding computation_outcome filing_outcome
   computed-full s h = rw h
 
@@ -157,11 +156,11 @@ of_aliases bd q g = alias_routes bd q.length (file_setting_of bd q) g
 module _ (bd : Bounds) (known : ℕ → ℕ → Bool) (q : FileRequest) (words : List ℕ) where
   checked_answer : (Graph → Answer PartialPathRefusal (State Route)) → Graph → Answer DatabaseRefusal (List Slot) → Replacement
   checked_answer computation g (ok db) = (computation_outcome bd g q words (computation g)).answer
-  checked_answer computation g (refuse r) = Replacement.Database r
+  checked_answer computation g (refuse r) = Err (ReplacementRefusal.Database r)
 
   replace_answer : (Graph → Answer PartialPathRefusal (State Route)) → Answer ImageRefusal Graph → Replacement
   replace_answer computation (ok g) = checked_answer computation g (check_database bd known g words)
-  replace_answer computation (refuse x) = Replacement.Image x
+  replace_answer computation (refuse x) = Err (ReplacementRefusal.Image x)
 
   file-answer : (image : Answer ImageRefusal Graph) → (replace_call bd known image q words).answer ≡ replace_answer (of_file bd q) image
   unfolding replace_call replacement_outcome replace_answer checked_answer
@@ -181,7 +180,7 @@ module _ (bd : Bounds) (known : ℕ → ℕ → Bool) (q : FileRequest) (words :
       on (ok db) = refl
       on (refuse r) = refl
 
-module _ (bd : Bounds) (known : ℕ → ℕ → Bool) (ws : List ℕ) (len n : ℕ) (done : (compact_call bd known ws len).answer ≡ Compaction.Done n) where
+module _ (bd : Bounds) (known : ℕ → ℕ → Bool) (ws : List ℕ) (len n : ℕ) (done : (compact_call bd known ws len).answer ≡ Ok n) where
   c : Compacts bd known ws len n
   c = compact-done bd known ws len n done
 
@@ -204,18 +203,18 @@ module _ (bd : Bounds) (known : ℕ → ℕ → Bool) (ws : List ℕ) (len n : �
 
   module _ (q : FileRequest) where
     module _ (computation : Graph → Answer PartialPathRefusal (State Route)) where
-      full-means : (image : Answer ImageRefusal Graph) → replace_answer bd known q (compact_call bd known ws len).database computation image ≡ Replacement.Full → Overfull bd image computation ws n
+      full-means : (image : Answer ImageRefusal Graph) → replace_answer bd known q (compact_call bd known ws len).database computation image ≡ Err ReplacementRefusal.Full → Overfull bd image computation ws n
       unfolding replace_answer checked_answer checked_by ok_if
       full-means (refuse x) e = absurd (let z : ◌≡◌ {A = Bool} true false = cc in true≢false z)
       full-means (ok g) e = on (in_graph g (nodes_in ws) (files_in ws)) refl (sym (ap (checked_answer bd known q (compact_call bd known ws len).database computation g) (check-formed g)) ∙ e)
         where
-          on : (b : Bool) → in_graph g (nodes_in ws) (files_in ws) ≡ b → checked_answer bd known q (compact_call bd known ws len).database computation g (checked_by true b (slots_in bd (compact_call bd known ws len).database)) ≡ Replacement.Full → Overfull bd (ok g) computation ws n
+          on : (b : Bool) → in_graph g (nodes_in ws) (files_in ws) ≡ b → checked_answer bd known q (compact_call bd known ws len).database computation g (checked_by true b (slots_in bd (compact_call bd known ws len).database)) ≡ Err ReplacementRefusal.Full → Overfull bd (ok g) computation ws n
           on true h k =
               let f = full-computed bd g q (compact_call bd known ws len).database (computation g) k in
               record { graph = g; accepted = refl; fits = in_graph_lem g (nodes_in ws) (files_in ws) h; state = f.0; computed = f.1; exceeds = no_room f.0 f.2 }
           on false h k = absurd (let z : ◌≡◌ {A = Bool} true false = cc in true≢false z)
 
-      means-full : (image : Answer ImageRefusal Graph) → Overfull bd image computation ws n → replace_answer bd known q (compact_call bd known ws len).database computation image ≡ Replacement.Full
+      means-full : (image : Answer ImageRefusal Graph) → Overfull bd image computation ws n → replace_answer bd known q (compact_call bd known ws len).database computation image ≡ Err ReplacementRefusal.Full
       unfolding replace_answer checked_answer checked_by ok_if
       means-full image o =
           let g = o.graph in
@@ -226,15 +225,15 @@ module _ (bd : Bounds) (known : ℕ → ℕ → Bool) (ws : List ℕ) (len n : �
           ∙ computed-full bd g q w o.state (room-less o.state o.exceeds)
 
     -- 33 EXACTLY WHEN the live slots, also those being replaced, and the new ones exceed the capacity: of a file
-    pub file-full : (image : Answer ImageRefusal Graph) → (replace_call bd known image q (compact_call bd known ws len).database).answer ≡ Replacement.Full → Overfull bd image (of_file bd q) ws n
+    pub file-full : (image : Answer ImageRefusal Graph) → (replace_call bd known image q (compact_call bd known ws len).database).answer ≡ Err ReplacementRefusal.Full → Overfull bd image (of_file bd q) ws n
     file-full image e = full-means (of_file bd q) image (sym (file-answer bd known q (compact_call bd known ws len).database image) ∙ e)
 
-    pub full-file : (image : Answer ImageRefusal Graph) → Overfull bd image (of_file bd q) ws n → (replace_call bd known image q (compact_call bd known ws len).database).answer ≡ Replacement.Full
+    pub full-file : (image : Answer ImageRefusal Graph) → Overfull bd image (of_file bd q) ws n → (replace_call bd known image q (compact_call bd known ws len).database).answer ≡ Err ReplacementRefusal.Full
     full-file image o = file-answer bd known q (compact_call bd known ws len).database image ∙ means-full (of_file bd q) image o
 
     -- and of the alias set
-    pub aliases-full : (image : Answer ImageRefusal Graph) → (alias_call bd known image q (compact_call bd known ws len).database).answer ≡ Replacement.Full → Overfull bd image (of_aliases bd q) ws n
+    pub aliases-full : (image : Answer ImageRefusal Graph) → (alias_call bd known image q (compact_call bd known ws len).database).answer ≡ Err ReplacementRefusal.Full → Overfull bd image (of_aliases bd q) ws n
     aliases-full image e = full-means (of_aliases bd q) image (sym (alias-answer bd known q (compact_call bd known ws len).database image) ∙ e)
 
-    pub full-aliases : (image : Answer ImageRefusal Graph) → Overfull bd image (of_aliases bd q) ws n → (alias_call bd known image q (compact_call bd known ws len).database).answer ≡ Replacement.Full
+    pub full-aliases : (image : Answer ImageRefusal Graph) → Overfull bd image (of_aliases bd q) ws n → (alias_call bd known image q (compact_call bd known ws len).database).answer ≡ Err ReplacementRefusal.Full
     full-aliases image o = alias-answer bd known q (compact_call bd known ws len).database image ∙ means-full (of_aliases bd q) image o

@@ -2,19 +2,16 @@
 -- this graph, and one that was made and filed on earlier graphs, as brokers refile daily, as long as it holds no slot of the alias set. One in which
 -- the alias set was replaced too meets that of order 5.
 -- Document 01, "Partial paths", last paragraph, on the public calls and their words; document 02, order 5.
-use Rattle.std.specs.Prelude.{ℕ, ◌<◌, Bool, leb, length}
+use Rattle.std.specs.Prelude.{ℕ, ◌<◌, Bool, leb, length, None, Ok}
 use Rattle.std.proofs.Math.Path.{◌≡◌, refl, ap}
 use Rattle.std.proofs.Common.{sym, ◌∙◌, subst}
 use Rattle.std.proofs.Math.Bool.{true, false, true≢false}
 use mathlib.Core.List.Memᴰ
 use mathlib.Core.List.{List, [], ◌∷◌, Memᴰ}
-use Rattle.semantics.specs.declared.search.Limit.TheVariants.{Absent}
 use Rattle.semantics.specs.declared.search.SearchOrder.{SearchOrder}
 use Rattle.semantics.specs.declared.search.PartialPathStats.{PartialPathStats}
 use Rattle.semantics.specs.declared.refusal.DatabaseRefusal.{DatabaseRefusal}
 use Rattle.semantics.specs.declared.refusal.PartialPathRefusal.{PartialPathRefusal}
-use Rattle.semantics.specs.declared.answer.Creation.TheVariants as Creation
-use Rattle.semantics.specs.declared.answer.Replacement.TheVariants as Replacement
 use Rattle.semantics.specs.Limits.{Bounds, nobody}
 use Rattle.semantics.specs.Answer.{Answer, ok, refuse}
 use Rattle.semantics.specs.Graph.{Graph, view_of}
@@ -33,7 +30,7 @@ use Rattle.semantics.proofs.Theorems.Database.Compaction.Laws.{compact-live, com
 use Rattle.semantics.specs.Calls.{FileRequest, file_setting_of, alias_request, creation_outcome, filing_outcome, computation_outcome, replacement_outcome, alias_outcome, fresh_call, replace_call, alias_call}
 use Rattle.semantics.specs.Calls.Filing.{unlimited, Refiled, begun, refiled, aliased, compacted, Filed}
 
-created-done : (b : Bool) (g : Graph) (words : List ℕ) → (creation_outcome b g words).answer ≡ Creation.Done → (creation_outcome b g words).database ≡ fresh_words g (length words)
+created-done : (b : Bool) (g : Graph) (words : List ℕ) → (creation_outcome b g words).answer ≡ Ok tt → (creation_outcome b g words).database ≡ fresh_words g (length words)
 unfolding creation_outcome
 created-done true g words e = refl
 created-done false g words e = absurd (let z : ◌≡◌ {A = Bool} true false = cc in true≢false z)
@@ -46,12 +43,12 @@ record Replaced (bd : Bounds) (g : Graph) (q : FileRequest) (computation : Answe
   pub checked : Checked bd known_owners g words
 
 module _ (bd : Bounds) (g : Graph) (q : FileRequest) (words : List ℕ) (t : PartialPathStats) where
-  stored-done : (b : Bool) (s : State Route) → (filing_outcome bd b g q words s).answer ≡ Replacement.Done t → replace_words bd g q.file s words ≡ (filing_outcome bd b g q words s).database
+  stored-done : (b : Bool) (s : State Route) → (filing_outcome bd b g q words s).answer ≡ Ok t → replace_words bd g q.file s words ≡ (filing_outcome bd b g q words s).database
   unfolding filing_outcome
   stored-done true s e = refl
   stored-done false s e = absurd (let z : ◌≡◌ {A = Bool} true false = cc in true≢false z)
 
-  computed-done : (a : Answer PartialPathRefusal (State Route)) → Checked bd known_owners g words → (computation_outcome bd g q words a).answer ≡ Replacement.Done t → Replaced bd g q a words (computation_outcome bd g q words a).database
+  computed-done : (a : Answer PartialPathRefusal (State Route)) → Checked bd known_owners g words → (computation_outcome bd g q words a).answer ≡ Ok t → Replaced bd g q a words (computation_outcome bd g q words a).database
   unfolding computation_outcome
   computed-done (ok s) k e = record { state = s; computed = refl; written = stored-done (has_room bd s words) s e; checked = k }
   computed-done (refuse r) k e = absurd (let z : ◌≡◌ {A = Bool} true false = cc in true≢false z)
@@ -62,19 +59,19 @@ module _ (bd : Bounds) (g : Graph) (q : FileRequest) (words : List ℕ) (t : Par
   abbrev of_aliases : Answer PartialPathRefusal (State Route)
   of_aliases = alias_routes bd q.length (file_setting_of bd q) g
 
-  replace-done : (replace_call bd known_owners (ok g) q words).answer ≡ Replacement.Done t → Replaced bd g q of_file words (replace_call bd known_owners (ok g) q words).database
+  replace-done : (replace_call bd known_owners (ok g) q words).answer ≡ Ok t → Replaced bd g q of_file words (replace_call bd known_owners (ok g) q words).database
   unfolding replace_call replacement_outcome
   replace-done e = on (check_database bd known_owners g words) refl e
     where
-      on : (a : Answer DatabaseRefusal (List Slot)) → check_database bd known_owners g words ≡ a → (replacement_outcome bd g q words a).answer ≡ Replacement.Done t → Replaced bd g q of_file words (replacement_outcome bd g q words a).database
+      on : (a : Answer DatabaseRefusal (List Slot)) → check_database bd known_owners g words ≡ a → (replacement_outcome bd g q words a).answer ≡ Ok t → Replaced bd g q of_file words (replacement_outcome bd g q words a).database
       on (ok db) k e = computed-done of_file (checked-words bd known_owners g words db k) e
       on (refuse r) k e = absurd (let z : ◌≡◌ {A = Bool} true false = cc in true≢false z)
 
-  alias-done : (alias_call bd known_owners (ok g) q words).answer ≡ Replacement.Done t → Replaced bd g q of_aliases words (alias_call bd known_owners (ok g) q words).database
+  alias-done : (alias_call bd known_owners (ok g) q words).answer ≡ Ok t → Replaced bd g q of_aliases words (alias_call bd known_owners (ok g) q words).database
   unfolding alias_call alias_outcome
   alias-done e = on (check_database bd known_owners g words) refl e
     where
-      on : (a : Answer DatabaseRefusal (List Slot)) → check_database bd known_owners g words ≡ a → (alias_outcome bd g q words a).answer ≡ Replacement.Done t → Replaced bd g q of_aliases words (alias_outcome bd g q words a).database
+      on : (a : Answer DatabaseRefusal (List Slot)) → check_database bd known_owners g words ≡ a → (alias_outcome bd g q words a).answer ≡ Ok t → Replaced bd g q of_aliases words (alias_outcome bd g q words a).database
       on (ok db) k e = computed-done of_aliases (checked-words bd known_owners g words db k) e
       on (refuse r) k e = absurd (let z : ◌≡◌ {A = Bool} true false = cc in true≢false z)
 
@@ -95,17 +92,17 @@ module _ (bd : Bounds) (g : Graph) (good : accepts g ≡ true) where
     checked = r.checked;
   }
 
-  file-onward : (order : SearchOrder) (work f : ℕ) (words : List ℕ) (t : PartialPathStats) → (replace_call bd known_owners (ok g) (unlimited order work f) words).answer ≡ Replacement.Done t → Onward f words (replace_call bd known_owners (ok g) (unlimited order work f) words).database
+  file-onward : (order : SearchOrder) (work f : ℕ) (words : List ℕ) (t : PartialPathStats) → (replace_call bd known_owners (ok g) (unlimited order work f) words).answer ≡ Ok t → Onward f words (replace_call bd known_owners (ok g) (unlimited order work f) words).database
   file-onward order work f words t e =
       let q = unlimited order work f in
       let r = replace-done bd g q words t e in
-      let p = file-partials bd Absent (file_setting_of bd q) g f r.state r.computed in
+      let p = file-partials bd None (file_setting_of bd q) g f r.state r.computed in
       onward q _ words _ r (of-file f (file_setting_of bd q) p.0 p.1 refl refl)
 
-  alias-onward : (order : SearchOrder) (work : ℕ) (words : List ℕ) (t : PartialPathStats) → (alias_call bd known_owners (ok g) (alias_request order Absent Absent work) words).answer ≡ Replacement.Done t
-      → Onward nobody words (alias_call bd known_owners (ok g) (alias_request order Absent Absent work) words).database
+  alias-onward : (order : SearchOrder) (work : ℕ) (words : List ℕ) (t : PartialPathStats) → (alias_call bd known_owners (ok g) (alias_request order None None work) words).answer ≡ Ok t
+      → Onward nobody words (alias_call bd known_owners (ok g) (alias_request order None None work) words).database
   alias-onward order work words t e =
-      let q = alias_request order Absent Absent work in
+      let q = alias_request order None None work in
       let r = alias-done bd g q words t e in
       onward q _ words _ r (of-aliases (file_setting_of bd q) r.computed refl refl)
 
@@ -142,14 +139,14 @@ module _ (bd : Bounds) (g : Graph) (good : accepts g ≡ true) where
   still-none (aliased order work t b e) none out = absurd (out (Memᴰ.head refl))
   still-none (compacted {words = words} len b) none out = same_none (compact-live bd known_owners words len) (still-none b none out)
 
-  fresh-none : (lent : List ℕ) → (fresh_call (ok g) lent).answer ≡ Creation.Done → slots_in bd (fresh_call (ok g) lent).database ≡ []
+  fresh-none : (lent : List ℕ) → (fresh_call (ok g) lent).answer ≡ Ok tt → slots_in bd (fresh_call (ok g) lent).database ≡ []
   unfolding fresh_call
   fresh-none lent e = ap (slots_in bd) (created-done (leb 3 (length lent)) g lent e) ∙ fresh-slots bd g (length lent)
 
-  fresh-owners : (lent : List ℕ) → (fresh_call (ok g) lent).answer ≡ Creation.Done → OwnersIn g (slots_in bd (fresh_call (ok g) lent).database)
+  fresh-owners : (lent : List ℕ) → (fresh_call (ok g) lent).answer ≡ Ok tt → OwnersIn g (slots_in bd (fresh_call (ok g) lent).database)
   fresh-owners lent e f s t es m = absurd (Memᴰ.not-nil (subst (λ (db : List Slot). Memᴰ (slot f s t es) db) (fresh-none lent e) m))
 
-  fresh-aliases : (lent : List ℕ) → (fresh_call (ok g) lent).answer ≡ Creation.Done → NoAliases (slots_in bd (fresh_call (ok g) lent).database)
+  fresh-aliases : (lent : List ℕ) → (fresh_call (ok g) lent).answer ≡ Ok tt → NoAliases (slots_in bd (fresh_call (ok g) lent).database)
   fresh-aliases lent e s t es m = Memᴰ.not-nil (subst (λ (db : List Slot). Memᴰ (slot nobody s t es) db) (fresh-none lent e) m)
 
   pub filed-none : (words done : List ℕ) → Filed bd (ok g) words done → (Memᴰ nobody done → ⊥) → NoAliases (slots_in bd words)

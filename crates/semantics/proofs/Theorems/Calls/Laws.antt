@@ -5,14 +5,12 @@ use Rattle.std.proofs.Common.{arith, mul-le-mul_left, le_trans, sym, ◌∙◌, 
 use Rattle.std.proofs.Math.Path.{refl}
 use mathlib.Core.List.{List, [], ◌∷◌, Memᴰ}
 use Rattle.std.proofs.Math.ListN.{length, length-replicate}
-use Rattle.semantics.specs.declared.search.Limit.{Limit}
 use Rattle.semantics.specs.declared.search.SearchStats.{SearchStats}
 use Rattle.semantics.specs.declared.refusal.ImageRefusal.{ImageRefusal}
 use Rattle.semantics.specs.declared.refusal.DatabaseRefusal.{DatabaseRefusal}
 use Rattle.semantics.specs.declared.refusal.SearchRefusal.{SearchRefusal}
 use Rattle.semantics.specs.declared.refusal.SearchRefusal.TheVariants as Search
-use Rattle.semantics.specs.declared.answer.Resolution.{Resolution}
-use Rattle.semantics.specs.Limits.{Bounds, slot_words}
+use Rattle.semantics.specs.Limits.{Bounds, slot_words, Limit}
 use Rattle.semantics.specs.Answer.{Answer, ok, refuse}
 use Rattle.semantics.specs.Answer.Laws.{ok-inj}
 use Rattle.semantics.specs.Graph.{Graph, View, view_of}
@@ -39,6 +37,8 @@ use Rattle.semantics.specs.Calls.{Request, Outcome, setting_of, search_outcome, 
 use Rattle.semantics.proofs.Theorems.Demand.Laws.{demand-slots}
 use Rattle.semantics.proofs.Theorems.Demand.Aliases.{suited-all, demand-slots-all}
 use Rattle.semantics.proofs.Theorems.Acceptance.Laws.{suited}
+use Rattle.semantics.specs.PublicAnswers.{Resolution, resolved}
+use Rattle.semantics.proofs.Theorems.PublicAnswers.{resolved-stats}
 
 -- THE SLOTS HOLD THE RECORDED LISTS
 pub valid-fits : (bd : Bounds) (lim : Limit) (g : View) (r : ℕ) (l : List ℕ) → Valid bd lim g r l → Fits bd.edges l
@@ -77,17 +77,17 @@ record Answered (bd : Bounds) (len : ℕ) (a : Answer SearchRefusal (State Path)
   pub stats : report_of state ≡ t
   pub result : o.result ≡ area (slot_words bd) len (edge_lists (recorded state))
 
-searched-done : (bd : Bounds) (q : Request) (n : ℕ) (t : SearchStats) (a : Answer SearchRefusal (State Path)) → (search_outcome bd recorded q a).answer ≡ Resolution.Done n t → Answered bd q.result a t (search_outcome bd recorded q a)
+searched-done : (bd : Bounds) (q : Request) (n : ℕ) (t : SearchStats) (a : Answer SearchRefusal (State Path)) → (search_outcome bd recorded q a).answer ≡ resolved n t → Answered bd q.result a t (search_outcome bd recorded q a)
 unfolding search_outcome
-searched-done bd q n t (ok s) e = record { state = s; found = refl; stats = cc; result = refl }
+searched-done bd q n t (ok s) e = record { state = s; found = refl; stats = resolved-stats (length (recorded s)) n (report_of s) t e; result = refl }
 searched-done bd q n t (refuse r) e = absurd (let z : ◌≡◌ {A = Bool} true false = cc in true≢false z)
 
-stitched-done : (bd : Bounds) (known : ℕ → ℕ → Bool) (see : ℕ → Bool) (g : Graph) (words : List ℕ) (q : Request) (n : ℕ) (t : SearchStats) → (stitched_call bd recorded known see (ok g) words q).answer ≡ Resolution.Done n t
+stitched-done : (bd : Bounds) (known : ℕ → ℕ → Bool) (see : ℕ → Bool) (g : Graph) (words : List ℕ) (q : Request) (n : ℕ) (t : SearchStats) → (stitched_call bd recorded known see (ok g) words q).answer ≡ resolved n t
     → Answered bd q.result (stitched bd q.limits.length (setting_of bd q) (view_of g) (seen_slots see (slots_in bd words)) q.node) t (stitched_call bd recorded known see (ok g) words q)
 unfolding stitched_call stitched_outcome
 stitched-done bd known see g words q n t e = on (check_database bd known g words) refl e
   where
-    on : (a : Answer DatabaseRefusal (List Slot)) → check_database bd known g words ≡ a → (stitched_outcome bd recorded see g q a).answer ≡ Resolution.Done n t
+    on : (a : Answer DatabaseRefusal (List Slot)) → check_database bd known g words ≡ a → (stitched_outcome bd recorded see g q a).answer ≡ resolved n t
         → Answered bd q.result (stitched bd q.limits.length (setting_of bd q) (view_of g) (seen_slots see (slots_in bd words)) q.node) t (stitched_outcome bd recorded see g q a)
     on (ok db) k h =
         subst (λ x. Answered bd q.result (stitched bd q.limits.length (setting_of bd q) (view_of g) (seen_slots see x) q.node) t (stitched_outcome bd recorded see g q (ok db))) (sym (checked bd known g words db k))
@@ -121,8 +121,8 @@ stitched-slots O bd see g words q u good holds h e =
 
 -- same accepted graph and reference, the same length limit; neither call was refused or set its path-count or complete-count flag
 module _ (bd : Bounds) (see : ℕ → Bool) (g : Graph) (good : accepts g ≡ true) (q q' : Request) (words : List ℕ) (node : q.node ≡ q'.node) (limit : q.limits.length ≡ q'.limits.length) (n n' : ℕ) (t t' : SearchStats)
-    (hd : (direct_call bd recorded (ok g) q).answer ≡ Resolution.Done n t) (dn : t.count_limited ≡ false) (dk : t.complete_limited ≡ false)
-    (hs : (stitched_call bd recorded known_owners see (ok g) words q').answer ≡ Resolution.Done n' t') (sn : t'.count_limited ≡ false) (sk : t'.complete_limited ≡ false) where
+    (hd : (direct_call bd recorded (ok g) q).answer ≡ resolved n t) (dn : t.count_limited ≡ false) (dk : t.complete_limited ≡ false)
+    (hs : (stitched_call bd recorded known_owners see (ok g) words q').answer ≡ resolved n' t') (sn : t'.count_limited ≡ false) (sk : t'.complete_limited ≡ false) where
   directed : Answered bd q.result (direct bd q.limits.length (setting_of bd q) (view_of g) q.node) t (direct_call bd recorded (ok g) q)
   unfolding direct_call
   directed = searched-done bd q n t (direct bd q.limits.length (setting_of bd q) (view_of g) q.node) hd

@@ -8,7 +8,6 @@ use Rattle.std.proofs.Math.Bool.{true, false, true≢false}
 use Rattle.semantics.specs.declared.search.SearchStats.{SearchStats}
 use Rattle.semantics.specs.declared.refusal.SearchRefusal.{SearchRefusal}
 use Rattle.semantics.specs.declared.refusal.ImageRefusal.{ImageRefusal}
-use Rattle.semantics.specs.declared.answer.Resolution.TheVariants as Resolution
 use Rattle.semantics.specs.Limits.{Bounds}
 use Rattle.semantics.specs.Answer.{Answer, ok, refuse}
 use Rattle.semantics.specs.Graph.{Graph, view_of}
@@ -18,6 +17,8 @@ use Rattle.semantics.specs.Enumeration.Statistics.{Balanced, bit}
 use Rattle.semantics.specs.Direct.{direct}
 use Rattle.semantics.proofs.Theorems.Direct.Laws.{direct-balanced}
 use Rattle.semantics.specs.Calls.{Request, setting_of, search_outcome, direct_call}
+use Rattle.semantics.specs.PublicAnswers.{resolved}
+use Rattle.semantics.proofs.Theorems.PublicAnswers.{resolved-stats}
 
 -- what no call returns: edges looked at, length refusals, pushes without the start, paths still waiting
 pub record Unreturned : Type 0 where
@@ -47,13 +48,13 @@ balanced-identities : (u : State Path) → Balanced 1 u → Identities (report_o
 balanced-identities u b = record { looks = omega (arith, b.outcome, b.begun); pushes = omega (arith, b.pushes, b.begun) }
 
 module _ (bd : Bounds) (reply : State Path → List Path) where
-  pub searched-done : (q : Request) (n : ℕ) (t : SearchStats) (a : Answer SearchRefusal (State Path)) → (search_outcome bd reply q a).answer ≡ Resolution.Done n t → (u : State Path) × (a ≡ ok u) × (report_of u ≡ t)
+  pub searched-done : (q : Request) (n : ℕ) (t : SearchStats) (a : Answer SearchRefusal (State Path)) → (search_outcome bd reply q a).answer ≡ resolved n t → (u : State Path) × (a ≡ ok u) × (report_of u ≡ t)
   unfolding search_outcome
-  searched-done q n t (ok s) e = (s, refl, cc)
+  searched-done q n t (ok s) e = (s, refl, resolved-stats (length (reply s)) n (report_of s) t e)
   searched-done q n t (refuse r) e = absurd (let z : ◌≡◌ {A = Bool} true false = cc in true≢false z)
 
   -- whatever paths it returns
-  pub direct-identities : (image : Answer ImageRefusal Graph) (q : Request) (n : ℕ) (t : SearchStats) → (direct_call bd reply image q).answer ≡ Resolution.Done n t → Behind bd image q t
+  pub direct-identities : (image : Answer ImageRefusal Graph) (q : Request) (n : ℕ) (t : SearchStats) → (direct_call bd reply image q).answer ≡ resolved n t → Behind bd image q t
   unfolding direct_call
   direct-identities (ok g) q n t e =
       let r = searched-done q n t (direct bd q.limits.length (setting_of bd q) (view_of g) q.node) e in

@@ -1,10 +1,9 @@
 -- THE WAITING FIGURE OF A CALL: from the figure that an unrefused call tells, its answer with any other work area is known. As many slots as the
 -- figure are enough: the same answer and the same words. With fewer the call is 31. So an operator lends exactly the figure. Document 02, order 2.
-use Rattle.std.specs.Prelude.{ℕ, ◌≤◌, ◌<◌, Bool, List, [], ◌∷◌, ltb}
+use Rattle.std.specs.Prelude.{ℕ, ◌≤◌, ◌<◌, Bool, List, [], ◌∷◌, ltb, Err, Ok}
 use Rattle.std.proofs.Common.{arith, sym, ⊎_elim}
 use Rattle.std.proofs.Math.Path.{◌≡◌, refl, subst}
 use Rattle.std.proofs.Math.Bool.{true, false, true≢false}
-use Rattle.semantics.specs.declared.search.Limit.{Limit}
 use Rattle.semantics.specs.declared.search.SearchStats.{SearchStats}
 use Rattle.semantics.specs.declared.search.PartialPathStats.{PartialPathStats}
 use Rattle.semantics.specs.declared.refusal.ImageRefusal.{ImageRefusal}
@@ -13,9 +12,7 @@ use Rattle.semantics.specs.declared.refusal.SearchRefusal.{SearchRefusal}
 use Rattle.semantics.specs.declared.refusal.SearchRefusal.TheVariants as Search
 use Rattle.semantics.specs.declared.refusal.PartialPathRefusal.{PartialPathRefusal}
 use Rattle.semantics.specs.declared.refusal.PartialPathRefusal.TheVariants as Partial
-use Rattle.semantics.specs.declared.answer.Resolution.{Resolution}
-use Rattle.semantics.specs.declared.answer.Replacement.{Replacement}
-use Rattle.semantics.specs.Limits.{Bounds, slot_words, nobody}
+use Rattle.semantics.specs.Limits.{Bounds, slot_words, nobody, Limit}
 use Rattle.semantics.specs.Answer.{Answer, ok, refuse, and_then, wrap}
 use Rattle.semantics.specs.Answer.Laws.{refuse-ok}
 use Rattle.semantics.specs.Graph.{Graph, View, view_of}
@@ -30,6 +27,9 @@ use Rattle.semantics.specs.Words.{whole_slots}
 use Rattle.semantics.specs.Database.{check_database, has_room}
 use Rattle.semantics.proofs.Theorems.Calls.Statistics.{searched-done}
 use Rattle.semantics.specs.Calls.{Request, FileRequest, Outcome, Change, Reply, setting_of, file_setting_of, refused, unaltered, search_outcome, direct_call, stitched_outcome, stitched_call, filing_outcome, computation_outcome, replacement_outcome, replace_call, alias_outcome, alias_call}
+use Rattle.semantics.specs.PublicAnswers.{Replacement, Resolution, resolved}
+use Rattle.semantics.specs.declared.answer.ReplacementRefusal.{ReplacementRefusal}
+use Rattle.semantics.specs.declared.answer.ResolutionRefusal.{ResolutionRefusal}
 
 -- the waiting slots in so many words of work area
 abbrev pub slots_for : Bounds → ℕ → ℕ
@@ -45,12 +45,12 @@ lending_file work q = record { order = q.order; length = q.length; expansions = 
 -- what a search answers with n slots, where it answered `before` with the figure f: the same paths, number and statistics, or 31
 abbrev pub SearchWith : ℕ → ℕ → Request → (before after : Outcome Resolution) → Type 0
 SearchWith f n q before after =
-    (f ≤ n → (after.answer ≡ before.answer) × (after.result ≡ before.result)) × (n < f → after ≡ refused q (Resolution.Refused Search.NoWaitingSlot))
+    (f ≤ n → (after.answer ≡ before.answer) × (after.result ≡ before.result)) × (n < f → after ≡ refused q (Err (ResolutionRefusal.Refused Search.NoWaitingSlot)))
 
 -- the same of a replacement: the same statistics and the same database, or 31 and the database unaltered
 abbrev pub FilingWith : ℕ → ℕ → FileRequest → List ℕ → (before after : Change Replacement) → Type 0
 FilingWith f n q words before after =
-    (f ≤ n → (after.answer ≡ before.answer) × (after.database ≡ before.database)) × (n < f → after ≡ unaltered q words (Replacement.Refused Partial.NoWaitingSlot))
+    (f ≤ n → (after.answer ≡ before.answer) × (after.database ≡ before.database)) × (n < f → after ≡ unaltered q words (Err (ReplacementRefusal.Refused Partial.NoWaitingSlot)))
 
 -- ---- the searches with other slots
 
@@ -87,7 +87,7 @@ module _ (bd : Bounds) (reply : Reply) (q : Request) (work : ℕ) where
 -- ---- THE CALLS
 
 module _ (bd : Bounds) (reply : Reply) where
-  pub direct-waiting : (image : Answer ImageRefusal Graph) (q : Request) (n : ℕ) (t : SearchStats) → (direct_call bd reply image q).answer ≡ Resolution.Done n t → (work : ℕ)
+  pub direct-waiting : (image : Answer ImageRefusal Graph) (q : Request) (n : ℕ) (t : SearchStats) → (direct_call bd reply image q).answer ≡ resolved n t → (work : ℕ)
       → SearchWith t.waited (slots_for bd work) (lending work q) (direct_call bd reply image q) (direct_call bd reply image (lending work q))
   unfolding direct_call
   direct-waiting (ok g) q n t e work =
@@ -98,7 +98,7 @@ module _ (bd : Bounds) (reply : Reply) where
       (searched-other bd reply q work x.0 t x.2 (direct bd lim (setting_of bd (lending work q)) (view_of g) q.node) k)
   direct-waiting (refuse r) q n t e work = absurd (let z : ◌≡◌ {A = Bool} true false = cc in true≢false z)
 
-  stitched-found : (see : ℕ → Bool) (g : Graph) (q : Request) (n : ℕ) (t : SearchStats) (db : List Slot) → (stitched_outcome bd reply see g q (ok db)).answer ≡ Resolution.Done n t → (work : ℕ)
+  stitched-found : (see : ℕ → Bool) (g : Graph) (q : Request) (n : ℕ) (t : SearchStats) (db : List Slot) → (stitched_outcome bd reply see g q (ok db)).answer ≡ resolved n t → (work : ℕ)
       → SearchWith t.waited (slots_for bd work) (lending work q) (stitched_outcome bd reply see g q (ok db)) (stitched_outcome bd reply see g (lending work q) (ok db))
   unfolding stitched_outcome
   stitched-found see g q n t db e work =
@@ -108,12 +108,12 @@ module _ (bd : Bounds) (reply : Reply) where
       subst (λ (a : Answer SearchRefusal (State Path)). SearchWith t.waited (slots_for bd work) (lending work q) (search_outcome bd reply q a) (stitched_outcome bd reply see g (lending work q) (ok db))) (sym x.1)
       (searched-other bd reply q work x.0 t x.2 (stitched bd lim (setting_of bd (lending work q)) (view_of g) (seen_slots see db) q.node) k)
 
-  pub stitched-waiting : (known : ℕ → ℕ → Bool) (see : ℕ → Bool) (image : Answer ImageRefusal Graph) (words : List ℕ) (q : Request) (n : ℕ) (t : SearchStats) → (stitched_call bd reply known see image words q).answer ≡ Resolution.Done n t → (work : ℕ)
+  pub stitched-waiting : (known : ℕ → ℕ → Bool) (see : ℕ → Bool) (image : Answer ImageRefusal Graph) (words : List ℕ) (q : Request) (n : ℕ) (t : SearchStats) → (stitched_call bd reply known see image words q).answer ≡ resolved n t → (work : ℕ)
       → SearchWith t.waited (slots_for bd work) (lending work q) (stitched_call bd reply known see image words q) (stitched_call bd reply known see image words (lending work q))
   unfolding stitched_call stitched_outcome
   stitched-waiting known see (ok g) words q n t e work = on (check_database bd known g words) e
     where
-      on : (a : Answer DatabaseRefusal (List Slot)) → (stitched_outcome bd reply see g q a).answer ≡ Resolution.Done n t → SearchWith t.waited (slots_for bd work) (lending work q) (stitched_outcome bd reply see g q a) (stitched_outcome bd reply see g (lending work q) a)
+      on : (a : Answer DatabaseRefusal (List Slot)) → (stitched_outcome bd reply see g q a).answer ≡ resolved n t → SearchWith t.waited (slots_for bd work) (lending work q) (stitched_outcome bd reply see g q a) (stitched_outcome bd reply see g (lending work q) a)
       on (ok db) h = stitched-found see g q n t db h work
       on (refuse r) h = absurd (let z : ◌≡◌ {A = Bool} true false = cc in true≢false z)
   stitched-waiting known see (refuse r) words q n t e work = absurd (let z : ◌≡◌ {A = Bool} true false = cc in true≢false z)
@@ -139,11 +139,11 @@ module _ (bd : Bounds) (g : Graph) (q : FileRequest) (words : List ℕ) (work : 
   unfolding alias_routes partials
   aliases-other u e = waiting-other (file_setting_of bd q) (slots_for bd q.work) (slots_for bd work) Partial.NoWaitingSlot (route_tries bd q.length (view_of g) (owned_by (view_of g) nobody)) bd.expansions (route_at 0 ∷ []) u e
 
-  computed-done : (a : Answer PartialPathRefusal (State Route)) (t : PartialPathStats) → (computation_outcome bd g q words a).answer ≡ Replacement.Done t → (u : State Route) × (a ≡ ok u) × (has_room bd u words ≡ true) × (partial_stats u ≡ t)
+  computed-done : (a : Answer PartialPathRefusal (State Route)) (t : PartialPathStats) → (computation_outcome bd g q words a).answer ≡ Ok t → (u : State Route) × (a ≡ ok u) × (has_room bd u words ≡ true) × (partial_stats u ≡ t)
   unfolding computation_outcome filing_outcome
   computed-done (ok u) t e = on (has_room bd u words) refl e
     where
-      on : (b : Bool) → has_room bd u words ≡ b → (filing_outcome bd b g q words u).answer ≡ Replacement.Done t → (x : State Route) × (◌≡◌ {A = Answer PartialPathRefusal (State Route)} (ok u) (ok x)) × (has_room bd x words ≡ true) × (partial_stats x ≡ t)
+      on : (b : Bool) → has_room bd u words ≡ b → (filing_outcome bd b g q words u).answer ≡ Ok t → (x : State Route) × (◌≡◌ {A = Answer PartialPathRefusal (State Route)} (ok u) (ok x)) × (has_room bd x words ≡ true) × (partial_stats x ≡ t)
       on true k h = (u, refl, k, cc)
       on false k h = absurd (let z : ◌≡◌ {A = Bool} true false = cc in true≢false z)
   computed-done (refuse r) t e = absurd (let z : ◌≡◌ {A = Bool} true false = cc in true≢false z)
@@ -164,29 +164,29 @@ module _ (bd : Bounds) (g : Graph) (q : FileRequest) (words : List ℕ) (work : 
 
   -- of a computation with these slots and with others
   computed-waiting : (with-these with-others : Answer PartialPathRefusal (State Route)) → ((u : State Route) → with-these ≡ ok u → WithSlots (slots_for bd work) Partial.NoWaitingSlot u with-others)
-      → (t : PartialPathStats) → (computation_outcome bd g q words with-these).answer ≡ Replacement.Done t
+      → (t : PartialPathStats) → (computation_outcome bd g q words with-these).answer ≡ Ok t
       → FilingWith t.waited (slots_for bd work) (lending_file work q) words (computation_outcome bd g q words with-these) (computation_outcome bd g (lending_file work q) words with-others)
   computed-waiting these others other t e =
       let x = computed-done these t e in
       subst (λ (a : Answer PartialPathRefusal (State Route)). FilingWith t.waited (slots_for bd work) (lending_file work q) words (computation_outcome bd g q words a) (computation_outcome bd g (lending_file work q) words others)) (sym x.1)
       (computed-other x.0 t x.3 others (other x.0 x.1))
 
-pub replace-waiting : (bd : Bounds) (known : ℕ → ℕ → Bool) (image : Answer ImageRefusal Graph) (q : FileRequest) (words : List ℕ) (t : PartialPathStats) → (replace_call bd known image q words).answer ≡ Replacement.Done t → (work : ℕ)
+pub replace-waiting : (bd : Bounds) (known : ℕ → ℕ → Bool) (image : Answer ImageRefusal Graph) (q : FileRequest) (words : List ℕ) (t : PartialPathStats) → (replace_call bd known image q words).answer ≡ Ok t → (work : ℕ)
     → FilingWith t.waited (slots_for bd work) (lending_file work q) words (replace_call bd known image q words) (replace_call bd known image (lending_file work q) words)
 unfolding replace_call replacement_outcome
 replace-waiting bd known (ok g) q words t e work = on (check_database bd known g words) e
   where
-    on : (a : Answer DatabaseRefusal (List Slot)) → (replacement_outcome bd g q words a).answer ≡ Replacement.Done t → FilingWith t.waited (slots_for bd work) (lending_file work q) words (replacement_outcome bd g q words a) (replacement_outcome bd g (lending_file work q) words a)
+    on : (a : Answer DatabaseRefusal (List Slot)) → (replacement_outcome bd g q words a).answer ≡ Ok t → FilingWith t.waited (slots_for bd work) (lending_file work q) words (replacement_outcome bd g q words a) (replacement_outcome bd g (lending_file work q) words a)
     on (ok db) h = computed-waiting bd g q words work (computed bd g q words work q) (computed bd g q words work (lending_file work q)) (partials-other bd g q words work) t h
     on (refuse r) h = absurd (let z : ◌≡◌ {A = Bool} true false = cc in true≢false z)
 replace-waiting bd known (refuse r) q words t e work = absurd (let z : ◌≡◌ {A = Bool} true false = cc in true≢false z)
 
-pub alias-waiting : (bd : Bounds) (known : ℕ → ℕ → Bool) (image : Answer ImageRefusal Graph) (q : FileRequest) (words : List ℕ) (t : PartialPathStats) → (alias_call bd known image q words).answer ≡ Replacement.Done t → (work : ℕ)
+pub alias-waiting : (bd : Bounds) (known : ℕ → ℕ → Bool) (image : Answer ImageRefusal Graph) (q : FileRequest) (words : List ℕ) (t : PartialPathStats) → (alias_call bd known image q words).answer ≡ Ok t → (work : ℕ)
     → FilingWith t.waited (slots_for bd work) (lending_file work q) words (alias_call bd known image q words) (alias_call bd known image (lending_file work q) words)
 unfolding alias_call alias_outcome
 alias-waiting bd known (ok g) q words t e work = on (check_database bd known g words) e
   where
-    on : (a : Answer DatabaseRefusal (List Slot)) → (alias_outcome bd g q words a).answer ≡ Replacement.Done t → FilingWith t.waited (slots_for bd work) (lending_file work q) words (alias_outcome bd g q words a) (alias_outcome bd g (lending_file work q) words a)
+    on : (a : Answer DatabaseRefusal (List Slot)) → (alias_outcome bd g q words a).answer ≡ Ok t → FilingWith t.waited (slots_for bd work) (lending_file work q) words (alias_outcome bd g q words a) (alias_outcome bd g (lending_file work q) words a)
     on (ok db) h = computed-waiting bd g q words work (computed_aliases bd g q words work q) (computed_aliases bd g q words work (lending_file work q)) (aliases-other bd g q words work) t h
     on (refuse r) h = absurd (let z : ◌≡◌ {A = Bool} true false = cc in true≢false z)
 alias-waiting bd known (refuse r) q words t e work = absurd (let z : ◌≡◌ {A = Bool} true false = cc in true≢false z)

@@ -8,7 +8,6 @@ use mathlib.Core.List.{List, Memᴰ}
 use Rattle.semantics.specs.declared.search.SearchStats.{SearchStats}
 use Rattle.semantics.specs.declared.refusal.ImageRefusal.{ImageRefusal}
 use Rattle.semantics.specs.declared.refusal.DatabaseRefusal.{DatabaseRefusal}
-use Rattle.semantics.specs.declared.answer.Resolution.{Resolution}
 use Rattle.semantics.specs.Limits.{Bounds, nobody}
 use Rattle.semantics.specs.Answer.{Answer, ok, refuse}
 use Rattle.semantics.specs.Answer.Laws.{ok-inj}
@@ -35,6 +34,7 @@ use Rattle.semantics.proofs.Theorems.Calls.Statistics.{direct-identities}
 use Rattle.semantics.specs.Calls.Filing.{Refiled, Filed}
 use Rattle.semantics.proofs.Theorems.Calls.Filing.{refiled-visible, filed-visible, aliases-visible}
 use Rattle.semantics.specs.Calls.Whole.{recorded_set, Finished, Premises, Refiling, AliasPremises, AliasRefiling, direct_recorded, stitched_recorded}
+use Rattle.semantics.specs.PublicAnswers.{resolved}
 
 -- `see` are the files that are visible to both
 module _ (w : ℕ → ℕ) (bd : Bounds) (see : ℕ → Bool) where
@@ -71,7 +71,7 @@ module _ (w : ℕ → ℕ) (bd : Bounds) (see : ℕ → Bool) where
   unfolding stitched_call stitched_outcome
   stitched-checked g words q f = on (check_database bd known_owners (seen see g) words) refl f.answered
     where
-      on : (a : Answer DatabaseRefusal (List Slot)) → check_database bd known_owners (seen see g) words ≡ a → (stitched_outcome bd recorded see (seen see g) q a).answer ≡ Resolution.Done f.paths f.stats → Checked bd known_owners g words
+      on : (a : Answer DatabaseRefusal (List Slot)) → check_database bd known_owners (seen see g) words ≡ a → (stitched_outcome bd recorded see (seen see g) q a).answer ≡ resolved f.paths f.stats → Checked bd known_owners g words
       on (ok db) k e = checked-words bd known_owners g words db (sym (seen-checked bd known_owners see g words) ∙ k)
       on (refuse r) k e = absurd (let z : ◌≡◌ {A = Bool} true false = cc in true≢false z)
 

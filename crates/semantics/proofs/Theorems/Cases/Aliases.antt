@@ -1,7 +1,6 @@
 -- The alias set: which edges it takes, from where, in which order; its limits, figure and bounds; what 35 says of its slots; every word of its
 -- replacement; what stitched search makes of it. Document 02, order 5.
-use Rattle.std.specs.Prelude.{ℕ, ◌+◌, ◌-◌, ◌*◌, refl, List, [], ◌∷◌, take, replicate}
-use Rattle.semantics.specs.declared.search.Limit.TheVariants.{Absent, AtMost}
+use Rattle.std.specs.Prelude.{ℕ, ◌+◌, ◌-◌, ◌*◌, refl, List, [], ◌∷◌, take, replicate, None, Some}
 use Rattle.semantics.specs.declared.search.SearchOrder.{SearchOrder}
 use Rattle.semantics.specs.declared.search.SearchOrder.TheVariants.{BreadthFirst, DepthFirst}
 use Rattle.semantics.specs.Limits.{base, max_edges, slot_length, record_length}
@@ -21,45 +20,45 @@ unfolding aliases_in
 sets =
     -- THE EDGES whose ends both lack a file, 1, 3 and 8: neither those with one end in a file nor the removed one. From root alone, whatever references and
     -- exported scopes there are. Every list is one, as root and jump are both endpoints; each root-to-root edge at most once
-    (aliases_in base BreadthFirst Absent Absent 8 9 aliases_all gives expansions 10 partials 9 cuts 6 flagged unflagged slots
+    (aliases_in base BreadthFirst None None 8 9 aliases_all gives expansions 10 partials 9 cuts 6 flagged unflagged slots
     (0 ∷ 1 ∷ []) ∷ (0 ∷ 3 ∷ []) ∷ (0 ∷ 8 ∷ []) ∷ (0 ∷ 1 ∷ 3 ∷ []) ∷ (0 ∷ 1 ∷ 8 ∷ []) ∷ (0 ∷ 8 ∷ 1 ∷ []) ∷ (0 ∷ 8 ∷ 3 ∷ []) ∷ (0 ∷ 1 ∷ 8 ∷ 3 ∷ []) ∷ (0 ∷ 8 ∷ 1 ∷ 3 ∷ []) ∷ [])
     -- depth-first the same in another order
-    ∷ (aliases_in base DepthFirst Absent Absent 8 9 aliases_all gives expansions 10 partials 9 cuts 6 flagged unflagged slots
+    ∷ (aliases_in base DepthFirst None None 8 9 aliases_all gives expansions 10 partials 9 cuts 6 flagged unflagged slots
     (0 ∷ 1 ∷ []) ∷ (0 ∷ 3 ∷ []) ∷ (0 ∷ 8 ∷ []) ∷ (0 ∷ 1 ∷ 3 ∷ []) ∷ (0 ∷ 1 ∷ 8 ∷ []) ∷ (0 ∷ 1 ∷ 8 ∷ 3 ∷ []) ∷ (0 ∷ 8 ∷ 1 ∷ []) ∷ (0 ∷ 8 ∷ 3 ∷ []) ∷ (0 ∷ 8 ∷ 1 ∷ 3 ∷ []) ∷ [])
     -- root to root alone, root to jump alone; none: on A the one expansion is root's, though it has a reference and an exported scope
-    ∷ (aliases_in base BreadthFirst Absent Absent 8 8 image_c gives expansions 2 partials 1 cuts 1 flagged unflagged slots (0 ∷ 1 ∷ []) ∷ [])
-    ∷ (aliases_in base BreadthFirst Absent Absent 8 8 hopping gives expansions 2 partials 1 cuts 0 flagged unflagged slots (0 ∷ 3 ∷ []) ∷ [])
-    ∷ (aliases_in base BreadthFirst Absent Absent 8 8 image_a gives expansions 1 partials 0 cuts 0 flagged unflagged slots [])
+    ∷ (aliases_in base BreadthFirst None None 8 8 image_c gives expansions 2 partials 1 cuts 1 flagged unflagged slots (0 ∷ 1 ∷ []) ∷ [])
+    ∷ (aliases_in base BreadthFirst None None 8 8 hopping gives expansions 2 partials 1 cuts 0 flagged unflagged slots (0 ∷ 3 ∷ []) ∷ [])
+    ∷ (aliases_in base BreadthFirst None None 8 8 image_a gives expansions 1 partials 0 cuts 0 flagged unflagged slots [])
     -- on a graph without files it is no 21
-    ∷ (aliases_in base BreadthFirst Absent Absent 8 8 bare gives expansions 4 partials 3 cuts 1 flagged unflagged slots (0 ∷ 0 ∷ []) ∷ (0 ∷ 1 ∷ []) ∷ (0 ∷ 0 ∷ 1 ∷ []) ∷ [])
+    ∷ (aliases_in base BreadthFirst None None 8 8 bare gives expansions 4 partials 3 cuts 1 flagged unflagged slots (0 ∷ 0 ∷ []) ∷ (0 ∷ 1 ∷ []) ∷ (0 ∷ 0 ∷ 1 ∷ []) ∷ [])
     -- LIMITS: on length, which an edge on the path does not meet; on the path count, told by the other flag
-    ∷ (aliases_in base BreadthFirst (AtMost 1) Absent 8 8 aliases_all gives expansions 4 partials 3 cuts 2 flagged (1 ∷ 0 ∷ []) slots (0 ∷ 1 ∷ []) ∷ (0 ∷ 3 ∷ []) ∷ (0 ∷ 8 ∷ []) ∷ [])
-    ∷ (aliases_in base BreadthFirst (AtMost 1) Absent 8 8 image_c gives expansions 2 partials 1 cuts 1 flagged unflagged slots (0 ∷ 1 ∷ []) ∷ [])
-    ∷ (aliases_in base BreadthFirst (AtMost 0) Absent 8 8 image_c gives expansions 1 partials 0 cuts 0 flagged (1 ∷ 0 ∷ []) slots [])
-    ∷ (aliases_in base BreadthFirst Absent (AtMost 0) 8 8 image_c gives expansions 0 partials 0 cuts 0 flagged (0 ∷ 1 ∷ []) slots [])
-    ∷ (aliases_in base BreadthFirst Absent (AtMost 1) 8 8 image_c gives expansions 1 partials 1 cuts 0 flagged (0 ∷ 1 ∷ []) slots (0 ∷ 1 ∷ []) ∷ [])
-    ∷ (aliases_in base BreadthFirst Absent (AtMost 2) 8 8 image_c gives expansions 2 partials 1 cuts 1 flagged unflagged slots (0 ∷ 1 ∷ []) ∷ [])
-    ∷ (aliases_in base BreadthFirst Absent (AtMost 4) 8 8 aliases_all gives expansions 4 partials 7 cuts 2 flagged (0 ∷ 1 ∷ []) slots
+    ∷ (aliases_in base BreadthFirst (Some 1) None 8 8 aliases_all gives expansions 4 partials 3 cuts 2 flagged (1 ∷ 0 ∷ []) slots (0 ∷ 1 ∷ []) ∷ (0 ∷ 3 ∷ []) ∷ (0 ∷ 8 ∷ []) ∷ [])
+    ∷ (aliases_in base BreadthFirst (Some 1) None 8 8 image_c gives expansions 2 partials 1 cuts 1 flagged unflagged slots (0 ∷ 1 ∷ []) ∷ [])
+    ∷ (aliases_in base BreadthFirst (Some 0) None 8 8 image_c gives expansions 1 partials 0 cuts 0 flagged (1 ∷ 0 ∷ []) slots [])
+    ∷ (aliases_in base BreadthFirst None (Some 0) 8 8 image_c gives expansions 0 partials 0 cuts 0 flagged (0 ∷ 1 ∷ []) slots [])
+    ∷ (aliases_in base BreadthFirst None (Some 1) 8 8 image_c gives expansions 1 partials 1 cuts 0 flagged (0 ∷ 1 ∷ []) slots (0 ∷ 1 ∷ []) ∷ [])
+    ∷ (aliases_in base BreadthFirst None (Some 2) 8 8 image_c gives expansions 2 partials 1 cuts 1 flagged unflagged slots (0 ∷ 1 ∷ []) ∷ [])
+    ∷ (aliases_in base BreadthFirst None (Some 4) 8 8 aliases_all gives expansions 4 partials 7 cuts 2 flagged (0 ∷ 1 ∷ []) slots
     (0 ∷ 1 ∷ []) ∷ (0 ∷ 3 ∷ []) ∷ (0 ∷ 8 ∷ []) ∷ (0 ∷ 1 ∷ 3 ∷ []) ∷ (0 ∷ 1 ∷ 8 ∷ []) ∷ (0 ∷ 8 ∷ 1 ∷ []) ∷ (0 ∷ 8 ∷ 3 ∷ []) ∷ [])
-    ∷ (aliases_in base DepthFirst Absent (AtMost 4) 8 8 aliases_all gives expansions 4 partials 6 cuts 3 flagged (0 ∷ 1 ∷ []) slots
+    ∷ (aliases_in base DepthFirst None (Some 4) 8 8 aliases_all gives expansions 4 partials 6 cuts 3 flagged (0 ∷ 1 ∷ []) slots
     (0 ∷ 1 ∷ []) ∷ (0 ∷ 3 ∷ []) ∷ (0 ∷ 8 ∷ []) ∷ (0 ∷ 1 ∷ 3 ∷ []) ∷ (0 ∷ 1 ∷ 8 ∷ []) ∷ (0 ∷ 1 ∷ 8 ∷ 3 ∷ []) ∷ [])
     -- SLOTS AND BOUNDS: 31 without one for root, and as the figure says; 30 at the bound of edges, 36 at that of expansions, with a room of none, so before 33; 33
-    ∷ (aliases_in base BreadthFirst Absent Absent 0 8 image_c gives refused (31 ∷ []))
-    ∷ (aliases_in base BreadthFirst Absent Absent 0 0 image_c gives refused (31 ∷ []))
-    ∷ (aliases_in base BreadthFirst Absent (AtMost 0) 0 8 image_c gives refused (31 ∷ []))
-    ∷ (aliases_in (bounded 1 0) BreadthFirst Absent Absent 0 0 image_c gives refused (31 ∷ []))
-    ∷ (aliases_in base BreadthFirst Absent Absent 1 8 image_c gives expansions 2 partials 1 cuts 1 flagged unflagged slots (0 ∷ 1 ∷ []) ∷ [])
-    ∷ (aliases_in base BreadthFirst Absent Absent 3 9 aliases_all gives refused (31 ∷ []))
-    ∷ (aliases_in (bounded 2 99) BreadthFirst Absent Absent 8 0 aliases_all gives refused (30 ∷ []))
-    ∷ (aliases_in (bounded 2 99) BreadthFirst (AtMost 2) Absent 8 8 aliases_all gives expansions 8 partials 7 cuts 6 flagged (1 ∷ 0 ∷ []) slots
+    ∷ (aliases_in base BreadthFirst None None 0 8 image_c gives refused (31 ∷ []))
+    ∷ (aliases_in base BreadthFirst None None 0 0 image_c gives refused (31 ∷ []))
+    ∷ (aliases_in base BreadthFirst None (Some 0) 0 8 image_c gives refused (31 ∷ []))
+    ∷ (aliases_in (bounded 1 0) BreadthFirst None None 0 0 image_c gives refused (31 ∷ []))
+    ∷ (aliases_in base BreadthFirst None None 1 8 image_c gives expansions 2 partials 1 cuts 1 flagged unflagged slots (0 ∷ 1 ∷ []) ∷ [])
+    ∷ (aliases_in base BreadthFirst None None 3 9 aliases_all gives refused (31 ∷ []))
+    ∷ (aliases_in (bounded 2 99) BreadthFirst None None 8 0 aliases_all gives refused (30 ∷ []))
+    ∷ (aliases_in (bounded 2 99) BreadthFirst (Some 2) None 8 8 aliases_all gives expansions 8 partials 7 cuts 6 flagged (1 ∷ 0 ∷ []) slots
     (0 ∷ 1 ∷ []) ∷ (0 ∷ 3 ∷ []) ∷ (0 ∷ 8 ∷ []) ∷ (0 ∷ 1 ∷ 3 ∷ []) ∷ (0 ∷ 1 ∷ 8 ∷ []) ∷ (0 ∷ 8 ∷ 1 ∷ []) ∷ (0 ∷ 8 ∷ 3 ∷ []) ∷ [])
-    ∷ (aliases_in (bounded 1 9) BreadthFirst Absent Absent 8 8 image_c gives expansions 2 partials 1 cuts 1 flagged unflagged slots (0 ∷ 1 ∷ []) ∷ [])
-    ∷ (aliases_in (bounded 1 1) BreadthFirst Absent Absent 8 0 image_c gives refused (36 ∷ []))
-    ∷ (aliases_in (bounded 1 2) BreadthFirst Absent Absent 8 8 image_c gives expansions 2 partials 1 cuts 1 flagged unflagged slots (0 ∷ 1 ∷ []) ∷ [])
-    ∷ (aliases_in (bounded 1 1) BreadthFirst Absent (AtMost 1) 8 8 image_c gives expansions 1 partials 1 cuts 0 flagged (0 ∷ 1 ∷ []) slots (0 ∷ 1 ∷ []) ∷ [])
-    ∷ (aliases_in base BreadthFirst Absent Absent 8 0 image_c gives refused (33 ∷ []))
-    ∷ (aliases_in base BreadthFirst Absent Absent 8 0 image_a gives expansions 1 partials 0 cuts 0 flagged unflagged slots [])
-    ∷ (aliases_in base BreadthFirst Absent Absent 8 8 aliases_all gives refused (33 ∷ []))
+    ∷ (aliases_in (bounded 1 9) BreadthFirst None None 8 8 image_c gives expansions 2 partials 1 cuts 1 flagged unflagged slots (0 ∷ 1 ∷ []) ∷ [])
+    ∷ (aliases_in (bounded 1 1) BreadthFirst None None 8 0 image_c gives refused (36 ∷ []))
+    ∷ (aliases_in (bounded 1 2) BreadthFirst None None 8 8 image_c gives expansions 2 partials 1 cuts 1 flagged unflagged slots (0 ∷ 1 ∷ []) ∷ [])
+    ∷ (aliases_in (bounded 1 1) BreadthFirst None (Some 1) 8 8 image_c gives expansions 1 partials 1 cuts 0 flagged (0 ∷ 1 ∷ []) slots (0 ∷ 1 ∷ []) ∷ [])
+    ∷ (aliases_in base BreadthFirst None None 8 0 image_c gives refused (33 ∷ []))
+    ∷ (aliases_in base BreadthFirst None None 8 0 image_a gives expansions 1 partials 0 cuts 0 flagged unflagged slots [])
+    ∷ (aliases_in base BreadthFirst None None 8 8 aliases_all gives refused (33 ∷ []))
     ∷ []
 
 pub set_cases : Agreed sets
@@ -70,13 +69,13 @@ set_cases = refl
 pub figures : List (Row (List ℕ))
 unfolding waits_aliasing
 figures =
-    (waits_aliasing BreadthFirst Absent 128 image_c gives 1 ∷ [])
-    ∷ (waits_aliasing BreadthFirst (AtMost 0) 1 image_c gives 1 ∷ [])
-    ∷ (waits_aliasing BreadthFirst Absent 2 bare gives 2 ∷ [])
-    ∷ (waits_aliasing DepthFirst Absent 1 bare gives 31 ∷ [])
-    ∷ (waits_aliasing BreadthFirst (AtMost 4) 4 aliases_all gives 4 ∷ [])
-    ∷ (waits_aliasing BreadthFirst (AtMost 4) 3 aliases_all gives 31 ∷ [])
-    ∷ (waits_aliasing BreadthFirst (AtMost 1) 3 aliases_all gives 3 ∷ [])
+    (waits_aliasing BreadthFirst None 128 image_c gives 1 ∷ [])
+    ∷ (waits_aliasing BreadthFirst (Some 0) 1 image_c gives 1 ∷ [])
+    ∷ (waits_aliasing BreadthFirst None 2 bare gives 2 ∷ [])
+    ∷ (waits_aliasing DepthFirst None 1 bare gives 31 ∷ [])
+    ∷ (waits_aliasing BreadthFirst (Some 4) 4 aliases_all gives 4 ∷ [])
+    ∷ (waits_aliasing BreadthFirst (Some 4) 3 aliases_all gives 31 ∷ [])
+    ∷ (waits_aliasing BreadthFirst (Some 1) 3 aliases_all gives 3 ∷ [])
     ∷ []
 
 pub figure-cases : Agreed figures
@@ -86,7 +85,7 @@ figure-cases = refl
 -- WHAT 35 SAYS OF SUCH SLOTS, on A: F 1, N 6. File 9 is none, so words that are neither 35 nor 34 are answered by 21, which stands behind both
 lent : List ℕ → List ℕ
 unfolding filing
-lent words = told_replacement (filing base (file_request base BreadthFirst Absent Absent 8 9) image_a words).answer
+lent words = told_replacement (filing base (file_request base BreadthFirst None None 8 9) image_a words).answer
 
 -- the stored N and F, and one slot: the first word, start, end, edge count, and a word 8 for each edge that it may have
 abbrev one_slot : ℕ → ℕ → ℕ → ℕ → ℕ → ℕ → List ℕ
@@ -132,7 +131,7 @@ lending-cases = refl
 -- THE ORDER OF REFUSALS: the image, 35, 34, 31 (and 30, 36, as above), 33; what each row asks would be refused by those behind too
 refusing : ℕ → List ℕ → List ℕ → List ℕ
 unfolding aliasing
-refusing waiting im words = told_replacement (aliasing base (aliases_with base BreadthFirst Absent Absent waiting) im words).answer
+refusing waiting im words = told_replacement (aliasing base (aliases_with base BreadthFirst None None waiting) im words).answer
 
 pub refusals : List (Row (List ℕ))
 unfolding refusing filing
@@ -153,9 +152,9 @@ refusals =
     ∷ (refusing 1 image_c (0 ∷ 0 ∷ 0 ∷ zeros record_length) gives 0 ∷ 2 ∷ 1 ∷ 1 ∷ 0 ∷ 0 ∷ 1 ∷ [])
     ∷ (refusing 1 image_c (database_of 2 4 1 (held 65535 3 0 (9 ∷ []) ∷ held 1 2 3 (0 ∷ []) ∷ zeros record_length ∷ [])) gives 0 ∷ 2 ∷ 1 ∷ 1 ∷ 0 ∷ 0 ∷ 1 ∷ [])
     -- and the call that replaces a file has no way to it: 65,534 is a file that is none, also where the set is held
-    ∷ (told_replacement (filing base (file_request base BreadthFirst Absent Absent 8 65534) image_c (0 ∷ 4 ∷ 1 ∷ zeros record_length)).answer gives 21 ∷ 65534 ∷ [])
-    ∷ (told_replacement (filing base (file_request base BreadthFirst Absent Absent 8 65534) image_c (database_of 1 4 1 (held 65535 0 0 (1 ∷ []) ∷ zeros record_length ∷ []))).answer gives 21 ∷ 65534 ∷ [])
-    ∷ (told_replacement (filing base (file_request base BreadthFirst Absent Absent 8 65535) image_c (0 ∷ 4 ∷ 1 ∷ zeros record_length)).answer gives 21 ∷ 65535 ∷ [])
+    ∷ (told_replacement (filing base (file_request base BreadthFirst None None 8 65534) image_c (0 ∷ 4 ∷ 1 ∷ zeros record_length)).answer gives 21 ∷ 65534 ∷ [])
+    ∷ (told_replacement (filing base (file_request base BreadthFirst None None 8 65534) image_c (database_of 1 4 1 (held 65535 0 0 (1 ∷ []) ∷ zeros record_length ∷ []))).answer gives 21 ∷ 65534 ∷ [])
+    ∷ (told_replacement (filing base (file_request base BreadthFirst None None 8 65535) image_c (0 ∷ 4 ∷ 1 ∷ zeros record_length)).answer gives 21 ∷ 65535 ∷ [])
     ∷ []
 
 pub refusal-cases : Agreed refusals
@@ -187,11 +186,11 @@ new_set = 65535 ∷ 0 ∷ 1 ∷ 1 ∷ 2 ∷ zeros (max_edges - 1)
 -- the answer, the work area and the database: of the alias call, and of a file's with two waiting slots
 after_set : ℕ → List ℕ → List ℕ → List (List ℕ)
 unfolding aliasing
-after_set waiting im words = changed_words (aliasing base (aliases_with base BreadthFirst Absent Absent waiting) im words)
+after_set waiting im words = changed_words (aliasing base (aliases_with base BreadthFirst None None waiting) im words)
 
 after_file : ℕ → List ℕ → List (List ℕ)
 unfolding filing
-after_file file words = changed_words (filing base (file_request base BreadthFirst Absent Absent 2 file) small words)
+after_file file words = changed_words (filing base (file_request base BreadthFirst None None 2 file) small words)
 
 pub replacements : List (Row (List (List ℕ)))
 unfolding after_set after_file
@@ -244,7 +243,7 @@ lookup-cases = refl
 -- STITCHED SEARCH WITH THE SET: the recorded paths
 joining : SearchOrder → List ℕ → List ℕ → List (List ℕ)
 unfolding stitched_recorded
-joining order im words = stitched_recorded base (request base order Absent Absent Absent 8 8) im words
+joining order im words = stitched_recorded base (request base order None None None 8 8) im words
 
 pub stitches : List (Row (List (List ℕ)))
 unfolding joining recording aliases_beside replacing first_filed freshly stitched_returned
@@ -257,14 +256,14 @@ stitches =
     -- the set alone leads nowhere from a reference
     ∷ (joining BreadthFirst image_c (aliases_beside image_c (freshly image_c)) gives returned 0 expanded 1 complete 0 rejected 0 cycles 0 flags no_flag paths [])
     -- from root straight to jump: nothing without the set
-    ∷ (recording BreadthFirst Absent Absent Absent hopping gives returned 1 expanded 6 complete 1 rejected 0 cycles 0 flags no_flag paths (0 ∷ 1 ∷ 2 ∷ 3 ∷ 4 ∷ []) ∷ [])
+    ∷ (recording BreadthFirst None None None hopping gives returned 1 expanded 6 complete 1 rejected 0 cycles 0 flags no_flag paths (0 ∷ 1 ∷ 2 ∷ 3 ∷ 4 ∷ []) ∷ [])
     ∷ (joining BreadthFirst hopping (first_filed hopping) gives returned 0 expanded 2 complete 0 rejected 0 cycles 0 flags no_flag paths [])
     ∷ (joining BreadthFirst hopping (aliases_beside hopping (first_filed hopping)) gives returned 1 expanded 4 complete 1 rejected 0 cycles 0 flags no_flag paths (0 ∷ 1 ∷ 2 ∷ 3 ∷ 4 ∷ []) ∷ [])
     -- of a slot of the set, as of any other, the start alone is asked
     ∷ (joining BreadthFirst image_a (database_of 1 6 1 (held 65535 2 9 (0 ∷ 1 ∷ []) ∷ [])) gives returned 1 expanded 2 complete 1 rejected 0 cycles 0 flags no_flag paths (0 ∷ 1 ∷ []) ∷ [])
     -- its 35 stands before the node
-    ∷ (stitched_returned base (request_from 3 base BreadthFirst Absent Absent Absent 8 8) image_a (database_of 1 6 1 (held 65535 2 9 [] ∷ [])) gives refused (35 ∷ []))
-    ∷ (stitched_returned base (request_from 3 base BreadthFirst Absent Absent Absent 8 8) image_a (database_of 1 6 1 (held 65535 2 9 (0 ∷ []) ∷ [])) gives refused (11 ∷ 3 ∷ []))
+    ∷ (stitched_returned base (request_from 3 base BreadthFirst None None None 8 8) image_a (database_of 1 6 1 (held 65535 2 9 [] ∷ [])) gives refused (35 ∷ []))
+    ∷ (stitched_returned base (request_from 3 base BreadthFirst None None None 8 8) image_a (database_of 1 6 1 (held 65535 2 9 (0 ∷ []) ∷ [])) gives refused (11 ∷ 3 ∷ []))
     ∷ []
 
 pub stitch-cases : Agreed stitches

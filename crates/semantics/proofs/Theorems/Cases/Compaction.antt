@@ -1,7 +1,6 @@
 -- A database without its dead slots: every word of the database and of the list at each boundary, the order of the checks, and what other calls see.
 -- Document 02, order 7.
-use Rattle.std.specs.Prelude.{ℕ, ◌+◌, ◌-◌, ◌*◌, refl, List, [], ◌∷◌, ◌++◌, replicate}
-use Rattle.semantics.specs.declared.search.Limit.TheVariants.{Absent}
+use Rattle.std.specs.Prelude.{ℕ, ◌+◌, ◌-◌, ◌*◌, refl, List, [], ◌∷◌, ◌++◌, replicate, None}
 use Rattle.semantics.specs.declared.search.SearchOrder.TheVariants.{BreadthFirst, DepthFirst}
 use Rattle.semantics.specs.Limits.{Bounds, base, max_edges, record_length}
 use Rattle.semantics.specs.Told.{told_replacement}
@@ -181,7 +180,7 @@ closed_up = database_of 5 6 1 (filed_a ++ (zeros (5 * record_length) ∷ []))
 unfoldable pub seen : List (Row (List (List ℕ)))
 unfolding compacting looking_up
 seen =
-    (((filing base (file_request base BreadthFirst Absent Absent 8 0) image_a (database_of 5 6 1 (filed_a ++ (zeros (5 * record_length) ∷ [])))).database ∷ []) gives twice_filed ∷ [])
+    (((filing base (file_request base BreadthFirst None None 8 0) image_a (database_of 5 6 1 (filed_a ++ (zeros (5 * record_length) ∷ [])))).database ∷ []) gives twice_filed ∷ [])
     ∷ (compacting base twice_filed 10 gives (0 ∷ 5 ∷ []) ∷ closed_up ∷ (5 ∷ 0 ∷ 6 ∷ 1 ∷ 7 ∷ 2 ∷ 8 ∷ 3 ∷ 9 ∷ 4 ∷ []) ∷ [])
     -- a lookup: 9 was the number, 4 is it now, and 9 has lapsed
     ∷ (looking_up 9 twice_filed gives ((7 + 9 * record_length) ∷ (9 + 9 * record_length) ∷ []) ∷ (0 ∷ 2 ∷ []) ∷ [])
@@ -195,18 +194,18 @@ seen-cases = refl
 
 -- searches: done, recorded, refused for want of a waiting slot and for the node; before and after
 abbrev waiting : ℕ → Request
-waiting slots = request base BreadthFirst Absent Absent Absent slots 8
+waiting slots = request base BreadthFirst None None None slots 8
 
 unfoldable pub searches : List (Row (List (List ℕ)))
 unfolding stitched_returned stitched_recorded
 searches =
     (stitched_returned base (waiting 8) image_a twice_filed gives returned 1 expanded 4 complete 2 rejected 2 cycles 0 flags no_flag paths (0 ∷ 1 ∷ []) ∷ [])
     ∷ (stitched_returned base (waiting 8) image_a closed_up gives returned 1 expanded 4 complete 2 rejected 2 cycles 0 flags no_flag paths (0 ∷ 1 ∷ []) ∷ [])
-    ∷ (stitched_recorded base (request base DepthFirst Absent Absent Absent 8 8) image_a twice_filed gives returned 1 expanded 4 complete 2 rejected 2 cycles 0 flags no_flag paths (0 ∷ 1 ∷ []) ∷ [])
-    ∷ (stitched_recorded base (request base DepthFirst Absent Absent Absent 8 8) image_a closed_up gives returned 1 expanded 4 complete 2 rejected 2 cycles 0 flags no_flag paths (0 ∷ 1 ∷ []) ∷ [])
+    ∷ (stitched_recorded base (request base DepthFirst None None None 8 8) image_a twice_filed gives returned 1 expanded 4 complete 2 rejected 2 cycles 0 flags no_flag paths (0 ∷ 1 ∷ []) ∷ [])
+    ∷ (stitched_recorded base (request base DepthFirst None None None 8 8) image_a closed_up gives returned 1 expanded 4 complete 2 rejected 2 cycles 0 flags no_flag paths (0 ∷ 1 ∷ []) ∷ [])
     ∷ (stitched_returned base (waiting 1) image_a twice_filed gives refused (31 ∷ []))
     ∷ (stitched_returned base (waiting 1) image_a closed_up gives refused (31 ∷ []))
-    ∷ (stitched_returned base (request_from 3 base BreadthFirst Absent Absent Absent 1 1) image_a closed_up gives refused (11 ∷ 3 ∷ []))
+    ∷ (stitched_returned base (request_from 3 base BreadthFirst None None None 1 1) image_a closed_up gives refused (11 ∷ 3 ∷ []))
     ∷ []
 
 pub search-cases : Agreed searches
@@ -225,11 +224,11 @@ set_filed = held 65535 0 0 (1 ∷ [])
 
 refiling : List ℕ → List ℕ
 unfolding filing
-refiling words = told_replacement (filing base (file_request base BreadthFirst Absent Absent 4 0) daily words).answer
+refiling words = told_replacement (filing base (file_request base BreadthFirst None None 4 0) daily words).answer
 
 realiasing : List ℕ → List ℕ
 unfolding aliasing
-realiasing words = told_replacement (aliasing base (aliases_with base BreadthFirst Absent Absent 4) daily words).answer
+realiasing words = told_replacement (aliasing base (aliases_with base BreadthFirst None None 4) daily words).answer
 
 -- directly after a compaction
 after : List ℕ → List ℕ

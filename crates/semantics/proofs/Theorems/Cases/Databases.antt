@@ -1,7 +1,6 @@
 -- A database as words: which words are 35 and 34, a fresh one, every word of a replacement, a lookup.
 -- Document 01, "Partial paths", second paragraph, and the rows 33, 34, 35 and 21 of "Turned back".
-use Rattle.std.specs.Prelude.{ℕ, ◌+◌, ◌-◌, ◌*◌, refl, List, [], ◌∷◌, ◌++◌, take, replicate}
-use Rattle.semantics.specs.declared.search.Limit.TheVariants.{Absent}
+use Rattle.std.specs.Prelude.{ℕ, ◌+◌, ◌-◌, ◌*◌, refl, List, [], ◌∷◌, ◌++◌, take, replicate, None}
 use Rattle.semantics.specs.declared.search.SearchOrder.TheVariants.{BreadthFirst}
 use Rattle.semantics.specs.Limits.{Bounds, base, max_edges, slot_length, record_length}
 use Rattle.semantics.specs.Told.{told_replacement}
@@ -15,7 +14,7 @@ use Rattle.semantics.specs.Cases.Asked.{bounded, request, request_from, stitched
 -- WORDS THAT ARE 35 OR 34, on A: F 1, N 6. File 9 is none, so words that are neither are answered by 21, which stands behind both
 lent : Bounds → List ℕ → List ℕ
 unfolding filing
-lent bd words = told_replacement (filing bd (file_request bd BreadthFirst Absent Absent 8 9) image_a words).answer
+lent bd words = told_replacement (filing bd (file_request bd BreadthFirst None None 8 9) image_a words).answer
 
 -- the stored N and F, and one slot: file + 1, start, end, edge count, and a word 8 for each edge that it may have
 abbrev one_slot : ℕ → ℕ → ℕ → ℕ → ℕ → ℕ → List ℕ
@@ -79,12 +78,12 @@ lending-cases = refl
 pub stitchings : List (Row (List (List ℕ)))
 unfolding stitched_returned
 stitchings =
-    (stitched_returned base (request_from 3 base BreadthFirst Absent Absent Absent 8 8) (take 76 image_a) [] gives refused (2 ∷ []))
-    ∷ (stitched_returned base (request_from 3 base BreadthFirst Absent Absent Absent 8 8) image_a (9 ∷ 8 ∷ 1 ∷ 0 ∷ []) gives refused (35 ∷ []))
-    ∷ (stitched_returned base (request_from 3 base BreadthFirst Absent Absent Absent 8 8) image_a (0 ∷ 7 ∷ 1 ∷ []) gives refused (34 ∷ []))
-    ∷ (stitched_returned base (request_from 3 base BreadthFirst Absent Absent Absent 8 8) image_a (0 ∷ 6 ∷ 1 ∷ []) gives refused (11 ∷ 3 ∷ []))
-    ∷ (stitched_returned base (request base BreadthFirst Absent Absent Absent 8 8) image_a (9 ∷ 8 ∷ 1 ∷ 0 ∷ []) gives refused (35 ∷ []))
-    ∷ (stitched_returned base (request base BreadthFirst Absent Absent Absent 8 8) image_a (0 ∷ 6 ∷ 2 ∷ []) gives refused (34 ∷ []))
+    (stitched_returned base (request_from 3 base BreadthFirst None None None 8 8) (take 76 image_a) [] gives refused (2 ∷ []))
+    ∷ (stitched_returned base (request_from 3 base BreadthFirst None None None 8 8) image_a (9 ∷ 8 ∷ 1 ∷ 0 ∷ []) gives refused (35 ∷ []))
+    ∷ (stitched_returned base (request_from 3 base BreadthFirst None None None 8 8) image_a (0 ∷ 7 ∷ 1 ∷ []) gives refused (34 ∷ []))
+    ∷ (stitched_returned base (request_from 3 base BreadthFirst None None None 8 8) image_a (0 ∷ 6 ∷ 1 ∷ []) gives refused (11 ∷ 3 ∷ []))
+    ∷ (stitched_returned base (request base BreadthFirst None None None 8 8) image_a (9 ∷ 8 ∷ 1 ∷ 0 ∷ []) gives refused (35 ∷ []))
+    ∷ (stitched_returned base (request base BreadthFirst None None None 8 8) image_a (0 ∷ 6 ∷ 2 ∷ []) gives refused (34 ∷ []))
     ∷ []
 
 pub stitching-cases : Agreed stitchings
@@ -135,13 +134,13 @@ filed_a =
 
 refiled : ℕ → ℕ → List ℕ → List (List ℕ)
 unfolding filing
-refiled waiting file words = changed_words (filing base (file_request base BreadthFirst Absent Absent waiting file) small words)
+refiled waiting file words = changed_words (filing base (file_request base BreadthFirst None None waiting file) small words)
 
 pub replacements : List (Row (List (List ℕ)))
 unfolding refiled filing
 replacements =
     -- A's file among words 9, with room for just its 5 slots: used, N and F; file + 1, start, end, edge count, edges and zeros; the words behind stay
-    (changed_words (filing base (file_request base BreadthFirst Absent Absent 4 0) image_a (0 ∷ 6 ∷ 1 ∷ replicate (5 * record_length + 2) 9)) gives (0 ∷ 8 ∷ 5 ∷ 0 ∷ 0 ∷ 0 ∷ 4 ∷ []) ∷ zeros (4 * slot_length) ∷ database_of 5 6 1 (filed_a ++ ((9 ∷ 9 ∷ []) ∷ [])) ∷ [])
+    (changed_words (filing base (file_request base BreadthFirst None None 4 0) image_a (0 ∷ 6 ∷ 1 ∷ replicate (5 * record_length + 2) 9)) gives (0 ∷ 8 ∷ 5 ∷ 0 ∷ 0 ∷ 0 ∷ 4 ∷ []) ∷ zeros (4 * slot_length) ∷ database_of 5 6 1 (filed_a ++ ((9 ∷ 9 ∷ []) ∷ [])) ∷ [])
     -- the file's slot becomes zeros, all its words; the dead one keeps its words, the other file's too; the new slot is the next; N and F are the graph's
     ∷ (refiled 2 0 (database_of 3 4 2 (old0 ∷ old_dead ∷ old1 ∷ replicate (record_length + 2) 8 ∷ [])) gives
     (0 ∷ 3 ∷ 1 ∷ 0 ∷ 0 ∷ 0 ∷ 2 ∷ []) ∷ zeros (2 * slot_length) ∷ database_of 4 7 3 (zeros record_length ∷ old_dead ∷ old1 ∷ (1 ∷ 2 ∷ 3 ∷ 1 ∷ 0 ∷ zeros (max_edges - 1)) ∷ (8 ∷ 8 ∷ []) ∷ []) ∷ [])
@@ -157,7 +156,7 @@ replacements =
     ∷ (refiled 2 3 (database_of 1 7 3 (old0 ∷ [])) gives (21 ∷ 3 ∷ []) ∷ zeros (2 * slot_length) ∷ database_of 1 7 3 (old0 ∷ []) ∷ [])
     ∷ (refiled 2 0 (database_of 1 8 3 (old0 ∷ [])) gives (34 ∷ []) ∷ zeros (2 * slot_length) ∷ database_of 1 8 3 (old0 ∷ []) ∷ [])
     ∷ (refiled 2 0 (database_of 2 7 3 (old0 ∷ [])) gives (35 ∷ []) ∷ zeros (2 * slot_length) ∷ database_of 2 7 3 (old0 ∷ []) ∷ [])
-    ∷ (changed_words (filing base (file_request base BreadthFirst Absent Absent 1 9) (take 76 image_a) (9 ∷ [])) gives (2 ∷ []) ∷ zeros slot_length ∷ (9 ∷ []) ∷ [])
+    ∷ (changed_words (filing base (file_request base BreadthFirst None None 1 9) (take 76 image_a) (9 ∷ [])) gives (2 ∷ []) ∷ zeros slot_length ∷ (9 ∷ []) ∷ [])
     ∷ []
 
 pub replacement-cases : Agreed replacements

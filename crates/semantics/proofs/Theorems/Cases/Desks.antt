@@ -1,11 +1,9 @@
 -- Two desks over one graph and one database: what each search tells a desk that sees some of the files, and what it does not.
 -- Document 02, order 8.
-use Rattle.std.specs.Prelude.{ℕ, ◌+◌, ◌-◌, ◌*◌, refl, List, [], ◌∷◌, ◌++◌, map, get_or, take, replicate}
-use Rattle.semantics.specs.declared.search.Limit.{Limit}
-use Rattle.semantics.specs.declared.search.Limit.TheVariants.{Absent, AtMost}
+use Rattle.std.specs.Prelude.{ℕ, ◌+◌, ◌-◌, ◌*◌, refl, List, [], ◌∷◌, ◌++◌, map, get_or, take, replicate, None, Some}
 use Rattle.semantics.specs.declared.search.SearchLimits.{SearchLimits}
 use Rattle.semantics.specs.declared.search.SearchOrder.TheVariants.{BreadthFirst, DepthFirst}
-use Rattle.semantics.specs.Limits.{Bounds, base, max_edges, slot_length}
+use Rattle.semantics.specs.Limits.{Bounds, base, max_edges, slot_length, Limit}
 use Rattle.semantics.specs.Told.{told_finding}
 use Rattle.semantics.specs.Recorded.{recorded, returned as unshadowed}
 use Rattle.semantics.specs.Image.{symbol_bytes, check_image}
@@ -48,10 +46,10 @@ kinds = image_of 2 (scope 1 ∷ exported 1 ∷ push 1 7 ∷ reference 1 7 ∷ po
 
 -- WHAT IS ASKED, in areas of so many whole slots
 abbrev limited : Limit → SearchLimits
-limited most = record { length = most; expansions = Absent; complete = Absent }
+limited most = record { length = most; expansions = None; complete = None }
 
 abbrev pub unhindered : SearchLimits
-unhindered = limited Absent
+unhindered = limited None
 
 abbrev room : ℕ → List ℕ
 room n = zeros (n * slot_length)
@@ -72,7 +70,7 @@ seen_with most waiting results visible im = shown base (direct_search recorded i
 
 seen_under : Bounds → List ℕ → List ℕ → List (List ℕ)
 unfolding shown direct_call seen_image check_image recorded
-seen_under bd visible im = shown bd (direct_call bd recorded (seen_image (sees visible) (check_image symbol_bytes im)) (request bd BreadthFirst Absent Absent Absent 8 8))
+seen_under bd visible im = shown bd (direct_call bd recorded (seen_image (sees visible) (check_image symbol_bytes im)) (request bd BreadthFirst None None None 8 8))
 
 line : Reply → List ℕ → List ℕ → ℕ → List (List ℕ)
 unfolding shown_linear linear_call seen_image check_image
@@ -84,11 +82,11 @@ stitch reply most visible im words node = shown base (stitched_search reply im v
 
 stitch_under : Bounds → List ℕ → List ℕ → List ℕ → List (List ℕ)
 unfolding shown stitched_call seen_image check_image recorded
-stitch_under bd visible im words = shown bd (stitched_call bd recorded known_owners (sees visible) (seen_image (sees visible) (check_image symbol_bytes im)) words (request bd BreadthFirst Absent Absent Absent 8 8))
+stitch_under bd visible im words = shown bd (stitched_call bd recorded known_owners (sees visible) (seen_image (sees visible) (check_image symbol_bytes im)) words (request bd BreadthFirst None None None 8 8))
 
 name : ℕ → List ℕ → List ℕ → ℕ → List (List ℕ)
 unfolding lists_in find_call seen_image check_image
-name waiting visible im node = let o = find_name im visible node Absent (room waiting) (room 8) in told_finding o.answer ∷ lists_in slot_length o.result
+name waiting visible im node = let o = find_name im visible node None (room waiting) (room 8) in told_finding o.answer ∷ lists_in slot_length o.result
 
 infix 5 ◌by◌
 abbrev ◌by◌ : ℕ → List ℕ → List (List ℕ)
@@ -202,16 +200,16 @@ set_cases = refl
 pub edges : List (Row (List (List ℕ)))
 unfolding seen seen_returned seen_with seen_under line recorded unshadowed
 edges =
-    (seen_with (AtMost 1) 8 8 both across gives returned 0 expanded 2 complete 0 rejected 0 cycles 0 flags length_flag paths [])
-    ∷ (seen_with (AtMost 1) 8 8 rates across gives returned 0 expanded 2 complete 0 rejected 0 cycles 0 flags no_flag paths [])
+    (seen_with (Some 1) 8 8 both across gives returned 0 expanded 2 complete 0 rejected 0 cycles 0 flags length_flag paths [])
+    ∷ (seen_with (Some 1) 8 8 rates across gives returned 0 expanded 2 complete 0 rejected 0 cycles 0 flags no_flag paths [])
     ∷ (seen_under (bounded 1 9) both across gives refused (30 ∷ []))
     ∷ (seen_under (bounded 1 9) rates across gives returned 0 expanded 2 complete 0 rejected 0 cycles 0 flags no_flag paths [])
     ∷ (seen_under (bounded max_edges 2) both across gives refused (36 ∷ []))
     ∷ (seen_under (bounded max_edges 2) rates across gives returned 0 expanded 2 complete 0 rejected 0 cycles 0 flags no_flag paths [])
-    ∷ (seen_with Absent 1 8 both fork gives refused (31 ∷ []))
-    ∷ (seen_with Absent 1 8 rates fork gives returned 1 expanded 3 complete 1 rejected 0 cycles 0 flags no_flag paths (0 ∷ 1 ∷ []) ∷ [])
-    ∷ (seen_with Absent 8 1 both fork gives refused (32 ∷ []))
-    ∷ (seen_with Absent 8 1 rates fork gives returned 1 expanded 3 complete 1 rejected 0 cycles 0 flags no_flag paths (0 ∷ 1 ∷ []) ∷ [])
+    ∷ (seen_with None 1 8 both fork gives refused (31 ∷ []))
+    ∷ (seen_with None 1 8 rates fork gives returned 1 expanded 3 complete 1 rejected 0 cycles 0 flags no_flag paths (0 ∷ 1 ∷ []) ∷ [])
+    ∷ (seen_with None 8 1 both fork gives refused (32 ∷ []))
+    ∷ (seen_with None 8 1 rates fork gives returned 1 expanded 3 complete 1 rejected 0 cycles 0 flags no_flag paths (0 ∷ 1 ∷ []) ∷ [])
     ∷ (line unshadowed both fork 2 gives refused (20 ∷ 0 ∷ []))
     ∷ (line unshadowed rates fork 2 gives returned 1 expanded 3 complete 1 rejected 0 cycles 0 flags no_flag paths (0 ∷ 1 ∷ []) ∷ [])
     ∷ (line recorded rates fork 2 gives returned 1 expanded 3 complete 1 rejected 0 cycles 0 flags no_flag paths (0 ∷ 1 ∷ []) ∷ [])
@@ -249,64 +247,64 @@ pub slots : List (Row (List (List ℕ)))
 unfolding stitch stitch_under recorded unshadowed
 slots =
     -- THOSE OF HIDDEN FILES are passed over, those of nobody by none
-    (stitch recorded Absent both tables filed 2 gives returned 4 expanded 7 complete 4 rejected 0 cycles 1 flags no_flag paths (0 ∷ 1 ∷ []) ∷ (0 ∷ 2 ∷ []) ∷ (0 ∷ 3 ∷ 1 ∷ []) ∷ (0 ∷ 3 ∷ 2 ∷ []) ∷ [])
-    ∷ (stitch recorded Absent rates tables filed 2 gives of_rates)
-    ∷ (stitch recorded Absent (255 ∷ 0 ∷ 1 ∷ []) tables filed 2 gives of_rates)
-    ∷ (stitch unshadowed Absent rates tables filed 2 gives of_rates)
-    ∷ (stitch recorded Absent credit tables filed 6 gives returned 2 expanded 5 complete 2 rejected 0 cycles 1 flags no_flag paths (5 ∷ 1 ∷ []) ∷ (5 ∷ 3 ∷ 1 ∷ []) ∷ [])
+    (stitch recorded None both tables filed 2 gives returned 4 expanded 7 complete 4 rejected 0 cycles 1 flags no_flag paths (0 ∷ 1 ∷ []) ∷ (0 ∷ 2 ∷ []) ∷ (0 ∷ 3 ∷ 1 ∷ []) ∷ (0 ∷ 3 ∷ 2 ∷ []) ∷ [])
+    ∷ (stitch recorded None rates tables filed 2 gives of_rates)
+    ∷ (stitch recorded None (255 ∷ 0 ∷ 1 ∷ []) tables filed 2 gives of_rates)
+    ∷ (stitch unshadowed None rates tables filed 2 gives of_rates)
+    ∷ (stitch recorded None credit tables filed 6 gives returned 2 expanded 5 complete 2 rejected 0 cycles 1 flags no_flag paths (5 ∷ 1 ∷ []) ∷ (5 ∷ 3 ∷ 1 ∷ []) ∷ [])
     -- by the owner: not by the start's file, nor by that of the edges
-    ∷ (stitch recorded Absent rates tables (alone (held 2 2 0 (0 ∷ 2 ∷ []))) 2 gives found-none-in 1)
-    ∷ (stitch recorded Absent both tables (alone (held 2 2 0 (0 ∷ 2 ∷ []))) 2 gives returned 1 expanded 2 complete 1 rejected 0 cycles 0 flags no_flag paths (0 ∷ 2 ∷ []) ∷ [])
-    ∷ (stitch recorded Absent rates tables (behind (held 1 0 3 (2 ∷ []))) 2 gives returned 1 expanded 3 complete 1 rejected 0 cycles 0 flags no_flag paths (0 ∷ 2 ∷ []) ∷ [])
-    ∷ (stitch recorded Absent rates tables (behind (held 2 0 3 (2 ∷ []))) 2 gives found-none-in 2)
-    ∷ (stitch recorded Absent credit tables (alone (held 1 6 0 (5 ∷ []))) 6 gives found-none-in 1)
+    ∷ (stitch recorded None rates tables (alone (held 2 2 0 (0 ∷ 2 ∷ []))) 2 gives found-none-in 1)
+    ∷ (stitch recorded None both tables (alone (held 2 2 0 (0 ∷ 2 ∷ []))) 2 gives returned 1 expanded 2 complete 1 rejected 0 cycles 0 flags no_flag paths (0 ∷ 2 ∷ []) ∷ [])
+    ∷ (stitch recorded None rates tables (behind (held 1 0 3 (2 ∷ []))) 2 gives returned 1 expanded 3 complete 1 rejected 0 cycles 0 flags no_flag paths (0 ∷ 2 ∷ []) ∷ [])
+    ∷ (stitch recorded None rates tables (behind (held 2 0 3 (2 ∷ []))) 2 gives found-none-in 2)
+    ∷ (stitch recorded None credit tables (alone (held 1 6 0 (5 ∷ []))) 6 gives found-none-in 1)
     -- uncounted: not cut, rejected, over the limit or the bound, and what they name does not matter
-    ∷ (stitch recorded Absent both tables (behind (held 2 0 0 (0 ∷ []))) 2 gives returned 0 expanded 2 complete 0 rejected 0 cycles 1 flags no_flag paths [])
-    ∷ (stitch recorded Absent rates tables (behind (held 2 0 0 (0 ∷ []))) 2 gives found-none-in 2)
-    ∷ (stitch recorded Absent both tables (alone (held 2 2 3 (2 ∷ []))) 2 gives returned 0 expanded 1 complete 0 rejected 1 cycles 0 flags no_flag paths [])
-    ∷ (stitch recorded Absent rates tables (alone (held 2 2 3 (2 ∷ []))) 2 gives found-none-in 1)
-    ∷ (stitch recorded (AtMost 1) both tables (alone (held 2 2 3 (0 ∷ 2 ∷ []))) 2 gives returned 0 expanded 1 complete 0 rejected 0 cycles 0 flags length_flag paths [])
-    ∷ (stitch recorded (AtMost 1) rates tables (alone (held 2 2 3 (0 ∷ 2 ∷ []))) 2 gives found-none-in 1)
+    ∷ (stitch recorded None both tables (behind (held 2 0 0 (0 ∷ []))) 2 gives returned 0 expanded 2 complete 0 rejected 0 cycles 1 flags no_flag paths [])
+    ∷ (stitch recorded None rates tables (behind (held 2 0 0 (0 ∷ []))) 2 gives found-none-in 2)
+    ∷ (stitch recorded None both tables (alone (held 2 2 3 (2 ∷ []))) 2 gives returned 0 expanded 1 complete 0 rejected 1 cycles 0 flags no_flag paths [])
+    ∷ (stitch recorded None rates tables (alone (held 2 2 3 (2 ∷ []))) 2 gives found-none-in 1)
+    ∷ (stitch recorded (Some 1) both tables (alone (held 2 2 3 (0 ∷ 2 ∷ []))) 2 gives returned 0 expanded 1 complete 0 rejected 0 cycles 0 flags length_flag paths [])
+    ∷ (stitch recorded (Some 1) rates tables (alone (held 2 2 3 (0 ∷ 2 ∷ []))) 2 gives found-none-in 1)
     ∷ (stitch_under (bounded 1 9) both tables (database_of 2 9 2 (held_in 1 1 2 0 (0 ∷ []) ∷ held_in 1 2 0 3 (2 ∷ []) ∷ [])) gives refused (30 ∷ []))
     ∷ (stitch_under (bounded 1 9) rates tables (database_of 2 9 2 (held_in 1 1 2 0 (0 ∷ []) ∷ held_in 1 2 0 3 (2 ∷ []) ∷ [])) gives found-none-in 2)
-    ∷ (stitch recorded Absent rates tables (alone (held 2 2 4 (0 ∷ 1 ∷ []))) 2 gives found-none-in 1)
-    ∷ (stitch recorded Absent rates tables (alone (held 2 2 4 (9 ∷ []))) 2 gives found-none-in 1)
+    ∷ (stitch recorded None rates tables (alone (held 2 2 4 (0 ∷ 1 ∷ []))) 2 gives found-none-in 1)
+    ∷ (stitch recorded None rates tables (alone (held 2 2 4 (9 ∷ []))) 2 gives found-none-in 1)
     -- A VISIBLE ONE THAT NAMES A HIDDEN EDGE: 12, hidden by its target or by its source
-    ∷ (stitch recorded Absent both tables (alone (held 1 2 4 (0 ∷ 1 ∷ []))) 2 gives returned 1 expanded 2 complete 1 rejected 0 cycles 0 flags no_flag paths (0 ∷ 1 ∷ []) ∷ [])
-    ∷ (stitch recorded Absent rates tables (alone (held 1 2 4 (0 ∷ 1 ∷ []))) 2 gives refused (12 ∷ 1 ∷ []))
-    ∷ (stitch unshadowed Absent rates tables (alone (held 1 2 4 (0 ∷ 1 ∷ []))) 2 gives refused (12 ∷ 1 ∷ []))
-    ∷ (stitch recorded Absent both tables (alone (held 1 2 0 (0 ∷ 5 ∷ []))) 2 gives returned 0 expanded 1 complete 0 rejected 1 cycles 0 flags no_flag paths [])
-    ∷ (stitch recorded Absent rates tables (alone (held 1 2 0 (0 ∷ 5 ∷ []))) 2 gives refused (12 ∷ 5 ∷ []))
+    ∷ (stitch recorded None both tables (alone (held 1 2 4 (0 ∷ 1 ∷ []))) 2 gives returned 1 expanded 2 complete 1 rejected 0 cycles 0 flags no_flag paths (0 ∷ 1 ∷ []) ∷ [])
+    ∷ (stitch recorded None rates tables (alone (held 1 2 4 (0 ∷ 1 ∷ []))) 2 gives refused (12 ∷ 1 ∷ []))
+    ∷ (stitch unshadowed None rates tables (alone (held 1 2 4 (0 ∷ 1 ∷ []))) 2 gives refused (12 ∷ 1 ∷ []))
+    ∷ (stitch recorded None both tables (alone (held 1 2 0 (0 ∷ 5 ∷ []))) 2 gives returned 0 expanded 1 complete 0 rejected 1 cycles 0 flags no_flag paths [])
+    ∷ (stitch recorded None rates tables (alone (held 1 2 0 (0 ∷ 5 ∷ []))) 2 gives refused (12 ∷ 5 ∷ []))
     -- as for a removed and an unknown one
-    ∷ (stitch recorded Absent rates tables (alone (held 1 2 4 (0 ∷ 6 ∷ []))) 2 gives refused (12 ∷ 6 ∷ []))
-    ∷ (stitch recorded Absent rates tables (alone (held 1 2 4 (0 ∷ 9 ∷ []))) 2 gives refused (12 ∷ 9 ∷ []))
+    ∷ (stitch recorded None rates tables (alone (held 1 2 4 (0 ∷ 6 ∷ []))) 2 gives refused (12 ∷ 6 ∷ []))
+    ∷ (stitch recorded None rates tables (alone (held 1 2 4 (0 ∷ 9 ∷ []))) 2 gives refused (12 ∷ 9 ∷ []))
     -- before 13 of the same edge, behind what earlier edges meet
-    ∷ (stitch recorded Absent both tables (alone (held 1 2 4 (1 ∷ []))) 2 gives returned 0 expanded 1 complete 0 rejected 1 cycles 0 flags no_flag paths [])
-    ∷ (stitch recorded Absent rates tables (alone (held 1 2 4 (1 ∷ []))) 2 gives refused (12 ∷ 1 ∷ []))
-    ∷ (stitch recorded Absent rates tables (alone (held 1 2 4 (3 ∷ 1 ∷ []))) 2 gives returned 0 expanded 1 complete 0 rejected 1 cycles 0 flags no_flag paths [])
-    ∷ (stitch recorded Absent rates tables (alone (held 1 2 4 (0 ∷ 9 ∷ 1 ∷ []))) 2 gives refused (12 ∷ 9 ∷ []))
-    ∷ (stitch recorded Absent rates tables (alone (held 1 2 4 (0 ∷ 1 ∷ 9 ∷ []))) 2 gives refused (12 ∷ 1 ∷ []))
+    ∷ (stitch recorded None both tables (alone (held 1 2 4 (1 ∷ []))) 2 gives returned 0 expanded 1 complete 0 rejected 1 cycles 0 flags no_flag paths [])
+    ∷ (stitch recorded None rates tables (alone (held 1 2 4 (1 ∷ []))) 2 gives refused (12 ∷ 1 ∷ []))
+    ∷ (stitch recorded None rates tables (alone (held 1 2 4 (3 ∷ 1 ∷ []))) 2 gives returned 0 expanded 1 complete 0 rejected 1 cycles 0 flags no_flag paths [])
+    ∷ (stitch recorded None rates tables (alone (held 1 2 4 (0 ∷ 9 ∷ 1 ∷ []))) 2 gives refused (12 ∷ 9 ∷ []))
+    ∷ (stitch recorded None rates tables (alone (held 1 2 4 (0 ∷ 1 ∷ 9 ∷ []))) 2 gives refused (12 ∷ 1 ∷ []))
     -- and behind cycle, length and bound
-    ∷ (stitch recorded Absent rates tables (behind (held 1 0 4 (0 ∷ 1 ∷ []))) 2 gives returned 0 expanded 2 complete 0 rejected 0 cycles 1 flags no_flag paths [])
-    ∷ (stitch recorded (AtMost 1) rates tables (alone (held 1 2 4 (0 ∷ 1 ∷ []))) 2 gives returned 0 expanded 1 complete 0 rejected 0 cycles 0 flags length_flag paths [])
+    ∷ (stitch recorded None rates tables (behind (held 1 0 4 (0 ∷ 1 ∷ []))) 2 gives returned 0 expanded 2 complete 0 rejected 0 cycles 1 flags no_flag paths [])
+    ∷ (stitch recorded (Some 1) rates tables (alone (held 1 2 4 (0 ∷ 1 ∷ []))) 2 gives returned 0 expanded 1 complete 0 rejected 0 cycles 0 flags length_flag paths [])
     ∷ (stitch_under (bounded 2 9) rates tables (database_of 2 9 2 (held_in 2 1 2 0 (0 ∷ []) ∷ held_in 2 1 0 4 (1 ∷ 1 ∷ []) ∷ [])) gives refused (30 ∷ []))
     -- NOBODY'S are visible to all, and 12 where they name a hidden edge
-    ∷ (stitch recorded Absent rates tables (alone (held 65535 2 0 (0 ∷ []))) 2 gives found-none-in 2)
-    ∷ (stitch recorded Absent credit tables (alone (held 65535 6 0 (5 ∷ []))) 6 gives found-none-in 2)
-    ∷ (stitch recorded Absent rates tables (alone (held 65535 2 4 (0 ∷ 1 ∷ []))) 2 gives refused (12 ∷ 1 ∷ []))
-    ∷ (stitch recorded Absent credit tables (alone (held 65535 6 3 (5 ∷ 2 ∷ []))) 6 gives refused (12 ∷ 2 ∷ []))
+    ∷ (stitch recorded None rates tables (alone (held 65535 2 0 (0 ∷ []))) 2 gives found-none-in 2)
+    ∷ (stitch recorded None credit tables (alone (held 65535 6 0 (5 ∷ []))) 6 gives found-none-in 2)
+    ∷ (stitch recorded None rates tables (alone (held 65535 2 4 (0 ∷ 1 ∷ []))) 2 gives refused (12 ∷ 1 ∷ []))
+    ∷ (stitch recorded None credit tables (alone (held 65535 6 3 (5 ∷ 2 ∷ []))) 6 gives refused (12 ∷ 2 ∷ []))
     -- THE ORDER: the image, 35 and 34, which look at hidden slots too, then 10 and 11
-    ∷ (stitch recorded Absent rates tables filed 6 gives refused (10 ∷ 6 ∷ []))
-    ∷ (stitch recorded Absent rates tables filed 5 gives refused (10 ∷ 5 ∷ []))
-    ∷ (stitch recorded Absent rates tables filed 3 gives refused (11 ∷ 3 ∷ []))
-    ∷ (stitch recorded Absent [] tables filed 0 gives refused (11 ∷ 0 ∷ []))
-    ∷ (stitch recorded Absent rates tables (alone (held 2 2 0 [])) 2 gives refused (35 ∷ []))
-    ∷ (stitch recorded Absent rates tables (alone (held 2 2 0 [])) 6 gives refused (35 ∷ []))
-    ∷ (stitch recorded Absent rates tables (alone (held 2 9 0 (0 ∷ []))) 6 gives refused (35 ∷ []))
-    ∷ (stitch recorded Absent rates tables (alone (held 3 2 0 (0 ∷ []))) 6 gives refused (35 ∷ []))
-    ∷ (stitch recorded Absent rates tables (database_of 1 10 2 (held 2 2 0 (0 ∷ []) ∷ [])) 6 gives refused (34 ∷ []))
-    ∷ (stitch recorded Absent rates tables (database_of 1 9 3 (held 3 2 0 (0 ∷ []) ∷ [])) 6 gives refused (34 ∷ []))
-    ∷ (stitch recorded Absent rates (take 60 tables) [] 6 gives refused (2 ∷ []))
+    ∷ (stitch recorded None rates tables filed 6 gives refused (10 ∷ 6 ∷ []))
+    ∷ (stitch recorded None rates tables filed 5 gives refused (10 ∷ 5 ∷ []))
+    ∷ (stitch recorded None rates tables filed 3 gives refused (11 ∷ 3 ∷ []))
+    ∷ (stitch recorded None [] tables filed 0 gives refused (11 ∷ 0 ∷ []))
+    ∷ (stitch recorded None rates tables (alone (held 2 2 0 [])) 2 gives refused (35 ∷ []))
+    ∷ (stitch recorded None rates tables (alone (held 2 2 0 [])) 6 gives refused (35 ∷ []))
+    ∷ (stitch recorded None rates tables (alone (held 2 9 0 (0 ∷ []))) 6 gives refused (35 ∷ []))
+    ∷ (stitch recorded None rates tables (alone (held 3 2 0 (0 ∷ []))) 6 gives refused (35 ∷ []))
+    ∷ (stitch recorded None rates tables (database_of 1 10 2 (held 2 2 0 (0 ∷ []) ∷ [])) 6 gives refused (34 ∷ []))
+    ∷ (stitch recorded None rates tables (database_of 1 9 3 (held 3 2 0 (0 ∷ []) ∷ [])) 6 gives refused (34 ∷ []))
+    ∷ (stitch recorded None rates (take 60 tables) [] 6 gives refused (2 ∷ []))
     ∷ []
 
 pub slot_cases : Agreed slots

@@ -1,14 +1,12 @@
 -- What callers exchange with the entries: the numbers that ask, the areas that are written, a replayed path as words, and each entry's arguments in
 -- their places. Document 01, "Path", "Answer", "Partial paths"; the form of the numbers is this library's own.
-use Rattle.std.specs.Prelude.{ℕ, ◌+◌, ◌*◌, refl, true, false, List, [], ◌∷◌, ◌++◌, map, replicate}
+use Rattle.std.specs.Prelude.{ℕ, ◌+◌, ◌*◌, refl, true, false, List, [], ◌∷◌, ◌++◌, map, replicate, None, Some}
 use Rattle.std.proofs.Math.Option.{none, some}
-use Rattle.semantics.specs.declared.search.Limit.{Limit}
-use Rattle.semantics.specs.declared.search.Limit.TheVariants.{Absent, AtMost}
 use Rattle.semantics.specs.declared.search.SearchLimits.{SearchLimits}
 use Rattle.semantics.specs.declared.search.SearchOrder.{SearchOrder}
 use Rattle.semantics.specs.declared.search.SearchOrder.TheVariants.{BreadthFirst, DepthFirst}
 use Rattle.semantics.specs.declared.replayed.Path.{Path}
-use Rattle.semantics.specs.Limits.{max_edges, slot_length, record_length}
+use Rattle.semantics.specs.Limits.{max_edges, slot_length, record_length, Limit}
 use Rattle.semantics.specs.Words.{zeros}
 use Rattle.semantics.specs.Recorded.{returned, recorded}
 use Rattle.semantics.specs.Image.{check_image}
@@ -34,8 +32,8 @@ order_told BreadthFirst = 0
 order_told DepthFirst = 1
 
 abbrev limit_told : Limit → List ℕ
-limit_told Absent = []
-limit_told (AtMost n) = n ∷ []
+limit_told None = []
+limit_told (Some n) = n ∷ []
 
 abbrev limits_told : SearchLimits → List (List ℕ)
 limits_told l = limit_told l.length ∷ limit_told l.expansions ∷ limit_told l.complete ∷ []

@@ -1,15 +1,13 @@
 -- An instance of demand 3: all its premises hold of graph C and a database that was filed by the public calls.
 -- So the demand is not empty, and its conclusion there is what document 01 says of C. Likewise what is said of names (document 02, order 1), of the
 -- alias set (order 5), of a converted database (order 6), of compaction (order 7) and of two desks (order 8).
-use Rattle.std.specs.Prelude.{ℕ, zero, suc, ◌+◌, ◌*◌, ◌<◌, ◌≡◌, refl, true, false, length, get_or, replicate}
+use Rattle.std.specs.Prelude.{ℕ, zero, suc, ◌+◌, ◌*◌, ◌<◌, ◌≡◌, refl, true, false, length, get_or, replicate, None, Ok}
 use Rattle.std.proofs.Common.{arith, sym, ◌∙◌, ap, ⊎_elim}
 use Rattle.std.proofs.lemmas.Bool.{false≢true}
 use mathlib.Core.List.Memᴰ
 use mathlib.Core.List.{List, [], ◌∷◌, ◌++◌, Memᴰ}
 use Rattle.semantics.specs.declared.graph.Node.TheVariants as N
 use Rattle.semantics.specs.declared.graph.Edge.TheVariants as E
-use Rattle.semantics.specs.declared.answer.Conversion.TheVariants as Conversion
-use Rattle.semantics.specs.declared.search.Limit.TheVariants.{Absent}
 use Rattle.semantics.specs.declared.search.SearchOrder.TheVariants.{BreadthFirst}
 use Rattle.semantics.specs.declared.search.PartialPathStats.{PartialPathStats}
 use Rattle.semantics.specs.Limits.{Bounds, base, former, slot_words, record_words, slot_length, record_length, nobody}
@@ -45,7 +43,7 @@ use Rattle.semantics.proofs.Theorems.Cases.Desks.{rates, unhindered, tables, fil
 
 -- DEMAND 3 HAS INSTANCES: its premises hold together of C, whose file was filed into a fresh database of 8 slots
 abbrev pub asked_c : Request
-asked_c = request base BreadthFirst Absent Absent Absent 128 128
+asked_c = request base BreadthFirst None None None 128 128
 
 pub graph_c : Graph
 graph_c =
@@ -107,7 +105,7 @@ only-file f h = omega (arith, h)
 held-before : Holds (file_owners graph_c) former (view_of graph_c) (slots_in former filed_before)
 held-before = filed-holds former graph_c (image-accepted symbol_bytes image_c graph_c (unfold check_image graph_c in refl)) filed_before (0 ∷ []) filed_formerly (λ f h. Memᴰ.head (only-file f h)) just-file
 
-converted-c : (convert_database filed_before dirty).answer ≡ Conversion.Done
+converted-c : (convert_database filed_before dirty).answer ≡ Ok tt
 unfolding graph_c fresh_call replace_call convert_call
 converted-c = refl
 
@@ -282,13 +280,13 @@ moved-one = compact-edges short known_owners holed 2 1 refl 1 alive
 
 -- WHAT IS SAID OF NAMES HAS INSTANCES: on A node 5 has no name, and node 4 has one
 abbrev on_a : ℕ → FindRequest
-on_a node = name_request Absent (8 * slot_length) (8 * slot_length) node
+on_a node = name_request None (8 * slot_length) (8 * slot_length) node
 
-pub a-unnamed : (r : ℕ) → is_reference ((view_of graph_a).node r) ≡ true → ((s : State Path) × (search_by base graph_a (on_a 5) r ≡ ok s)) × Unnamed base Absent (view_of graph_a) 5 r
+pub a-unnamed : (r : ℕ) → is_reference ((view_of graph_a).node r) ≡ true → ((s : State Path) × (search_by base graph_a (on_a 5) r ≡ ok s)) × Unnamed base None (view_of graph_a) 5 r
 unfolding find_call view_of
 a-unnamed = nothing-answered base graph_a (on_a 5) refl refl refl
 
-pub a-named : (m : Name) × (m.reference ≡ 2) × Lowest base Absent (view_of graph_a) 4 m
+pub a-named : (m : Name) × (m.reference ≡ 2) × Lowest base None (view_of graph_a) 4 m
 unfolding find_call view_of
 a-named = let f = found-answered base graph_a (on_a 4) refl refl 2 refl in (f.0, f.1, f.3)
 
@@ -351,12 +349,12 @@ filings-alike = record { slots = slots_in base filed; slots' = slots_in base fil
 pub told-alike : (direct_search recorded tables rates 2 BreadthFirst unhindered (zeros (3 * slot_length)) (zeros (3 * slot_length)) ≡ direct_search recorded tables_too rates 2 BreadthFirst unhindered (zeros (3 * slot_length)) (zeros (3 * slot_length)))
     × (linear_search recorded tables rates 2 unhindered (zeros (3 * slot_length)) ≡ linear_search recorded tables_too rates 2 unhindered (zeros (3 * slot_length)))
     × (stitched_search recorded tables rates filed 2 BreadthFirst unhindered (zeros (3 * slot_length)) (zeros (3 * slot_length)) ≡ stitched_search recorded tables_too rates filed_too 2 BreadthFirst unhindered (zeros (3 * slot_length)) (zeros (3 * slot_length)))
-    × (find_name tables rates 3 Absent (zeros (3 * slot_length)) (zeros (3 * slot_length)) ≡ find_name tables_too rates 3 Absent (zeros (3 * slot_length)) (zeros (3 * slot_length)))
+    × (find_name tables rates 3 None (zeros (3 * slot_length)) (zeros (3 * slot_length)) ≡ find_name tables_too rates 3 None (zeros (3 * slot_length)) (zeros (3 * slot_length)))
 told-alike = (
   desks-direct rates tables tables_too tables-alike recorded 2 BreadthFirst unhindered (zeros (3 * slot_length)) (zeros (3 * slot_length)),
   desks-linear rates tables tables_too tables-alike recorded 2 unhindered (zeros (3 * slot_length)),
   desks-stitched rates tables tables_too tables-alike filed filed_too filings-alike recorded 2 BreadthFirst unhindered (zeros (3 * slot_length)) (zeros (3 * slot_length)),
-  desks-name rates tables tables_too tables-alike 3 Absent (zeros (3 * slot_length)) (zeros (3 * slot_length)),
+  desks-name rates tables tables_too tables-alike 3 None (zeros (3 * slot_length)) (zeros (3 * slot_length)),
 )
 
 -- DEMAND 3 WITH A HIDDEN FILE: of `tables` the file of rates alone was filed into a fresh database, and rates asks

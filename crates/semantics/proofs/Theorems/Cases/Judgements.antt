@@ -1,12 +1,10 @@
 -- What an edge does to a path, judged before it is appended: each refusal with its values, the order of the tests, and completeness.
 -- Document 02, order 4.
-use Rattle.std.specs.Prelude.{ℕ, refl, true, false, List, [], ◌∷◌}
+use Rattle.std.specs.Prelude.{ℕ, refl, true, false, List, [], ◌∷◌, Err, Ok}
 use Rattle.std.proofs.Math.Option.{none}
 use Rattle.semantics.specs.declared.graph.Node.TheVariants as N
 use Rattle.semantics.specs.declared.refusal.ImageRefusal.{ImageRefusal}
 use Rattle.semantics.specs.declared.refusal.ReplayRefusal.{ReplayRefusal}
-use Rattle.semantics.specs.declared.judgement.EdgeJudgement.{EdgeJudgement}
-use Rattle.semantics.specs.declared.judgement.EdgeJudgement.TheVariants.{Refused, Extends}
 use Rattle.semantics.specs.Limits.{base}
 use Rattle.semantics.specs.Told.{told_path, told_flag}
 use Rattle.semantics.specs.Answer.{Answer, ok, refuse}
@@ -16,11 +14,12 @@ use Rattle.semantics.specs.Judgement.{judgement}
 use Rattle.semantics.specs.Image.{symbol_bytes, check_image}
 use Rattle.semantics.specs.Cases.Rows.{Row, ◌gives◌, Agreed}
 use Rattle.semantics.specs.Cases.Graphs.{image_a, image_f, live, image_of, exported, reference, scope, pop, push, pop_scoped, scoped_reference, removed_edge, going_on, ◌⟶◌}
+use Rattle.semantics.specs.PublicAnswers.{EdgeJudgement}
 
 -- a refusal's number and values; else 0, and whether the extension is complete
 abbrev told : EdgeJudgement → List ℕ
-told (Refused r) = told_path r
-told (Extends complete) = 0 ∷ told_flag complete ∷ []
+told (Err r) = told_path r
+told (Ok complete) = 0 ∷ told_flag complete ∷ []
 
 unfoldable judged_behind : Graph → Answer ReplayRefusal Path → ℕ → List ℕ
 unfolding judgement view_of

@@ -1,7 +1,6 @@
 -- Names for definitions: which reference, which path, what is refused before what, and every word that the call leaves.
 -- Document 02, order 1.
-use Rattle.std.specs.Prelude.{ℕ, ◌+◌, ◌*◌, refl, List, [], ◌∷◌, take}
-use Rattle.semantics.specs.declared.search.Limit.TheVariants.{Absent, AtMost}
+use Rattle.std.specs.Prelude.{ℕ, ◌+◌, ◌*◌, refl, List, [], ◌∷◌, take, None, Some}
 use Rattle.semantics.specs.Limits.{base, max_edges, slot_length}
 use Rattle.semantics.specs.Words.{zeros}
 use Rattle.semantics.specs.Cases.Rows.{Row, ◌gives◌, Agreed, refused}
@@ -68,41 +67,41 @@ names =
     -- recorded and not returned: 3 is shadowed by 4, and has its name
     ∷ (naming_of (image_of 1 (reference 0 7 ∷ definition 0 7 ∷ definition 0 7 ∷ []) (edge_of 2 3 0 ∷ edge_of 2 4 1 ∷ [])) 3 gives 2 by (0 ∷ []))
     -- THE LIMIT: kept, not kept, and 0, with which a start is still pushed
-    ∷ (naming_in base (AtMost 2) 8 8 image_a 4 gives 2 by (0 ∷ 1 ∷ []))
-    ∷ (naming_in base (AtMost 1) 8 8 image_a 4 gives none)
-    ∷ (naming_in base (AtMost 0) 1 0 image_a 4 gives none)
-    ∷ (naming_in base (AtMost 0) 0 0 image_a 4 gives refused (31 ∷ []))
+    ∷ (naming_in base (Some 2) 8 8 image_a 4 gives 2 by (0 ∷ 1 ∷ []))
+    ∷ (naming_in base (Some 1) 8 8 image_a 4 gives none)
+    ∷ (naming_in base (Some 0) 1 0 image_a 4 gives none)
+    ∷ (naming_in base (Some 0) 0 0 image_a 4 gives refused (31 ∷ []))
     -- RESULT SLOTS: one for every complete path of the reference being searched, also behind the one that is kept
-    ∷ (naming_in base Absent 8 4 image_b 4 gives 2 by (0 ∷ 2 ∷ []))
-    ∷ (naming_in base Absent 8 3 image_b 4 gives refused (32 ∷ []))
-    ∷ (naming_in base Absent 8 2 twice_complete 3 gives 2 by (0 ∷ []))
-    ∷ (naming_in base Absent 8 1 twice_complete 3 gives refused (32 ∷ []))
+    ∷ (naming_in base None 8 4 image_b 4 gives 2 by (0 ∷ 2 ∷ []))
+    ∷ (naming_in base None 8 3 image_b 4 gives refused (32 ∷ []))
+    ∷ (naming_in base None 8 2 twice_complete 3 gives 2 by (0 ∷ []))
+    ∷ (naming_in base None 8 1 twice_complete 3 gives refused (32 ∷ []))
     -- and none for those of another reference
-    ∷ (naming_in base Absent 8 1 own_names 4 gives 3 by (1 ∷ []))
+    ∷ (naming_in base None 8 1 own_names 4 gives 3 by (1 ∷ []))
     -- A SEARCH REFUSED before a name is the reply, one behind it is not made; each is searched to its end
-    ∷ (naming_in base Absent 1 1 wide_first 4 gives refused (31 ∷ []))
-    ∷ (naming_in base Absent 2 1 wide_first 4 gives 3 by (2 ∷ []))
-    ∷ (naming_in base Absent 1 1 wide_last 4 gives 2 by (2 ∷ []))
-    ∷ (naming_in base Absent 1 1 wide_after 4 gives refused (31 ∷ []))
-    ∷ (naming_in base Absent 2 1 wide_after 4 gives 2 by (0 ∷ []))
+    ∷ (naming_in base None 1 1 wide_first 4 gives refused (31 ∷ []))
+    ∷ (naming_in base None 2 1 wide_first 4 gives 3 by (2 ∷ []))
+    ∷ (naming_in base None 1 1 wide_last 4 gives 2 by (2 ∷ []))
+    ∷ (naming_in base None 1 1 wide_after 4 gives refused (31 ∷ []))
+    ∷ (naming_in base None 2 1 wide_after 4 gives 2 by (0 ∷ []))
     -- a 128th edge, and an expansion too many; each search counts its own
-    ∷ (naming_in (bounded 1 9) Absent 8 8 image_a 4 gives refused (30 ∷ []))
-    ∷ (naming_in (bounded 2 9) Absent 8 8 image_a 4 gives 2 by (0 ∷ 1 ∷ []))
-    ∷ (naming_in (bounded max_edges 2) Absent 8 8 image_a 4 gives refused (36 ∷ []))
-    ∷ (naming_in (bounded max_edges 3) Absent 8 8 image_a 4 gives 2 by (0 ∷ 1 ∷ []))
-    ∷ (naming_in (bounded max_edges 2) Absent 8 8 own_names 4 gives 3 by (1 ∷ []))
+    ∷ (naming_in (bounded 1 9) None 8 8 image_a 4 gives refused (30 ∷ []))
+    ∷ (naming_in (bounded 2 9) None 8 8 image_a 4 gives 2 by (0 ∷ 1 ∷ []))
+    ∷ (naming_in (bounded max_edges 2) None 8 8 image_a 4 gives refused (36 ∷ []))
+    ∷ (naming_in (bounded max_edges 3) None 8 8 image_a 4 gives 2 by (0 ∷ 1 ∷ []))
+    ∷ (naming_in (bounded max_edges 2) None 8 8 own_names 4 gives 3 by (1 ∷ []))
     -- BEFORE ANY SEARCH and whatever the areas: the image, 10 for an unknown and for a removed node, then 37
-    ∷ (naming_in base Absent 0 0 (take 76 image_a) 6 gives refused (2 ∷ []))
-    ∷ (naming_in base Absent 0 0 image_a 6 gives refused (10 ∷ 6 ∷ []))
-    ∷ (naming_in base Absent 0 0 nameless 5 gives refused (10 ∷ 5 ∷ []))
-    ∷ (naming_in base Absent 0 0 image_a 0 gives refused (37 ∷ 0 ∷ []))
-    ∷ (naming_in base Absent 0 0 image_a 1 gives refused (37 ∷ 1 ∷ []))
-    ∷ (naming_in base Absent 0 0 image_a 2 gives refused (37 ∷ 2 ∷ []))
-    ∷ (naming_in base Absent 0 0 image_a 3 gives refused (37 ∷ 3 ∷ []))
-    ∷ (naming_in base Absent 0 0 nameless 4 gives refused (37 ∷ 4 ∷ []))
-    ∷ (naming_in base Absent 0 8 image_a 4 gives refused (31 ∷ []))
+    ∷ (naming_in base None 0 0 (take 76 image_a) 6 gives refused (2 ∷ []))
+    ∷ (naming_in base None 0 0 image_a 6 gives refused (10 ∷ 6 ∷ []))
+    ∷ (naming_in base None 0 0 nameless 5 gives refused (10 ∷ 5 ∷ []))
+    ∷ (naming_in base None 0 0 image_a 0 gives refused (37 ∷ 0 ∷ []))
+    ∷ (naming_in base None 0 0 image_a 1 gives refused (37 ∷ 1 ∷ []))
+    ∷ (naming_in base None 0 0 image_a 2 gives refused (37 ∷ 2 ∷ []))
+    ∷ (naming_in base None 0 0 image_a 3 gives refused (37 ∷ 3 ∷ []))
+    ∷ (naming_in base None 0 0 nameless 4 gives refused (37 ∷ 4 ∷ []))
+    ∷ (naming_in base None 0 8 image_a 4 gives refused (31 ∷ []))
     -- without a reference no area is needed
-    ∷ (naming_in base Absent 0 0 nameless 3 gives none)
+    ∷ (naming_in base None 0 0 nameless 3 gives none)
     ∷ []
 
 pub name-cases : Agreed names
@@ -113,13 +112,13 @@ name-cases = refl
 pub areas : List (Row (List (List ℕ)))
 unfolding naming_areas
 areas =
-    (naming_areas (name_request Absent (4 * slot_length + 3) (2 * slot_length + 5) 5) going_on gives (0 ∷ 1 ∷ 2 ∷ []) ∷ (zeros (4 * slot_length + 3)) ∷ (3 ∷ 0 ∷ 1 ∷ 2 ∷ zeros (2 * slot_length + 1)) ∷ [])
-    ∷ (naming_areas (name_request Absent (4 * slot_length) (4 * slot_length + 5) 4) image_b gives (0 ∷ 1 ∷ 2 ∷ []) ∷ (zeros (4 * slot_length)) ∷ (2 ∷ 0 ∷ 2 ∷ zeros (4 * slot_length + 2)) ∷ [])
-    ∷ (naming_areas (name_request Absent (4 * slot_length) (slot_length + 1) 5) image_a gives (0 ∷ 0 ∷ []) ∷ (zeros (4 * slot_length)) ∷ (zeros (slot_length + 1)) ∷ [])
-    ∷ (naming_areas (name_request Absent (4 * slot_length) max_edges 4) image_a gives (32 ∷ []) ∷ (zeros (4 * slot_length)) ∷ (zeros max_edges) ∷ [])
-    ∷ (naming_areas (name_request Absent 3 2 3) image_a gives (37 ∷ 3 ∷ []) ∷ (0 ∷ 0 ∷ 0 ∷ []) ∷ (0 ∷ 0 ∷ []) ∷ [])
-    ∷ (naming_areas (name_request Absent 3 2 6) image_a gives (10 ∷ 6 ∷ []) ∷ (0 ∷ 0 ∷ 0 ∷ []) ∷ (0 ∷ 0 ∷ []) ∷ [])
-    ∷ (naming_areas (name_request Absent 3 2 4) (take 76 image_a) gives (2 ∷ []) ∷ (0 ∷ 0 ∷ 0 ∷ []) ∷ (0 ∷ 0 ∷ []) ∷ [])
+    (naming_areas (name_request None (4 * slot_length + 3) (2 * slot_length + 5) 5) going_on gives (0 ∷ 1 ∷ 2 ∷ []) ∷ (zeros (4 * slot_length + 3)) ∷ (3 ∷ 0 ∷ 1 ∷ 2 ∷ zeros (2 * slot_length + 1)) ∷ [])
+    ∷ (naming_areas (name_request None (4 * slot_length) (4 * slot_length + 5) 4) image_b gives (0 ∷ 1 ∷ 2 ∷ []) ∷ (zeros (4 * slot_length)) ∷ (2 ∷ 0 ∷ 2 ∷ zeros (4 * slot_length + 2)) ∷ [])
+    ∷ (naming_areas (name_request None (4 * slot_length) (slot_length + 1) 5) image_a gives (0 ∷ 0 ∷ []) ∷ (zeros (4 * slot_length)) ∷ (zeros (slot_length + 1)) ∷ [])
+    ∷ (naming_areas (name_request None (4 * slot_length) max_edges 4) image_a gives (32 ∷ []) ∷ (zeros (4 * slot_length)) ∷ (zeros max_edges) ∷ [])
+    ∷ (naming_areas (name_request None 3 2 3) image_a gives (37 ∷ 3 ∷ []) ∷ (0 ∷ 0 ∷ 0 ∷ []) ∷ (0 ∷ 0 ∷ []) ∷ [])
+    ∷ (naming_areas (name_request None 3 2 6) image_a gives (10 ∷ 6 ∷ []) ∷ (0 ∷ 0 ∷ 0 ∷ []) ∷ (0 ∷ 0 ∷ []) ∷ [])
+    ∷ (naming_areas (name_request None 3 2 4) (take 76 image_a) gives (2 ∷ []) ∷ (0 ∷ 0 ∷ 0 ∷ []) ∷ (0 ∷ 0 ∷ []) ∷ [])
     ∷ []
 
 pub area-cases : Agreed areas

@@ -1,7 +1,6 @@
 -- The partial paths of a file: where they start and end, which edges are the file's, the order of checks, statistics, limits and bounds.
 -- Document 01, "Partial paths", first paragraph.
-use Rattle.std.specs.Prelude.{ℕ, refl, List, [], ◌∷◌}
-use Rattle.semantics.specs.declared.search.Limit.TheVariants.{Absent, AtMost}
+use Rattle.std.specs.Prelude.{ℕ, refl, List, [], ◌∷◌, None, Some}
 use Rattle.semantics.specs.declared.search.SearchOrder.TheVariants.{BreadthFirst, DepthFirst}
 use Rattle.semantics.specs.Limits.{base, max_edges}
 use Rattle.semantics.specs.Cases.Rows.{Row, ◌gives◌, Agreed, refused, expansions◌partials◌cuts◌flagged◌slots◌, unflagged}
@@ -30,52 +29,52 @@ pub partial_paths : List (Row (List (List ℕ)))
 unfolding partials_in
 partial_paths =
     -- ENDS: root, jump, an exported scope and both kinds of definition; nothing else
-    (partials_in base BreadthFirst Absent Absent 16 8 0 every_end gives expansions 16 partials 5 cuts 0 flagged unflagged slots (2 ∷ 0 ∷ []) ∷ (2 ∷ 1 ∷ []) ∷ (2 ∷ 2 ∷ []) ∷ (2 ∷ 3 ∷ []) ∷ (2 ∷ 4 ∷ []) ∷ [])
+    (partials_in base BreadthFirst None None 16 8 0 every_end gives expansions 16 partials 5 cuts 0 flagged unflagged slots (2 ∷ 0 ∷ []) ∷ (2 ∷ 1 ∷ []) ∷ (2 ∷ 2 ∷ []) ∷ (2 ∷ 3 ∷ []) ∷ (2 ∷ 4 ∷ []) ∷ [])
     -- STARTS: root first, then references and exported scopes of the file by number
-    ∷ (partials_in base BreadthFirst Absent Absent 16 8 0 every_start gives expansions 11 partials 6 cuts 0 flagged unflagged slots (0 ∷ 12 ∷ []) ∷ (2 ∷ 0 ∷ []) ∷ (3 ∷ 1 ∷ []) ∷ (7 ∷ 5 ∷ []) ∷ (11 ∷ 9 ∷ []) ∷ (0 ∷ 12 ∷ 2 ∷ []) ∷ [])
-    ∷ (partials_in base DepthFirst Absent Absent 16 8 0 every_start gives expansions 11 partials 6 cuts 0 flagged unflagged slots (0 ∷ 12 ∷ []) ∷ (0 ∷ 12 ∷ 2 ∷ []) ∷ (2 ∷ 0 ∷ []) ∷ (3 ∷ 1 ∷ []) ∷ (7 ∷ 5 ∷ []) ∷ (11 ∷ 9 ∷ []) ∷ [])
-    ∷ (partials_in base BreadthFirst Absent Absent 16 8 1 every_start gives expansions 5 partials 2 cuts 0 flagged unflagged slots (12 ∷ 10 ∷ []) ∷ (13 ∷ 11 ∷ []) ∷ [])
+    ∷ (partials_in base BreadthFirst None None 16 8 0 every_start gives expansions 11 partials 6 cuts 0 flagged unflagged slots (0 ∷ 12 ∷ []) ∷ (2 ∷ 0 ∷ []) ∷ (3 ∷ 1 ∷ []) ∷ (7 ∷ 5 ∷ []) ∷ (11 ∷ 9 ∷ []) ∷ (0 ∷ 12 ∷ 2 ∷ []) ∷ [])
+    ∷ (partials_in base DepthFirst None None 16 8 0 every_start gives expansions 11 partials 6 cuts 0 flagged unflagged slots (0 ∷ 12 ∷ []) ∷ (0 ∷ 12 ∷ 2 ∷ []) ∷ (2 ∷ 0 ∷ []) ∷ (3 ∷ 1 ∷ []) ∷ (7 ∷ 5 ∷ []) ∷ (11 ∷ 9 ∷ []) ∷ [])
+    ∷ (partials_in base BreadthFirst None None 16 8 1 every_start gives expansions 5 partials 2 cuts 0 flagged unflagged slots (12 ∷ 10 ∷ []) ∷ (13 ∷ 11 ∷ []) ∷ [])
     -- THE FILE'S EDGES: those with an end in it, on either side of root; neither the other file's nor those between root and jump
-    ∷ (partials_in base BreadthFirst Absent Absent 16 8 0 across_root gives expansions 6 partials 4 cuts 0 flagged unflagged slots (0 ∷ 1 ∷ []) ∷ (2 ∷ 0 ∷ []) ∷ (2 ∷ 7 ∷ []) ∷ (2 ∷ 0 ∷ 1 ∷ []) ∷ [])
-    ∷ (partials_in base BreadthFirst Absent Absent 16 8 1 across_root gives expansions 6 partials 4 cuts 0 flagged unflagged slots (0 ∷ 3 ∷ []) ∷ (4 ∷ 2 ∷ []) ∷ (4 ∷ 8 ∷ []) ∷ (4 ∷ 2 ∷ 3 ∷ []) ∷ [])
-    ∷ (partials_in base BreadthFirst Absent Absent 16 8 0 image_c gives expansions 5 partials 3 cuts 0 flagged unflagged slots (0 ∷ 2 ∷ []) ∷ (2 ∷ 0 ∷ []) ∷ (2 ∷ 0 ∷ 2 ∷ []) ∷ [])
+    ∷ (partials_in base BreadthFirst None None 16 8 0 across_root gives expansions 6 partials 4 cuts 0 flagged unflagged slots (0 ∷ 1 ∷ []) ∷ (2 ∷ 0 ∷ []) ∷ (2 ∷ 7 ∷ []) ∷ (2 ∷ 0 ∷ 1 ∷ []) ∷ [])
+    ∷ (partials_in base BreadthFirst None None 16 8 1 across_root gives expansions 6 partials 4 cuts 0 flagged unflagged slots (0 ∷ 3 ∷ []) ∷ (4 ∷ 2 ∷ []) ∷ (4 ∷ 8 ∷ []) ∷ (4 ∷ 2 ∷ 3 ∷ []) ∷ [])
+    ∷ (partials_in base BreadthFirst None None 16 8 0 image_c gives expansions 5 partials 3 cuts 0 flagged unflagged slots (0 ∷ 2 ∷ []) ∷ (2 ∷ 0 ∷ []) ∷ (2 ∷ 0 ∷ 2 ∷ []) ∷ [])
     -- through root and on; stacks are not examined: on D a pop-scoped is passed without a symbol
-    ∷ (partials_in base BreadthFirst Absent Absent 16 8 0 image_d gives expansions 6 partials 2 cuts 0 flagged unflagged slots (4 ∷ 4 ∷ []) ∷ (2 ∷ 0 ∷ 1 ∷ []) ∷ [])
-    ∷ (partials_in base BreadthFirst Absent Absent 16 8 1 image_d gives expansions 3 partials 1 cuts 0 flagged unflagged slots (0 ∷ 2 ∷ 3 ∷ []) ∷ [])
+    ∷ (partials_in base BreadthFirst None None 16 8 0 image_d gives expansions 6 partials 2 cuts 0 flagged unflagged slots (4 ∷ 4 ∷ []) ∷ (2 ∷ 0 ∷ 1 ∷ []) ∷ [])
+    ∷ (partials_in base BreadthFirst None None 16 8 1 image_d gives expansions 3 partials 1 cuts 0 flagged unflagged slots (0 ∷ 2 ∷ 3 ∷ []) ∷ [])
     -- a cycle cut is an edge that the path has; the three counts, each of its own value
-    ∷ (partials_in base BreadthFirst Absent Absent 16 8 0 image_e gives expansions 10 partials 7 cuts 2 flagged unflagged slots (2 ∷ 0 ∷ []) ∷ (3 ∷ 1 ∷ []) ∷ (3 ∷ 2 ∷ []) ∷ (2 ∷ 0 ∷ 1 ∷ []) ∷ (2 ∷ 0 ∷ 2 ∷ []) ∷ (3 ∷ 1 ∷ 2 ∷ []) ∷ (2 ∷ 0 ∷ 1 ∷ 2 ∷ []) ∷ [])
+    ∷ (partials_in base BreadthFirst None None 16 8 0 image_e gives expansions 10 partials 7 cuts 2 flagged unflagged slots (2 ∷ 0 ∷ []) ∷ (3 ∷ 1 ∷ []) ∷ (3 ∷ 2 ∷ []) ∷ (2 ∷ 0 ∷ 1 ∷ []) ∷ (2 ∷ 0 ∷ 2 ∷ []) ∷ (3 ∷ 1 ∷ 2 ∷ []) ∷ (2 ∷ 0 ∷ 1 ∷ 2 ∷ []) ∷ [])
     -- ORDER: by the order of taking
-    ∷ (partials_in base BreadthFirst Absent Absent 16 8 0 image_b gives expansions 11 partials 8 cuts 0 flagged unflagged slots (2 ∷ 0 ∷ []) ∷ (2 ∷ 1 ∷ []) ∷ (3 ∷ 2 ∷ []) ∷ (3 ∷ 3 ∷ []) ∷ (2 ∷ 0 ∷ 2 ∷ []) ∷ (2 ∷ 0 ∷ 3 ∷ []) ∷ (2 ∷ 1 ∷ 2 ∷ []) ∷ (2 ∷ 1 ∷ 3 ∷ []) ∷ [])
-    ∷ (partials_in base DepthFirst Absent Absent 16 8 0 image_b gives expansions 11 partials 8 cuts 0 flagged unflagged slots (2 ∷ 0 ∷ []) ∷ (2 ∷ 1 ∷ []) ∷ (2 ∷ 0 ∷ 2 ∷ []) ∷ (2 ∷ 0 ∷ 3 ∷ []) ∷ (2 ∷ 1 ∷ 2 ∷ []) ∷ (2 ∷ 1 ∷ 3 ∷ []) ∷ (3 ∷ 2 ∷ []) ∷ (3 ∷ 3 ∷ []) ∷ [])
+    ∷ (partials_in base BreadthFirst None None 16 8 0 image_b gives expansions 11 partials 8 cuts 0 flagged unflagged slots (2 ∷ 0 ∷ []) ∷ (2 ∷ 1 ∷ []) ∷ (3 ∷ 2 ∷ []) ∷ (3 ∷ 3 ∷ []) ∷ (2 ∷ 0 ∷ 2 ∷ []) ∷ (2 ∷ 0 ∷ 3 ∷ []) ∷ (2 ∷ 1 ∷ 2 ∷ []) ∷ (2 ∷ 1 ∷ 3 ∷ []) ∷ [])
+    ∷ (partials_in base DepthFirst None None 16 8 0 image_b gives expansions 11 partials 8 cuts 0 flagged unflagged slots (2 ∷ 0 ∷ []) ∷ (2 ∷ 1 ∷ []) ∷ (2 ∷ 0 ∷ 2 ∷ []) ∷ (2 ∷ 0 ∷ 3 ∷ []) ∷ (2 ∷ 1 ∷ 2 ∷ []) ∷ (2 ∷ 1 ∷ 3 ∷ []) ∷ (3 ∷ 2 ∷ []) ∷ (3 ∷ 3 ∷ []) ∷ [])
     -- LIMITS: on length, which an edge on the path does not meet; on the path count, which is told by the other flag
-    ∷ (partials_in base BreadthFirst (AtMost 1) Absent 16 8 0 image_e gives expansions 6 partials 3 cuts 1 flagged (1 ∷ 0 ∷ []) slots (2 ∷ 0 ∷ []) ∷ (3 ∷ 1 ∷ []) ∷ (3 ∷ 2 ∷ []) ∷ [])
-    ∷ (partials_in base BreadthFirst (AtMost 2) Absent 16 8 0 image_e gives expansions 9 partials 6 cuts 2 flagged (1 ∷ 0 ∷ []) slots (2 ∷ 0 ∷ []) ∷ (3 ∷ 1 ∷ []) ∷ (3 ∷ 2 ∷ []) ∷ (2 ∷ 0 ∷ 1 ∷ []) ∷ (2 ∷ 0 ∷ 2 ∷ []) ∷ (3 ∷ 1 ∷ 2 ∷ []) ∷ [])
-    ∷ (partials_in base BreadthFirst (AtMost 3) Absent 16 8 0 image_e gives expansions 10 partials 7 cuts 2 flagged unflagged slots (2 ∷ 0 ∷ []) ∷ (3 ∷ 1 ∷ []) ∷ (3 ∷ 2 ∷ []) ∷ (2 ∷ 0 ∷ 1 ∷ []) ∷ (2 ∷ 0 ∷ 2 ∷ []) ∷ (3 ∷ 1 ∷ 2 ∷ []) ∷ (2 ∷ 0 ∷ 1 ∷ 2 ∷ []) ∷ [])
-    ∷ (partials_in base BreadthFirst (AtMost 1) Absent 16 8 0 (image_of 1 (exported 0 ∷ []) (2 ⟶ 2 ∷ [])) gives expansions 3 partials 1 cuts 1 flagged unflagged slots (2 ∷ 0 ∷ []) ∷ [])
-    ∷ (partials_in base BreadthFirst Absent (AtMost 0) 16 8 0 image_e gives expansions 0 partials 0 cuts 0 flagged (0 ∷ 1 ∷ []) slots [])
-    ∷ (partials_in base BreadthFirst Absent (AtMost 4) 16 8 0 image_e gives expansions 4 partials 5 cuts 0 flagged (0 ∷ 1 ∷ []) slots (2 ∷ 0 ∷ []) ∷ (3 ∷ 1 ∷ []) ∷ (3 ∷ 2 ∷ []) ∷ (2 ∷ 0 ∷ 1 ∷ []) ∷ (2 ∷ 0 ∷ 2 ∷ []) ∷ [])
-    ∷ (partials_in base DepthFirst (AtMost 2) (AtMost 4) 16 8 0 image_e gives expansions 4 partials 3 cuts 1 flagged (1 ∷ 1 ∷ []) slots (2 ∷ 0 ∷ []) ∷ (2 ∷ 0 ∷ 1 ∷ []) ∷ (2 ∷ 0 ∷ 2 ∷ []) ∷ [])
+    ∷ (partials_in base BreadthFirst (Some 1) None 16 8 0 image_e gives expansions 6 partials 3 cuts 1 flagged (1 ∷ 0 ∷ []) slots (2 ∷ 0 ∷ []) ∷ (3 ∷ 1 ∷ []) ∷ (3 ∷ 2 ∷ []) ∷ [])
+    ∷ (partials_in base BreadthFirst (Some 2) None 16 8 0 image_e gives expansions 9 partials 6 cuts 2 flagged (1 ∷ 0 ∷ []) slots (2 ∷ 0 ∷ []) ∷ (3 ∷ 1 ∷ []) ∷ (3 ∷ 2 ∷ []) ∷ (2 ∷ 0 ∷ 1 ∷ []) ∷ (2 ∷ 0 ∷ 2 ∷ []) ∷ (3 ∷ 1 ∷ 2 ∷ []) ∷ [])
+    ∷ (partials_in base BreadthFirst (Some 3) None 16 8 0 image_e gives expansions 10 partials 7 cuts 2 flagged unflagged slots (2 ∷ 0 ∷ []) ∷ (3 ∷ 1 ∷ []) ∷ (3 ∷ 2 ∷ []) ∷ (2 ∷ 0 ∷ 1 ∷ []) ∷ (2 ∷ 0 ∷ 2 ∷ []) ∷ (3 ∷ 1 ∷ 2 ∷ []) ∷ (2 ∷ 0 ∷ 1 ∷ 2 ∷ []) ∷ [])
+    ∷ (partials_in base BreadthFirst (Some 1) None 16 8 0 (image_of 1 (exported 0 ∷ []) (2 ⟶ 2 ∷ [])) gives expansions 3 partials 1 cuts 1 flagged unflagged slots (2 ∷ 0 ∷ []) ∷ [])
+    ∷ (partials_in base BreadthFirst None (Some 0) 16 8 0 image_e gives expansions 0 partials 0 cuts 0 flagged (0 ∷ 1 ∷ []) slots [])
+    ∷ (partials_in base BreadthFirst None (Some 4) 16 8 0 image_e gives expansions 4 partials 5 cuts 0 flagged (0 ∷ 1 ∷ []) slots (2 ∷ 0 ∷ []) ∷ (3 ∷ 1 ∷ []) ∷ (3 ∷ 2 ∷ []) ∷ (2 ∷ 0 ∷ 1 ∷ []) ∷ (2 ∷ 0 ∷ 2 ∷ []) ∷ [])
+    ∷ (partials_in base DepthFirst (Some 2) (Some 4) 16 8 0 image_e gives expansions 4 partials 3 cuts 1 flagged (1 ∷ 1 ∷ []) slots (2 ∷ 0 ∷ []) ∷ (2 ∷ 0 ∷ 1 ∷ []) ∷ (2 ∷ 0 ∷ 2 ∷ []) ∷ [])
     -- 21: a file that is none
-    ∷ (partials_in base BreadthFirst Absent Absent 16 8 2 across_root gives refused (21 ∷ 2 ∷ []))
-    ∷ (partials_in base BreadthFirst Absent Absent 16 8 9 image_a gives refused (21 ∷ 9 ∷ []))
+    ∷ (partials_in base BreadthFirst None None 16 8 2 across_root gives refused (21 ∷ 2 ∷ []))
+    ∷ (partials_in base BreadthFirst None None 16 8 9 image_a gives refused (21 ∷ 9 ∷ []))
     -- SLOTS AND BOUNDS: A's file needs 4 waiting slots, 5 database slots, 8 expansions and 2 edges; the starts wait too
-    ∷ (partials_in base BreadthFirst Absent Absent 2 8 0 image_a gives refused (31 ∷ []))
-    ∷ (partials_in base BreadthFirst Absent Absent 3 8 0 image_a gives refused (31 ∷ []))
-    ∷ (partials_in base BreadthFirst Absent Absent 4 8 0 image_a gives expansions 8 partials 5 cuts 0 flagged unflagged slots (2 ∷ 0 ∷ []) ∷ (3 ∷ 1 ∷ []) ∷ (3 ∷ 2 ∷ []) ∷ (2 ∷ 0 ∷ 1 ∷ []) ∷ (2 ∷ 0 ∷ 2 ∷ []) ∷ [])
-    ∷ (partials_in base BreadthFirst Absent (AtMost 0) 2 8 0 image_a gives refused (31 ∷ []))
-    ∷ (partials_in base BreadthFirst Absent Absent 8 4 0 image_a gives refused (33 ∷ []))
-    ∷ (partials_in base BreadthFirst Absent Absent 8 5 0 image_a gives expansions 8 partials 5 cuts 0 flagged unflagged slots (2 ∷ 0 ∷ []) ∷ (3 ∷ 1 ∷ []) ∷ (3 ∷ 2 ∷ []) ∷ (2 ∷ 0 ∷ 1 ∷ []) ∷ (2 ∷ 0 ∷ 2 ∷ []) ∷ [])
-    ∷ (partials_in (bounded max_edges 7) BreadthFirst Absent Absent 8 8 0 image_a gives refused (36 ∷ []))
-    ∷ (partials_in (bounded max_edges 8) BreadthFirst Absent Absent 8 8 0 image_a gives expansions 8 partials 5 cuts 0 flagged unflagged slots (2 ∷ 0 ∷ []) ∷ (3 ∷ 1 ∷ []) ∷ (3 ∷ 2 ∷ []) ∷ (2 ∷ 0 ∷ 1 ∷ []) ∷ (2 ∷ 0 ∷ 2 ∷ []) ∷ [])
-    ∷ (partials_in (bounded max_edges 7) BreadthFirst Absent (AtMost 7) 8 8 0 image_a gives expansions 7 partials 5 cuts 0 flagged (0 ∷ 1 ∷ []) slots (2 ∷ 0 ∷ []) ∷ (3 ∷ 1 ∷ []) ∷ (3 ∷ 2 ∷ []) ∷ (2 ∷ 0 ∷ 1 ∷ []) ∷ (2 ∷ 0 ∷ 2 ∷ []) ∷ [])
-    ∷ (partials_in (bounded 1 8) BreadthFirst Absent Absent 8 8 0 image_a gives refused (30 ∷ []))
-    ∷ (partials_in (bounded 2 8) BreadthFirst Absent Absent 8 8 0 image_a gives expansions 8 partials 5 cuts 0 flagged unflagged slots (2 ∷ 0 ∷ []) ∷ (3 ∷ 1 ∷ []) ∷ (3 ∷ 2 ∷ []) ∷ (2 ∷ 0 ∷ 1 ∷ []) ∷ (2 ∷ 0 ∷ 2 ∷ []) ∷ [])
+    ∷ (partials_in base BreadthFirst None None 2 8 0 image_a gives refused (31 ∷ []))
+    ∷ (partials_in base BreadthFirst None None 3 8 0 image_a gives refused (31 ∷ []))
+    ∷ (partials_in base BreadthFirst None None 4 8 0 image_a gives expansions 8 partials 5 cuts 0 flagged unflagged slots (2 ∷ 0 ∷ []) ∷ (3 ∷ 1 ∷ []) ∷ (3 ∷ 2 ∷ []) ∷ (2 ∷ 0 ∷ 1 ∷ []) ∷ (2 ∷ 0 ∷ 2 ∷ []) ∷ [])
+    ∷ (partials_in base BreadthFirst None (Some 0) 2 8 0 image_a gives refused (31 ∷ []))
+    ∷ (partials_in base BreadthFirst None None 8 4 0 image_a gives refused (33 ∷ []))
+    ∷ (partials_in base BreadthFirst None None 8 5 0 image_a gives expansions 8 partials 5 cuts 0 flagged unflagged slots (2 ∷ 0 ∷ []) ∷ (3 ∷ 1 ∷ []) ∷ (3 ∷ 2 ∷ []) ∷ (2 ∷ 0 ∷ 1 ∷ []) ∷ (2 ∷ 0 ∷ 2 ∷ []) ∷ [])
+    ∷ (partials_in (bounded max_edges 7) BreadthFirst None None 8 8 0 image_a gives refused (36 ∷ []))
+    ∷ (partials_in (bounded max_edges 8) BreadthFirst None None 8 8 0 image_a gives expansions 8 partials 5 cuts 0 flagged unflagged slots (2 ∷ 0 ∷ []) ∷ (3 ∷ 1 ∷ []) ∷ (3 ∷ 2 ∷ []) ∷ (2 ∷ 0 ∷ 1 ∷ []) ∷ (2 ∷ 0 ∷ 2 ∷ []) ∷ [])
+    ∷ (partials_in (bounded max_edges 7) BreadthFirst None (Some 7) 8 8 0 image_a gives expansions 7 partials 5 cuts 0 flagged (0 ∷ 1 ∷ []) slots (2 ∷ 0 ∷ []) ∷ (3 ∷ 1 ∷ []) ∷ (3 ∷ 2 ∷ []) ∷ (2 ∷ 0 ∷ 1 ∷ []) ∷ (2 ∷ 0 ∷ 2 ∷ []) ∷ [])
+    ∷ (partials_in (bounded 1 8) BreadthFirst None None 8 8 0 image_a gives refused (30 ∷ []))
+    ∷ (partials_in (bounded 2 8) BreadthFirst None None 8 8 0 image_a gives expansions 8 partials 5 cuts 0 flagged unflagged slots (2 ∷ 0 ∷ []) ∷ (3 ∷ 1 ∷ []) ∷ (3 ∷ 2 ∷ []) ∷ (2 ∷ 0 ∷ 1 ∷ []) ∷ (2 ∷ 0 ∷ 2 ∷ []) ∷ [])
     -- the bound behind the length and behind the cycle test
-    ∷ (partials_in (bounded 1 8) BreadthFirst (AtMost 1) Absent 8 8 0 image_a gives expansions 6 partials 3 cuts 0 flagged (1 ∷ 0 ∷ []) slots (2 ∷ 0 ∷ []) ∷ (3 ∷ 1 ∷ []) ∷ (3 ∷ 2 ∷ []) ∷ [])
-    ∷ (partials_in (bounded 1 8) BreadthFirst Absent Absent 8 8 0 (image_of 1 (exported 0 ∷ []) (2 ⟶ 2 ∷ [])) gives expansions 3 partials 1 cuts 1 flagged unflagged slots (2 ∷ 0 ∷ []) ∷ [])
+    ∷ (partials_in (bounded 1 8) BreadthFirst (Some 1) None 8 8 0 image_a gives expansions 6 partials 3 cuts 0 flagged (1 ∷ 0 ∷ []) slots (2 ∷ 0 ∷ []) ∷ (3 ∷ 1 ∷ []) ∷ (3 ∷ 2 ∷ []) ∷ [])
+    ∷ (partials_in (bounded 1 8) BreadthFirst None None 8 8 0 (image_of 1 (exported 0 ∷ []) (2 ⟶ 2 ∷ [])) gives expansions 3 partials 1 cuts 1 flagged unflagged slots (2 ∷ 0 ∷ []) ∷ [])
     -- 33 follows a finished computation: 31 and 36 come first, although no slot is there
-    ∷ (partials_in base BreadthFirst Absent Absent 3 0 0 image_a gives refused (31 ∷ []))
-    ∷ (partials_in (bounded max_edges 7) BreadthFirst Absent Absent 8 0 0 image_a gives refused (36 ∷ []))
+    ∷ (partials_in base BreadthFirst None None 3 0 0 image_a gives refused (31 ∷ []))
+    ∷ (partials_in (bounded max_edges 7) BreadthFirst None None 8 0 0 image_a gives refused (36 ∷ []))
     ∷ []
 
 pub partial-cases : Agreed partial_paths

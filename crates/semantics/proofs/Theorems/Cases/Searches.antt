@@ -1,13 +1,11 @@
 -- Direct search: its order of checks, its statistics and flags, both orders, limits, and every word of both areas.
 -- Document 01, "Budget and frontier" and "Answer".
-use Rattle.std.specs.Prelude.{ℕ, ◌+◌, ◌-◌, ◌*◌, refl, List, [], ◌∷◌, ◌++◌, take}
-use Rattle.semantics.specs.declared.search.Limit.{Limit}
-use Rattle.semantics.specs.declared.search.Limit.TheVariants.{Absent, AtMost}
+use Rattle.std.specs.Prelude.{ℕ, ◌+◌, ◌-◌, ◌*◌, refl, List, [], ◌∷◌, ◌++◌, take, None, Some}
 use Rattle.semantics.specs.declared.search.SearchOrder.{SearchOrder}
 use Rattle.semantics.specs.declared.search.SearchOrder.TheVariants.{BreadthFirst, DepthFirst}
 use Rattle.semantics.specs.declared.refusal.ImageRefusal.{ImageRefusal}
 use Rattle.semantics.specs.declared.refusal.SearchRefusal.{SearchRefusal}
-use Rattle.semantics.specs.Limits.{Bounds, base, former, slot_words, record_words, max_edges, slot_length}
+use Rattle.semantics.specs.Limits.{Bounds, base, former, slot_words, record_words, max_edges, slot_length, Limit}
 use Rattle.semantics.specs.Answer.{Answer, ok, refuse}
 use Rattle.semantics.specs.Graph.{Graph, view_of}
 use Rattle.semantics.specs.Path.{Path}
@@ -46,97 +44,97 @@ two_ways = image_of 1 (reference 0 7 ∷ scope 0 ∷ scope 0 ∷ scope 0 ∷ def
 -- with so many waiting and result slots
 recording_in : SearchOrder → Limit → ℕ → ℕ → List ℕ → List (List ℕ)
 unfolding recorded_by
-recording_in order kept waiting results im = recorded_by base (request base order Absent Absent kept waiting results) im
+recording_in order kept waiting results im = recorded_by base (request base order None None kept waiting results) im
 
 -- under other bounds
 recording_under : Bounds → Limit → Limit → List ℕ → List (List ℕ)
 unfolding recorded_by
-recording_under bd length count im = recorded_by bd (request bd BreadthFirst length count Absent 8 8) im
+recording_under bd length count im = recorded_by bd (request bd BreadthFirst length count None 8 8) im
 
 pub searches : List (Row (List (List ℕ)))
 unfolding searching recording recording_in recording_under returned_by
 searches =
     -- the four counts, each of its own value
-    (searching BreadthFirst Absent Absent Absent branching gives returned 2 expanded 5 complete 2 rejected 4 cycles 1 flags no_flag paths (0 ∷ 2 ∷ []) ∷ (0 ∷ 1 ∷ 2 ∷ []) ∷ [])
+    (searching BreadthFirst None None None branching gives returned 2 expanded 5 complete 2 rejected 4 cycles 1 flags no_flag paths (0 ∷ 2 ∷ []) ∷ (0 ∷ 1 ∷ 2 ∷ []) ∷ [])
     -- a node met again is no cycle, an edge is
-    ∷ (searching BreadthFirst Absent Absent Absent looping gives returned 0 expanded 3 complete 0 rejected 0 cycles 1 flags no_flag paths [])
+    ∷ (searching BreadthFirst None None None looping gives returned 0 expanded 3 complete 0 rejected 0 cycles 1 flags no_flag paths [])
     -- cycle before length: the edge that would be too long is on the path
-    ∷ (searching BreadthFirst (AtMost 2) Absent Absent looping gives returned 0 expanded 3 complete 0 rejected 0 cycles 1 flags no_flag paths [])
+    ∷ (searching BreadthFirst (Some 2) None None looping gives returned 0 expanded 3 complete 0 rejected 0 cycles 1 flags no_flag paths [])
     -- length before append: edges that would be rejected are too long
-    ∷ (searching BreadthFirst (AtMost 1) Absent Absent branching gives returned 0 expanded 2 complete 0 rejected 0 cycles 0 flags length_flag paths [])
-    ∷ (searching BreadthFirst (AtMost 0) Absent Absent branching gives returned 0 expanded 1 complete 0 rejected 0 cycles 0 flags length_flag paths [])
+    ∷ (searching BreadthFirst (Some 1) None None branching gives returned 0 expanded 2 complete 0 rejected 0 cycles 0 flags length_flag paths [])
+    ∷ (searching BreadthFirst (Some 0) None None branching gives returned 0 expanded 1 complete 0 rejected 0 cycles 0 flags length_flag paths [])
     -- removed edges have their numbers, and are not looked at
-    ∷ (searching BreadthFirst Absent Absent Absent (image_of 1 (reference 0 7 ∷ removed_node ∷ definition 0 7 ∷ []) (removed_edge ∷ 2 ⟶ 4 ∷ removed_edge ∷ [])) gives returned 1 expanded 2 complete 1 rejected 0 cycles 0 flags no_flag paths (1 ∷ []) ∷ [])
+    ∷ (searching BreadthFirst None None None (image_of 1 (reference 0 7 ∷ removed_node ∷ definition 0 7 ∷ []) (removed_edge ∷ 2 ⟶ 4 ∷ removed_edge ∷ [])) gives returned 1 expanded 2 complete 1 rejected 0 cycles 0 flags no_flag paths (1 ∷ []) ∷ [])
     -- through root into another file, and by jump back
-    ∷ (searching BreadthFirst Absent Absent Absent image_d gives returned 1 expanded 6 complete 1 rejected 0 cycles 0 flags no_flag paths (0 ∷ 1 ∷ 2 ∷ 3 ∷ 4 ∷ []) ∷ [])
-    ∷ (searching DepthFirst (AtMost 5) Absent Absent image_d gives returned 1 expanded 6 complete 1 rejected 0 cycles 0 flags no_flag paths (0 ∷ 1 ∷ 2 ∷ 3 ∷ 4 ∷ []) ∷ [])
-    ∷ (searching DepthFirst (AtMost 4) Absent Absent image_d gives returned 0 expanded 5 complete 0 rejected 0 cycles 0 flags length_flag paths [])
+    ∷ (searching BreadthFirst None None None image_d gives returned 1 expanded 6 complete 1 rejected 0 cycles 0 flags no_flag paths (0 ∷ 1 ∷ 2 ∷ 3 ∷ 4 ∷ []) ∷ [])
+    ∷ (searching DepthFirst (Some 5) None None image_d gives returned 1 expanded 6 complete 1 rejected 0 cycles 0 flags no_flag paths (0 ∷ 1 ∷ 2 ∷ 3 ∷ 4 ∷ []) ∷ [])
+    ∷ (searching DepthFirst (Some 4) None None image_d gives returned 0 expanded 5 complete 0 rejected 0 cycles 0 flags length_flag paths [])
     -- ORDER: breadth-first takes the oldest, depth-first the first pushed of the newest
-    ∷ (searching BreadthFirst Absent (AtMost 3) Absent image_b gives returned 1 expanded 3 complete 4 rejected 0 cycles 0 flags count_flag paths (1 ∷ 3 ∷ []) ∷ [])
-    ∷ (searching DepthFirst Absent (AtMost 3) Absent image_b gives returned 1 expanded 3 complete 2 rejected 0 cycles 0 flags count_flag paths (0 ∷ 3 ∷ []) ∷ [])
-    ∷ (searching DepthFirst Absent (AtMost 4) Absent image_b gives returned 1 expanded 4 complete 2 rejected 0 cycles 0 flags count_flag paths (0 ∷ 3 ∷ []) ∷ [])
-    ∷ (recording BreadthFirst Absent Absent Absent two_ways gives returned 2 expanded 6 complete 2 rejected 0 cycles 0 flags no_flag paths (3 ∷ 4 ∷ []) ∷ (0 ∷ 1 ∷ 2 ∷ []) ∷ [])
-    ∷ (recording DepthFirst Absent Absent Absent two_ways gives returned 2 expanded 6 complete 2 rejected 0 cycles 0 flags no_flag paths (0 ∷ 1 ∷ 2 ∷ []) ∷ (3 ∷ 4 ∷ []) ∷ [])
-    ∷ (recording BreadthFirst Absent Absent Absent image_b gives returned 4 expanded 7 complete 4 rejected 0 cycles 0 flags no_flag paths (0 ∷ 2 ∷ []) ∷ (0 ∷ 3 ∷ []) ∷ (1 ∷ 2 ∷ []) ∷ (1 ∷ 3 ∷ []) ∷ [])
-    ∷ (recording DepthFirst Absent Absent Absent image_b gives returned 4 expanded 7 complete 4 rejected 0 cycles 0 flags no_flag paths (0 ∷ 2 ∷ []) ∷ (0 ∷ 3 ∷ []) ∷ (1 ∷ 2 ∷ []) ∷ (1 ∷ 3 ∷ []) ∷ [])
+    ∷ (searching BreadthFirst None (Some 3) None image_b gives returned 1 expanded 3 complete 4 rejected 0 cycles 0 flags count_flag paths (1 ∷ 3 ∷ []) ∷ [])
+    ∷ (searching DepthFirst None (Some 3) None image_b gives returned 1 expanded 3 complete 2 rejected 0 cycles 0 flags count_flag paths (0 ∷ 3 ∷ []) ∷ [])
+    ∷ (searching DepthFirst None (Some 4) None image_b gives returned 1 expanded 4 complete 2 rejected 0 cycles 0 flags count_flag paths (0 ∷ 3 ∷ []) ∷ [])
+    ∷ (recording BreadthFirst None None None two_ways gives returned 2 expanded 6 complete 2 rejected 0 cycles 0 flags no_flag paths (3 ∷ 4 ∷ []) ∷ (0 ∷ 1 ∷ 2 ∷ []) ∷ [])
+    ∷ (recording DepthFirst None None None two_ways gives returned 2 expanded 6 complete 2 rejected 0 cycles 0 flags no_flag paths (0 ∷ 1 ∷ 2 ∷ []) ∷ (3 ∷ 4 ∷ []) ∷ [])
+    ∷ (recording BreadthFirst None None None image_b gives returned 4 expanded 7 complete 4 rejected 0 cycles 0 flags no_flag paths (0 ∷ 2 ∷ []) ∷ (0 ∷ 3 ∷ []) ∷ (1 ∷ 2 ∷ []) ∷ (1 ∷ 3 ∷ []) ∷ [])
+    ∷ (recording DepthFirst None None None image_b gives returned 4 expanded 7 complete 4 rejected 0 cycles 0 flags no_flag paths (0 ∷ 2 ∷ []) ∷ (0 ∷ 3 ∷ []) ∷ (1 ∷ 2 ∷ []) ∷ (1 ∷ 3 ∷ []) ∷ [])
     -- RECORDED AND RETURNED: what is shadowed is recorded; a path and its beginning are two paths
-    ∷ (recording BreadthFirst Absent Absent (AtMost 3) image_b gives returned 3 expanded 7 complete 4 rejected 0 cycles 0 flags complete_flag paths (0 ∷ 2 ∷ []) ∷ (0 ∷ 3 ∷ []) ∷ (1 ∷ 2 ∷ []) ∷ [])
-    ∷ (searching BreadthFirst Absent Absent Absent going_on gives returned 2 expanded 4 complete 2 rejected 0 cycles 0 flags no_flag paths (0 ∷ []) ∷ (0 ∷ 1 ∷ 2 ∷ []) ∷ [])
+    ∷ (recording BreadthFirst None None (Some 3) image_b gives returned 3 expanded 7 complete 4 rejected 0 cycles 0 flags complete_flag paths (0 ∷ 2 ∷ []) ∷ (0 ∷ 3 ∷ []) ∷ (1 ∷ 2 ∷ []) ∷ [])
+    ∷ (searching BreadthFirst None None None going_on gives returned 2 expanded 4 complete 2 rejected 0 cycles 0 flags no_flag paths (0 ∷ []) ∷ (0 ∷ 1 ∷ 2 ∷ []) ∷ [])
     -- LIMITS: on complete paths, kept none, one and all; on the path count, with each
-    ∷ (searching BreadthFirst Absent Absent (AtMost 0) branching gives returned 0 expanded 5 complete 2 rejected 4 cycles 1 flags complete_flag paths [])
-    ∷ (searching BreadthFirst Absent Absent (AtMost 1) branching gives returned 1 expanded 5 complete 2 rejected 4 cycles 1 flags complete_flag paths (0 ∷ 2 ∷ []) ∷ [])
-    ∷ (searching BreadthFirst Absent Absent (AtMost 2) branching gives returned 2 expanded 5 complete 2 rejected 4 cycles 1 flags no_flag paths (0 ∷ 2 ∷ []) ∷ (0 ∷ 1 ∷ 2 ∷ []) ∷ [])
-    ∷ (searching BreadthFirst Absent (AtMost 4) Absent branching gives returned 2 expanded 4 complete 2 rejected 4 cycles 1 flags count_flag paths (0 ∷ 2 ∷ []) ∷ (0 ∷ 1 ∷ 2 ∷ []) ∷ [])
-    ∷ (searching BreadthFirst Absent (AtMost 5) Absent branching gives returned 2 expanded 5 complete 2 rejected 4 cycles 1 flags no_flag paths (0 ∷ 2 ∷ []) ∷ (0 ∷ 1 ∷ 2 ∷ []) ∷ [])
+    ∷ (searching BreadthFirst None None (Some 0) branching gives returned 0 expanded 5 complete 2 rejected 4 cycles 1 flags complete_flag paths [])
+    ∷ (searching BreadthFirst None None (Some 1) branching gives returned 1 expanded 5 complete 2 rejected 4 cycles 1 flags complete_flag paths (0 ∷ 2 ∷ []) ∷ [])
+    ∷ (searching BreadthFirst None None (Some 2) branching gives returned 2 expanded 5 complete 2 rejected 4 cycles 1 flags no_flag paths (0 ∷ 2 ∷ []) ∷ (0 ∷ 1 ∷ 2 ∷ []) ∷ [])
+    ∷ (searching BreadthFirst None (Some 4) None branching gives returned 2 expanded 4 complete 2 rejected 4 cycles 1 flags count_flag paths (0 ∷ 2 ∷ []) ∷ (0 ∷ 1 ∷ 2 ∷ []) ∷ [])
+    ∷ (searching BreadthFirst None (Some 5) None branching gives returned 2 expanded 5 complete 2 rejected 4 cycles 1 flags no_flag paths (0 ∷ 2 ∷ []) ∷ (0 ∷ 1 ∷ 2 ∷ []) ∷ [])
     -- all three, with counts of their own value: a flag once set stays, and nothing else is altered by it
-    ∷ (searching DepthFirst (AtMost 2) Absent Absent after_length gives returned 1 expanded 7 complete 1 rejected 1 cycles 1 flags length_flag paths (3 ∷ 4 ∷ []) ∷ [])
-    ∷ (searching DepthFirst (AtMost 2) (AtMost 6) Absent after_length gives returned 1 expanded 6 complete 1 rejected 1 cycles 0 flags (1 ∷ 1 ∷ 0 ∷ []) paths (3 ∷ 4 ∷ []) ∷ [])
-    ∷ (searching DepthFirst (AtMost 2) Absent (AtMost 0) after_length gives returned 0 expanded 7 complete 1 rejected 1 cycles 1 flags (1 ∷ 0 ∷ 1 ∷ []) paths [])
-    ∷ (searching DepthFirst (AtMost 2) (AtMost 3) (AtMost 0) after_complete gives returned 0 expanded 3 complete 1 rejected 1 cycles 0 flags (0 ∷ 1 ∷ 1 ∷ []) paths [])
-    ∷ (searching DepthFirst (AtMost 2) Absent (AtMost 0) after_complete gives returned 0 expanded 4 complete 1 rejected 1 cycles 1 flags complete_flag paths [])
-    ∷ (searching DepthFirst (AtMost 1) Absent (AtMost 0) after_complete gives returned 0 expanded 3 complete 1 rejected 1 cycles 0 flags (1 ∷ 0 ∷ 1 ∷ []) paths [])
-    ∷ (searching DepthFirst (AtMost 2) (AtMost 7) (AtMost 1) two_scopes gives returned 1 expanded 7 complete 3 rejected 4 cycles 2 flags (1 ∷ 1 ∷ 1 ∷ []) paths (0 ∷ 2 ∷ []) ∷ [])
-    ∷ (searching DepthFirst (AtMost 2) (AtMost 8) (AtMost 1) two_scopes gives returned 1 expanded 8 complete 3 rejected 4 cycles 2 flags (1 ∷ 0 ∷ 1 ∷ []) paths (0 ∷ 2 ∷ []) ∷ [])
-    ∷ (searching DepthFirst (AtMost 2) Absent (AtMost 1) two_scopes gives returned 1 expanded 8 complete 3 rejected 4 cycles 2 flags (1 ∷ 0 ∷ 1 ∷ []) paths (0 ∷ 2 ∷ []) ∷ [])
-    ∷ (searching DepthFirst (AtMost 2) Absent Absent two_scopes gives returned 3 expanded 8 complete 3 rejected 4 cycles 2 flags length_flag paths (0 ∷ 2 ∷ []) ∷ (4 ∷ 6 ∷ []) ∷ (4 ∷ 7 ∷ []) ∷ [])
-    ∷ (searching DepthFirst Absent Absent (AtMost 0) two_scopes gives returned 0 expanded 11 complete 6 rejected 8 cycles 2 flags complete_flag paths [])
+    ∷ (searching DepthFirst (Some 2) None None after_length gives returned 1 expanded 7 complete 1 rejected 1 cycles 1 flags length_flag paths (3 ∷ 4 ∷ []) ∷ [])
+    ∷ (searching DepthFirst (Some 2) (Some 6) None after_length gives returned 1 expanded 6 complete 1 rejected 1 cycles 0 flags (1 ∷ 1 ∷ 0 ∷ []) paths (3 ∷ 4 ∷ []) ∷ [])
+    ∷ (searching DepthFirst (Some 2) None (Some 0) after_length gives returned 0 expanded 7 complete 1 rejected 1 cycles 1 flags (1 ∷ 0 ∷ 1 ∷ []) paths [])
+    ∷ (searching DepthFirst (Some 2) (Some 3) (Some 0) after_complete gives returned 0 expanded 3 complete 1 rejected 1 cycles 0 flags (0 ∷ 1 ∷ 1 ∷ []) paths [])
+    ∷ (searching DepthFirst (Some 2) None (Some 0) after_complete gives returned 0 expanded 4 complete 1 rejected 1 cycles 1 flags complete_flag paths [])
+    ∷ (searching DepthFirst (Some 1) None (Some 0) after_complete gives returned 0 expanded 3 complete 1 rejected 1 cycles 0 flags (1 ∷ 0 ∷ 1 ∷ []) paths [])
+    ∷ (searching DepthFirst (Some 2) (Some 7) (Some 1) two_scopes gives returned 1 expanded 7 complete 3 rejected 4 cycles 2 flags (1 ∷ 1 ∷ 1 ∷ []) paths (0 ∷ 2 ∷ []) ∷ [])
+    ∷ (searching DepthFirst (Some 2) (Some 8) (Some 1) two_scopes gives returned 1 expanded 8 complete 3 rejected 4 cycles 2 flags (1 ∷ 0 ∷ 1 ∷ []) paths (0 ∷ 2 ∷ []) ∷ [])
+    ∷ (searching DepthFirst (Some 2) None (Some 1) two_scopes gives returned 1 expanded 8 complete 3 rejected 4 cycles 2 flags (1 ∷ 0 ∷ 1 ∷ []) paths (0 ∷ 2 ∷ []) ∷ [])
+    ∷ (searching DepthFirst (Some 2) None None two_scopes gives returned 3 expanded 8 complete 3 rejected 4 cycles 2 flags length_flag paths (0 ∷ 2 ∷ []) ∷ (4 ∷ 6 ∷ []) ∷ (4 ∷ 7 ∷ []) ∷ [])
+    ∷ (searching DepthFirst None None (Some 0) two_scopes gives returned 0 expanded 11 complete 6 rejected 8 cycles 2 flags complete_flag paths [])
     -- THE NODE: 10 and 11, behind the image and in front of the areas
-    ∷ (returned_by base (request_from 6 base BreadthFirst Absent Absent Absent 0 0) image_a gives refused (10 ∷ 6 ∷ []))
-    ∷ (returned_by base (request_from 3 base BreadthFirst Absent Absent Absent 0 0) image_a gives refused (11 ∷ 3 ∷ []))
-    ∷ (returned_by base (request_from 3 base BreadthFirst Absent Absent Absent 0 0) (take 76 image_a) gives refused (2 ∷ []))
+    ∷ (returned_by base (request_from 6 base BreadthFirst None None None 0 0) image_a gives refused (10 ∷ 6 ∷ []))
+    ∷ (returned_by base (request_from 3 base BreadthFirst None None None 0 0) image_a gives refused (11 ∷ 3 ∷ []))
+    ∷ (returned_by base (request_from 3 base BreadthFirst None None None 0 0) (take 76 image_a) gives refused (2 ∷ []))
     -- SLOTS: none for the start, also with a path count of 0; 32 before 31, both before the other is asked
-    ∷ (returned_by base (request base BreadthFirst Absent (AtMost 0) Absent 0 0) image_a gives refused (31 ∷ []))
-    ∷ (returned_by base (request base BreadthFirst Absent (AtMost 0) Absent 1 0) image_a gives returned 0 expanded 0 complete 0 rejected 0 cycles 0 flags count_flag paths [])
-    ∷ (recording_in BreadthFirst Absent 1 1 twice_complete gives refused (32 ∷ []))
-    ∷ (recording_in BreadthFirst Absent 1 2 twice_complete gives refused (31 ∷ []))
-    ∷ (recording_in BreadthFirst Absent 2 1 twice_complete gives refused (32 ∷ []))
-    ∷ (recording_in BreadthFirst Absent 2 2 twice_complete gives returned 2 expanded 3 complete 2 rejected 0 cycles 0 flags no_flag paths (0 ∷ []) ∷ (1 ∷ []) ∷ [])
+    ∷ (returned_by base (request base BreadthFirst None (Some 0) None 0 0) image_a gives refused (31 ∷ []))
+    ∷ (returned_by base (request base BreadthFirst None (Some 0) None 1 0) image_a gives returned 0 expanded 0 complete 0 rejected 0 cycles 0 flags count_flag paths [])
+    ∷ (recording_in BreadthFirst None 1 1 twice_complete gives refused (32 ∷ []))
+    ∷ (recording_in BreadthFirst None 1 2 twice_complete gives refused (31 ∷ []))
+    ∷ (recording_in BreadthFirst None 2 1 twice_complete gives refused (32 ∷ []))
+    ∷ (recording_in BreadthFirst None 2 2 twice_complete gives returned 2 expanded 3 complete 2 rejected 0 cycles 0 flags no_flag paths (0 ∷ []) ∷ (1 ∷ []) ∷ [])
     -- 32 only for a path that is to be kept
-    ∷ (recording_in BreadthFirst (AtMost 1) 2 1 twice_complete gives returned 1 expanded 3 complete 2 rejected 0 cycles 0 flags complete_flag paths (0 ∷ []) ∷ [])
-    ∷ (recording_in BreadthFirst (AtMost 0) 2 0 twice_complete gives returned 0 expanded 3 complete 2 rejected 0 cycles 0 flags complete_flag paths [])
+    ∷ (recording_in BreadthFirst (Some 1) 2 1 twice_complete gives returned 1 expanded 3 complete 2 rejected 0 cycles 0 flags complete_flag paths (0 ∷ []) ∷ [])
+    ∷ (recording_in BreadthFirst (Some 0) 2 0 twice_complete gives returned 0 expanded 3 complete 2 rejected 0 cycles 0 flags complete_flag paths [])
     -- a slot serves again from the pop on: B needs 4 waiting slots, not 7; depth-first 3
-    ∷ (recording_in BreadthFirst Absent 3 4 image_b gives refused (31 ∷ []))
-    ∷ (recording_in BreadthFirst Absent 4 4 image_b gives returned 4 expanded 7 complete 4 rejected 0 cycles 0 flags no_flag paths (0 ∷ 2 ∷ []) ∷ (0 ∷ 3 ∷ []) ∷ (1 ∷ 2 ∷ []) ∷ (1 ∷ 3 ∷ []) ∷ [])
-    ∷ (recording_in BreadthFirst Absent 4 3 image_b gives refused (32 ∷ []))
-    ∷ (recording_in DepthFirst Absent 2 4 image_b gives refused (31 ∷ []))
-    ∷ (recording_in DepthFirst Absent 3 4 image_b gives returned 4 expanded 7 complete 4 rejected 0 cycles 0 flags no_flag paths (0 ∷ 2 ∷ []) ∷ (0 ∷ 3 ∷ []) ∷ (1 ∷ 2 ∷ []) ∷ (1 ∷ 3 ∷ []) ∷ [])
+    ∷ (recording_in BreadthFirst None 3 4 image_b gives refused (31 ∷ []))
+    ∷ (recording_in BreadthFirst None 4 4 image_b gives returned 4 expanded 7 complete 4 rejected 0 cycles 0 flags no_flag paths (0 ∷ 2 ∷ []) ∷ (0 ∷ 3 ∷ []) ∷ (1 ∷ 2 ∷ []) ∷ (1 ∷ 3 ∷ []) ∷ [])
+    ∷ (recording_in BreadthFirst None 4 3 image_b gives refused (32 ∷ []))
+    ∷ (recording_in DepthFirst None 2 4 image_b gives refused (31 ∷ []))
+    ∷ (recording_in DepthFirst None 3 4 image_b gives returned 4 expanded 7 complete 4 rejected 0 cycles 0 flags no_flag paths (0 ∷ 2 ∷ []) ∷ (0 ∷ 3 ∷ []) ∷ (1 ∷ 2 ∷ []) ∷ (1 ∷ 3 ∷ []) ∷ [])
     -- THE BOUNDS, lowered: B needs 7 expansions and 2 edges
-    ∷ (recording_under (bounded max_edges 6) Absent Absent image_b gives refused (36 ∷ []))
-    ∷ (recording_under (bounded max_edges 7) Absent Absent image_b gives returned 4 expanded 7 complete 4 rejected 0 cycles 0 flags no_flag paths (0 ∷ 2 ∷ []) ∷ (0 ∷ 3 ∷ []) ∷ (1 ∷ 2 ∷ []) ∷ (1 ∷ 3 ∷ []) ∷ [])
-    ∷ (recording_under (bounded 1 7) Absent Absent image_b gives refused (30 ∷ []))
-    ∷ (recording_under (bounded 2 7) Absent Absent image_b gives returned 4 expanded 7 complete 4 rejected 0 cycles 0 flags no_flag paths (0 ∷ 2 ∷ []) ∷ (0 ∷ 3 ∷ []) ∷ (1 ∷ 2 ∷ []) ∷ (1 ∷ 3 ∷ []) ∷ [])
+    ∷ (recording_under (bounded max_edges 6) None None image_b gives refused (36 ∷ []))
+    ∷ (recording_under (bounded max_edges 7) None None image_b gives returned 4 expanded 7 complete 4 rejected 0 cycles 0 flags no_flag paths (0 ∷ 2 ∷ []) ∷ (0 ∷ 3 ∷ []) ∷ (1 ∷ 2 ∷ []) ∷ (1 ∷ 3 ∷ []) ∷ [])
+    ∷ (recording_under (bounded 1 7) None None image_b gives refused (30 ∷ []))
+    ∷ (recording_under (bounded 2 7) None None image_b gives returned 4 expanded 7 complete 4 rejected 0 cycles 0 flags no_flag paths (0 ∷ 2 ∷ []) ∷ (0 ∷ 3 ∷ []) ∷ (1 ∷ 2 ∷ []) ∷ (1 ∷ 3 ∷ []) ∷ [])
     -- 36 only for an expansion that the path count allows
-    ∷ (recording_under (bounded max_edges 6) Absent (AtMost 6) image_b gives returned 4 expanded 6 complete 4 rejected 0 cycles 0 flags count_flag paths (0 ∷ 2 ∷ []) ∷ (0 ∷ 3 ∷ []) ∷ (1 ∷ 2 ∷ []) ∷ (1 ∷ 3 ∷ []) ∷ [])
-    ∷ (recording_under (bounded max_edges 6) Absent (AtMost 7) image_b gives refused (36 ∷ []))
+    ∷ (recording_under (bounded max_edges 6) None (Some 6) image_b gives returned 4 expanded 6 complete 4 rejected 0 cycles 0 flags count_flag paths (0 ∷ 2 ∷ []) ∷ (0 ∷ 3 ∷ []) ∷ (1 ∷ 2 ∷ []) ∷ (1 ∷ 3 ∷ []) ∷ [])
+    ∷ (recording_under (bounded max_edges 6) None (Some 7) image_b gives refused (36 ∷ []))
     -- on E: the bound behind the length; in front of append, where the pop would be rejected; behind the cycle test, where only the loop is left
-    ∷ (recording_under (bounded 1 7) Absent Absent image_e gives refused (30 ∷ []))
-    ∷ (recording_under (bounded 1 7) (AtMost 1) Absent image_e gives returned 0 expanded 2 complete 0 rejected 0 cycles 0 flags length_flag paths [])
-    ∷ (recording_under (bounded 2 7) Absent Absent image_e gives refused (30 ∷ []))
-    ∷ (recording_under (bounded 3 7) Absent Absent image_e gives returned 0 expanded 3 complete 0 rejected 2 cycles 1 flags no_flag paths [])
-    ∷ (recording_under (bounded 2 7) Absent Absent looping gives returned 0 expanded 3 complete 0 rejected 0 cycles 1 flags no_flag paths [])
+    ∷ (recording_under (bounded 1 7) None None image_e gives refused (30 ∷ []))
+    ∷ (recording_under (bounded 1 7) (Some 1) None image_e gives returned 0 expanded 2 complete 0 rejected 0 cycles 0 flags length_flag paths [])
+    ∷ (recording_under (bounded 2 7) None None image_e gives refused (30 ∷ []))
+    ∷ (recording_under (bounded 3 7) None None image_e gives returned 0 expanded 3 complete 0 rejected 2 cycles 1 flags no_flag paths [])
+    ∷ (recording_under (bounded 2 7) None None looping gives returned 0 expanded 3 complete 0 rejected 0 cycles 1 flags no_flag paths [])
     -- a jump is no edge: D's path has 5
-    ∷ (recording_under (bounded 5 9) Absent Absent image_d gives returned 1 expanded 6 complete 1 rejected 0 cycles 0 flags no_flag paths (0 ∷ 1 ∷ 2 ∷ 3 ∷ 4 ∷ []) ∷ [])
-    ∷ (recording_under (bounded 4 9) Absent Absent image_d gives refused (30 ∷ []))
+    ∷ (recording_under (bounded 5 9) None None image_d gives returned 1 expanded 6 complete 1 rejected 0 cycles 0 flags no_flag paths (0 ∷ 1 ∷ 2 ∷ 3 ∷ 4 ∷ []) ∷ [])
+    ∷ (recording_under (bounded 4 9) None None image_d gives refused (30 ∷ []))
     ∷ []
 
 pub search-cases : Agreed searches
@@ -189,7 +187,7 @@ counted (refuse r) = []
 
 counted_on : Limit → Answer ImageRefusal Graph → List ℕ
 unfolding counted direct view_of
-counted_on length (ok g) = counted (direct base length (search_setting BreadthFirst (request base BreadthFirst length Absent Absent 8 8).limits 8 8) (view_of g) 2)
+counted_on length (ok g) = counted (direct base length (search_setting BreadthFirst (request base BreadthFirst length None None 8 8).limits 8 8) (view_of g) 2)
 counted_on length (refuse r) = []
 
 counting : Limit → List ℕ → List ℕ
@@ -200,9 +198,9 @@ pub counts : List (Row (List ℕ))
 unfolding counting
 counts =
     -- 1 cut, 4 rejections, 4 pushes
-    (counting Absent branching gives 9 ∷ 0 ∷ 5 ∷ [])
+    (counting None branching gives 9 ∷ 0 ∷ 5 ∷ [])
     -- 1 cut, 3 too long, 2 rejections, 3 pushes
-    ∷ (counting (AtMost 2) branching gives 9 ∷ 3 ∷ 4 ∷ [])
+    ∷ (counting (Some 2) branching gives 9 ∷ 3 ∷ 4 ∷ [])
     ∷ []
 
 pub count-cases : Agreed counts

@@ -1,12 +1,10 @@
 -- Stitched search: which slots are tried, what is a cycle cut, a length refusal, a rejection or the search's end, copies, limits, bounds, every word.
 -- Document 01, "Partial paths", third paragraph, and "Answer".
-use Rattle.std.specs.Prelude.{ℕ, ◌+◌, ◌*◌, refl, true, false, List, [], ◌∷◌, take}
+use Rattle.std.specs.Prelude.{ℕ, ◌+◌, ◌*◌, refl, true, false, List, [], ◌∷◌, take, None, Some}
 use Rattle.semantics.specs.declared.graph.Node.TheVariants as N
-use Rattle.semantics.specs.declared.search.Limit.{Limit}
-use Rattle.semantics.specs.declared.search.Limit.TheVariants.{Absent, AtMost}
 use Rattle.semantics.specs.declared.search.SearchOrder.{SearchOrder}
 use Rattle.semantics.specs.declared.search.SearchOrder.TheVariants.{BreadthFirst, DepthFirst}
-use Rattle.semantics.specs.Limits.{Bounds, base, max_edges, slot_length}
+use Rattle.semantics.specs.Limits.{Bounds, base, max_edges, slot_length, Limit}
 use Rattle.semantics.specs.Answer.{ok}
 use Rattle.semantics.specs.Graph.{node_id, file_id, Graph}
 use Rattle.semantics.specs.Recorded.{recorded}
@@ -26,12 +24,12 @@ joining order length count kept im words = stitched_recorded base (request base 
 -- with so many waiting and result slots
 joining_in : ℕ → ℕ → List ℕ → List ℕ → List (List ℕ)
 unfolding stitched_recorded
-joining_in waiting results im words = stitched_recorded base (request base BreadthFirst Absent Absent Absent waiting results) im words
+joining_in waiting results im words = stitched_recorded base (request base BreadthFirst None None None waiting results) im words
 
 -- the same at lowered bounds, where a record has fewer words
 joining_under : Bounds → Limit → Limit → List ℕ → List ℕ → List (List ℕ)
 unfolding stitched_recorded
-joining_under bd length count im words = stitched_recorded bd (request bd BreadthFirst length count Absent 8 8) im words
+joining_under bd length count im words = stitched_recorded bd (request bd BreadthFirst length count None 8 8) im words
 
 -- B with its lists as slots, one of them twice
 abbrev words_b : List ℕ
@@ -47,52 +45,52 @@ unfit = record { files = 1; nodes = N.Root ∷ N.JumpToScope ∷ N.Push (file_id
 
 joining_on : Graph → List ℕ → List (List ℕ)
 unfolding stitched_call recorded shown
-joining_on g words = shown base (stitched_call base recorded known_owners every_file (ok g) words (request base BreadthFirst Absent Absent Absent 8 8))
+joining_on g words = shown base (stitched_call base recorded known_owners every_file (ok g) words (request base BreadthFirst None None None 8 8))
 
 pub stitches : List (Row (List (List ℕ)))
 unfolding joining joining_in joining_under joining_on stitched_returned first_filed
 stitches =
     -- WHICH SLOTS: those that start at the path's end, whatever file and end they name; not dead ones; by ascending number
-    (joining BreadthFirst Absent Absent Absent image_a (database_of 3 6 1 (held 1 2 9 (0 ∷ []) ∷ held 0 2 3 (0 ∷ []) ∷ held 1 3 9 (1 ∷ []) ∷ [])) gives returned 1 expanded 3 complete 1 rejected 0 cycles 0 flags no_flag paths (0 ∷ 1 ∷ []) ∷ [])
-    ∷ (joining BreadthFirst Absent Absent Absent image_a (database_of 1 6 1 (held 1 3 4 (0 ∷ 1 ∷ []) ∷ [])) gives returned 0 expanded 1 complete 0 rejected 0 cycles 0 flags no_flag paths [])
-    ∷ (joining BreadthFirst Absent Absent Absent image_a (database_of 0 6 1 (held 1 2 4 (0 ∷ 1 ∷ []) ∷ [])) gives returned 0 expanded 1 complete 0 rejected 0 cycles 0 flags no_flag paths [])
+    (joining BreadthFirst None None None image_a (database_of 3 6 1 (held 1 2 9 (0 ∷ []) ∷ held 0 2 3 (0 ∷ []) ∷ held 1 3 9 (1 ∷ []) ∷ [])) gives returned 1 expanded 3 complete 1 rejected 0 cycles 0 flags no_flag paths (0 ∷ 1 ∷ []) ∷ [])
+    ∷ (joining BreadthFirst None None None image_a (database_of 1 6 1 (held 1 3 4 (0 ∷ 1 ∷ []) ∷ [])) gives returned 0 expanded 1 complete 0 rejected 0 cycles 0 flags no_flag paths [])
+    ∷ (joining BreadthFirst None None None image_a (database_of 0 6 1 (held 1 2 4 (0 ∷ 1 ∷ []) ∷ [])) gives returned 0 expanded 1 complete 0 rejected 0 cycles 0 flags no_flag paths [])
     -- REFUSALS OF THE PATH RULES are rejections: 13, 15, 16, 17 and 18 from reference 2 of F, 14 behind edge 0
-    ∷ (joining BreadthFirst Absent Absent Absent image_f (database_of 7 10 1 (held 1 2 5 (3 ∷ []) ∷ held 1 2 5 (1 ∷ []) ∷ held 1 2 7 (4 ∷ []) ∷ held 1 2 9 (2 ∷ 8 ∷ []) ∷ held 1 2 1 (0 ∷ 5 ∷ 7 ∷ []) ∷ held 1 2 4 (0 ∷ []) ∷ held 1 4 5 (9 ∷ []) ∷ [])) gives returned 0 expanded 2 complete 0 rejected 6 cycles 0 flags no_flag paths [])
+    ∷ (joining BreadthFirst None None None image_f (database_of 7 10 1 (held 1 2 5 (3 ∷ []) ∷ held 1 2 5 (1 ∷ []) ∷ held 1 2 7 (4 ∷ []) ∷ held 1 2 9 (2 ∷ 8 ∷ []) ∷ held 1 2 1 (0 ∷ 5 ∷ 7 ∷ []) ∷ held 1 2 4 (0 ∷ []) ∷ held 1 4 5 (9 ∷ []) ∷ [])) gives returned 0 expanded 2 complete 0 rejected 6 cycles 0 flags no_flag paths [])
     -- 19 and 10 would be as well, if an image gave them
     ∷ (joining_on unfit (database_of 2 6 1 (held 1 2 3 (0 ∷ []) ∷ held 1 2 5 (1 ∷ []) ∷ [])) gives returned 0 expanded 1 complete 0 rejected 2 cycles 0 flags no_flag paths [])
     -- but 12: an edge behind the last, and a removed one, end the search; where an edge before it is rejected it is not met
-    ∷ (joining BreadthFirst Absent Absent Absent image_a (database_of 1 6 1 (held 1 2 4 (0 ∷ 9 ∷ []) ∷ [])) gives refused (12 ∷ 9 ∷ []))
-    ∷ (joining BreadthFirst Absent Absent Absent (image_of 1 (reference 0 7 ∷ []) (removed_edge ∷ [])) (database_of 1 3 1 (held 1 2 2 (0 ∷ []) ∷ [])) gives refused (12 ∷ 0 ∷ []))
-    ∷ (joining BreadthFirst Absent Absent Absent image_a (database_of 1 6 1 (held 1 2 4 (1 ∷ 9 ∷ []) ∷ [])) gives returned 0 expanded 1 complete 0 rejected 1 cycles 0 flags no_flag paths [])
+    ∷ (joining BreadthFirst None None None image_a (database_of 1 6 1 (held 1 2 4 (0 ∷ 9 ∷ []) ∷ [])) gives refused (12 ∷ 9 ∷ []))
+    ∷ (joining BreadthFirst None None None (image_of 1 (reference 0 7 ∷ []) (removed_edge ∷ [])) (database_of 1 3 1 (held 1 2 2 (0 ∷ []) ∷ [])) gives refused (12 ∷ 0 ∷ []))
+    ∷ (joining BreadthFirst None None None image_a (database_of 1 6 1 (held 1 2 4 (1 ∷ 9 ∷ []) ∷ [])) gives returned 0 expanded 1 complete 0 rejected 1 cycles 0 flags no_flag paths [])
     -- A CYCLE CUT shares an edge, its first or another; one that it has twice itself is none
-    ∷ (joining BreadthFirst Absent Absent Absent image_e words_e gives returned 0 expanded 3 complete 0 rejected 3 cycles 2 flags no_flag paths [])
-    ∷ (joining BreadthFirst Absent Absent Absent image_e (database_of 2 5 1 (held 1 2 3 (0 ∷ 1 ∷ []) ∷ held 1 3 4 (2 ∷ 1 ∷ []) ∷ [])) gives returned 0 expanded 2 complete 0 rejected 0 cycles 1 flags no_flag paths [])
-    ∷ (joining BreadthFirst Absent Absent Absent image_e (database_of 1 5 1 (held 1 2 3 (0 ∷ 1 ∷ 1 ∷ []) ∷ [])) gives returned 0 expanded 2 complete 0 rejected 0 cycles 0 flags no_flag paths [])
+    ∷ (joining BreadthFirst None None None image_e words_e gives returned 0 expanded 3 complete 0 rejected 3 cycles 2 flags no_flag paths [])
+    ∷ (joining BreadthFirst None None None image_e (database_of 2 5 1 (held 1 2 3 (0 ∷ 1 ∷ []) ∷ held 1 3 4 (2 ∷ 1 ∷ []) ∷ [])) gives returned 0 expanded 2 complete 0 rejected 0 cycles 1 flags no_flag paths [])
+    ∷ (joining BreadthFirst None None None image_e (database_of 1 5 1 (held 1 2 3 (0 ∷ 1 ∷ 1 ∷ []) ∷ [])) gives returned 0 expanded 2 complete 0 rejected 0 cycles 0 flags no_flag paths [])
     -- LENGTH counts every edge; a cycle comes before it, it before append
-    ∷ (joining BreadthFirst (AtMost 2) Absent Absent image_e words_e gives returned 0 expanded 3 complete 0 rejected 1 cycles 2 flags length_flag paths [])
-    ∷ (joining BreadthFirst (AtMost 2) Absent Absent image_e (database_of 2 5 1 (held 1 2 3 (0 ∷ 1 ∷ []) ∷ held 1 3 3 (1 ∷ []) ∷ [])) gives returned 0 expanded 2 complete 0 rejected 0 cycles 1 flags no_flag paths [])
-    ∷ (joining BreadthFirst (AtMost 1) Absent Absent image_a (database_of 1 6 1 (held 1 2 4 (0 ∷ 9 ∷ []) ∷ [])) gives returned 0 expanded 1 complete 0 rejected 0 cycles 0 flags length_flag paths [])
-    ∷ (joining BreadthFirst (AtMost 2) Absent Absent image_a (database_of 1 6 1 (held 1 2 4 (0 ∷ 1 ∷ []) ∷ [])) gives returned 1 expanded 2 complete 1 rejected 0 cycles 0 flags no_flag paths (0 ∷ 1 ∷ []) ∷ [])
+    ∷ (joining BreadthFirst (Some 2) None None image_e words_e gives returned 0 expanded 3 complete 0 rejected 1 cycles 2 flags length_flag paths [])
+    ∷ (joining BreadthFirst (Some 2) None None image_e (database_of 2 5 1 (held 1 2 3 (0 ∷ 1 ∷ []) ∷ held 1 3 3 (1 ∷ []) ∷ [])) gives returned 0 expanded 2 complete 0 rejected 0 cycles 1 flags no_flag paths [])
+    ∷ (joining BreadthFirst (Some 1) None None image_a (database_of 1 6 1 (held 1 2 4 (0 ∷ 9 ∷ []) ∷ [])) gives returned 0 expanded 1 complete 0 rejected 0 cycles 0 flags length_flag paths [])
+    ∷ (joining BreadthFirst (Some 2) None None image_a (database_of 1 6 1 (held 1 2 4 (0 ∷ 1 ∷ []) ∷ [])) gives returned 1 expanded 2 complete 1 rejected 0 cycles 0 flags no_flag paths (0 ∷ 1 ∷ []) ∷ [])
     -- a jump is no edge: on D it stands before the last partial path
-    ∷ (joining BreadthFirst (AtMost 5) Absent Absent image_d (database_of 3 7 2 (held 1 2 0 (0 ∷ 1 ∷ []) ∷ held 2 0 1 (2 ∷ 3 ∷ []) ∷ held 1 4 6 (4 ∷ []) ∷ [])) gives returned 1 expanded 4 complete 1 rejected 0 cycles 0 flags no_flag paths (0 ∷ 1 ∷ 2 ∷ 3 ∷ 4 ∷ []) ∷ [])
-    ∷ (joining BreadthFirst (AtMost 4) Absent Absent image_d (database_of 3 7 2 (held 1 2 0 (0 ∷ 1 ∷ []) ∷ held 2 0 1 (2 ∷ 3 ∷ []) ∷ held 1 4 6 (4 ∷ []) ∷ [])) gives returned 0 expanded 3 complete 0 rejected 0 cycles 0 flags length_flag paths [])
+    ∷ (joining BreadthFirst (Some 5) None None image_d (database_of 3 7 2 (held 1 2 0 (0 ∷ 1 ∷ []) ∷ held 2 0 1 (2 ∷ 3 ∷ []) ∷ held 1 4 6 (4 ∷ []) ∷ [])) gives returned 1 expanded 4 complete 1 rejected 0 cycles 0 flags no_flag paths (0 ∷ 1 ∷ 2 ∷ 3 ∷ 4 ∷ []) ∷ [])
+    ∷ (joining BreadthFirst (Some 4) None None image_d (database_of 3 7 2 (held 1 2 0 (0 ∷ 1 ∷ []) ∷ held 2 0 1 (2 ∷ 3 ∷ []) ∷ held 1 4 6 (4 ∷ []) ∷ [])) gives returned 0 expanded 3 complete 0 rejected 0 cycles 0 flags length_flag paths [])
     -- COPIES: all are complete, the first is kept; each takes a slot until the end
-    ∷ (joining BreadthFirst Absent Absent Absent image_b words_b gives returned 4 expanded 6 complete 5 rejected 0 cycles 0 flags no_flag paths (0 ∷ 2 ∷ []) ∷ (1 ∷ 3 ∷ []) ∷ (0 ∷ 3 ∷ []) ∷ (1 ∷ 2 ∷ []) ∷ [])
+    ∷ (joining BreadthFirst None None None image_b words_b gives returned 4 expanded 6 complete 5 rejected 0 cycles 0 flags no_flag paths (0 ∷ 2 ∷ []) ∷ (1 ∷ 3 ∷ []) ∷ (0 ∷ 3 ∷ []) ∷ (1 ∷ 2 ∷ []) ∷ [])
     ∷ (joining_in 8 4 image_b words_b gives refused (32 ∷ []))
     ∷ (joining_in 8 5 image_b words_b gives returned 4 expanded 6 complete 5 rejected 0 cycles 0 flags no_flag paths (0 ∷ 2 ∷ []) ∷ (1 ∷ 3 ∷ []) ∷ (0 ∷ 3 ∷ []) ∷ (1 ∷ 2 ∷ []) ∷ [])
-    ∷ (joining BreadthFirst Absent Absent (AtMost 3) image_b words_b gives returned 2 expanded 6 complete 5 rejected 0 cycles 0 flags complete_flag paths (0 ∷ 2 ∷ []) ∷ (1 ∷ 3 ∷ []) ∷ [])
+    ∷ (joining BreadthFirst None None (Some 3) image_b words_b gives returned 2 expanded 6 complete 5 rejected 0 cycles 0 flags complete_flag paths (0 ∷ 2 ∷ []) ∷ (1 ∷ 3 ∷ []) ∷ [])
     -- a path and its beginning are no copies, in either order
-    ∷ (joining BreadthFirst Absent Absent Absent going_on (database_of 2 6 1 (held 1 2 5 (0 ∷ 1 ∷ 2 ∷ []) ∷ held 1 2 3 (0 ∷ []) ∷ [])) gives returned 2 expanded 3 complete 2 rejected 0 cycles 0 flags no_flag paths (0 ∷ 1 ∷ 2 ∷ []) ∷ (0 ∷ []) ∷ [])
-    ∷ (joining BreadthFirst Absent Absent Absent going_on (database_of 2 6 1 (held 1 2 3 (0 ∷ []) ∷ held 1 2 5 (0 ∷ 1 ∷ 2 ∷ []) ∷ [])) gives returned 2 expanded 3 complete 2 rejected 0 cycles 0 flags no_flag paths (0 ∷ []) ∷ (0 ∷ 1 ∷ 2 ∷ []) ∷ [])
+    ∷ (joining BreadthFirst None None None going_on (database_of 2 6 1 (held 1 2 5 (0 ∷ 1 ∷ 2 ∷ []) ∷ held 1 2 3 (0 ∷ []) ∷ [])) gives returned 2 expanded 3 complete 2 rejected 0 cycles 0 flags no_flag paths (0 ∷ 1 ∷ 2 ∷ []) ∷ (0 ∷ []) ∷ [])
+    ∷ (joining BreadthFirst None None None going_on (database_of 2 6 1 (held 1 2 3 (0 ∷ []) ∷ held 1 2 5 (0 ∷ 1 ∷ 2 ∷ []) ∷ [])) gives returned 2 expanded 3 complete 2 rejected 0 cycles 0 flags no_flag paths (0 ∷ []) ∷ (0 ∷ 1 ∷ 2 ∷ []) ∷ [])
     -- RETURNED: nothing shadowed
-    ∷ (stitched_returned base (request base BreadthFirst Absent Absent Absent 8 8) image_b words_b gives returned 1 expanded 6 complete 5 rejected 0 cycles 0 flags no_flag paths (1 ∷ 3 ∷ []) ∷ [])
-    ∷ (stitched_returned base (request base BreadthFirst Absent Absent (AtMost 2) 8 8) image_b words_b gives returned 1 expanded 6 complete 5 rejected 0 cycles 0 flags complete_flag paths (1 ∷ 3 ∷ []) ∷ [])
+    ∷ (stitched_returned base (request base BreadthFirst None None None 8 8) image_b words_b gives returned 1 expanded 6 complete 5 rejected 0 cycles 0 flags no_flag paths (1 ∷ 3 ∷ []) ∷ [])
+    ∷ (stitched_returned base (request base BreadthFirst None None (Some 2) 8 8) image_b words_b gives returned 1 expanded 6 complete 5 rejected 0 cycles 0 flags complete_flag paths (1 ∷ 3 ∷ []) ∷ [])
     -- ORDER AND LIMITS
-    ∷ (joining BreadthFirst Absent (AtMost 3) Absent image_b (first_filed image_b) gives returned 4 expanded 3 complete 8 rejected 0 cycles 0 flags count_flag paths (0 ∷ 2 ∷ []) ∷ (0 ∷ 3 ∷ []) ∷ (1 ∷ 2 ∷ []) ∷ (1 ∷ 3 ∷ []) ∷ [])
-    ∷ (joining DepthFirst Absent (AtMost 3) Absent image_b (first_filed image_b) gives returned 4 expanded 3 complete 6 rejected 0 cycles 0 flags count_flag paths (0 ∷ 2 ∷ []) ∷ (0 ∷ 3 ∷ []) ∷ (1 ∷ 2 ∷ []) ∷ (1 ∷ 3 ∷ []) ∷ [])
-    ∷ (joining BreadthFirst Absent (AtMost 4) Absent image_a (first_filed image_a) gives returned 1 expanded 4 complete 2 rejected 2 cycles 0 flags no_flag paths (0 ∷ 1 ∷ []) ∷ [])
-    ∷ (joining BreadthFirst Absent (AtMost 0) Absent image_a (first_filed image_a) gives returned 0 expanded 0 complete 0 rejected 0 cycles 0 flags count_flag paths [])
-    ∷ (joining BreadthFirst Absent Absent (AtMost 1) image_a (first_filed image_a) gives returned 1 expanded 4 complete 2 rejected 2 cycles 0 flags complete_flag paths (0 ∷ 1 ∷ []) ∷ [])
+    ∷ (joining BreadthFirst None (Some 3) None image_b (first_filed image_b) gives returned 4 expanded 3 complete 8 rejected 0 cycles 0 flags count_flag paths (0 ∷ 2 ∷ []) ∷ (0 ∷ 3 ∷ []) ∷ (1 ∷ 2 ∷ []) ∷ (1 ∷ 3 ∷ []) ∷ [])
+    ∷ (joining DepthFirst None (Some 3) None image_b (first_filed image_b) gives returned 4 expanded 3 complete 6 rejected 0 cycles 0 flags count_flag paths (0 ∷ 2 ∷ []) ∷ (0 ∷ 3 ∷ []) ∷ (1 ∷ 2 ∷ []) ∷ (1 ∷ 3 ∷ []) ∷ [])
+    ∷ (joining BreadthFirst None (Some 4) None image_a (first_filed image_a) gives returned 1 expanded 4 complete 2 rejected 2 cycles 0 flags no_flag paths (0 ∷ 1 ∷ []) ∷ [])
+    ∷ (joining BreadthFirst None (Some 0) None image_a (first_filed image_a) gives returned 0 expanded 0 complete 0 rejected 0 cycles 0 flags count_flag paths [])
+    ∷ (joining BreadthFirst None None (Some 1) image_a (first_filed image_a) gives returned 1 expanded 4 complete 2 rejected 2 cycles 0 flags complete_flag paths (0 ∷ 1 ∷ []) ∷ [])
     -- SLOTS: 31 and 32
     ∷ (joining_in 0 8 image_a (first_filed image_a) gives refused (31 ∷ []))
     ∷ (joining_in 1 8 image_a (first_filed image_a) gives refused (31 ∷ []))
@@ -101,16 +99,16 @@ stitches =
     ∷ (joining_in 2 2 image_a (first_filed image_a) gives returned 1 expanded 4 complete 2 rejected 2 cycles 0 flags no_flag paths (0 ∷ 1 ∷ []) ∷ [])
     -- THE BOUND of 2 edges, lowered: a path of 2 is none too long; tested on all edges before any is appended, so 30 also where the first would be rejected or
     -- unknown; behind the cycle test and the length
-    ∷ (joining_under (bounded 2 9) Absent Absent image_a (database_of 2 6 1 (held_in 2 1 2 3 (0 ∷ []) ∷ held_in 2 1 3 4 (1 ∷ []) ∷ [])) gives returned 1 expanded 3 complete 1 rejected 0 cycles 0 flags no_flag paths (0 ∷ 1 ∷ []) ∷ [])
-    ∷ (joining_under (bounded 2 9) Absent Absent image_a (database_of 2 6 1 (held_in 2 1 2 3 (0 ∷ []) ∷ held_in 2 1 3 4 (2 ∷ 1 ∷ []) ∷ [])) gives refused (30 ∷ []))
-    ∷ (joining_under (bounded 2 9) Absent Absent image_a (database_of 2 6 1 (held_in 2 1 2 3 (0 ∷ []) ∷ held_in 2 1 3 4 (9 ∷ 9 ∷ []) ∷ [])) gives refused (30 ∷ []))
-    ∷ (joining_under (bounded 2 9) Absent Absent image_a (database_of 2 6 1 (held_in 2 1 2 3 (0 ∷ []) ∷ held_in 2 1 3 4 (0 ∷ 1 ∷ []) ∷ [])) gives returned 0 expanded 2 complete 0 rejected 0 cycles 1 flags no_flag paths [])
-    ∷ (joining_under (bounded 2 9) (AtMost 2) Absent image_a (database_of 2 6 1 (held_in 2 1 2 3 (0 ∷ []) ∷ held_in 2 1 3 4 (2 ∷ 1 ∷ []) ∷ [])) gives returned 0 expanded 2 complete 0 rejected 0 cycles 0 flags length_flag paths [])
-    ∷ (joining_under (bounded 5 9) Absent Absent image_d (database_of 3 7 2 (held_in 5 1 2 0 (0 ∷ 1 ∷ []) ∷ held_in 5 2 0 1 (2 ∷ 3 ∷ []) ∷ held_in 5 1 4 6 (4 ∷ []) ∷ [])) gives returned 1 expanded 4 complete 1 rejected 0 cycles 0 flags no_flag paths (0 ∷ 1 ∷ 2 ∷ 3 ∷ 4 ∷ []) ∷ [])
+    ∷ (joining_under (bounded 2 9) None None image_a (database_of 2 6 1 (held_in 2 1 2 3 (0 ∷ []) ∷ held_in 2 1 3 4 (1 ∷ []) ∷ [])) gives returned 1 expanded 3 complete 1 rejected 0 cycles 0 flags no_flag paths (0 ∷ 1 ∷ []) ∷ [])
+    ∷ (joining_under (bounded 2 9) None None image_a (database_of 2 6 1 (held_in 2 1 2 3 (0 ∷ []) ∷ held_in 2 1 3 4 (2 ∷ 1 ∷ []) ∷ [])) gives refused (30 ∷ []))
+    ∷ (joining_under (bounded 2 9) None None image_a (database_of 2 6 1 (held_in 2 1 2 3 (0 ∷ []) ∷ held_in 2 1 3 4 (9 ∷ 9 ∷ []) ∷ [])) gives refused (30 ∷ []))
+    ∷ (joining_under (bounded 2 9) None None image_a (database_of 2 6 1 (held_in 2 1 2 3 (0 ∷ []) ∷ held_in 2 1 3 4 (0 ∷ 1 ∷ []) ∷ [])) gives returned 0 expanded 2 complete 0 rejected 0 cycles 1 flags no_flag paths [])
+    ∷ (joining_under (bounded 2 9) (Some 2) None image_a (database_of 2 6 1 (held_in 2 1 2 3 (0 ∷ []) ∷ held_in 2 1 3 4 (2 ∷ 1 ∷ []) ∷ [])) gives returned 0 expanded 2 complete 0 rejected 0 cycles 0 flags length_flag paths [])
+    ∷ (joining_under (bounded 5 9) None None image_d (database_of 3 7 2 (held_in 5 1 2 0 (0 ∷ 1 ∷ []) ∷ held_in 5 2 0 1 (2 ∷ 3 ∷ []) ∷ held_in 5 1 4 6 (4 ∷ []) ∷ [])) gives returned 1 expanded 4 complete 1 rejected 0 cycles 0 flags no_flag paths (0 ∷ 1 ∷ 2 ∷ 3 ∷ 4 ∷ []) ∷ [])
     -- 36, and the path count before it
-    ∷ (joining_under (bounded max_edges 3) Absent Absent image_a (first_filed image_a) gives refused (36 ∷ []))
-    ∷ (joining_under (bounded max_edges 4) Absent Absent image_a (first_filed image_a) gives returned 1 expanded 4 complete 2 rejected 2 cycles 0 flags no_flag paths (0 ∷ 1 ∷ []) ∷ [])
-    ∷ (joining_under (bounded max_edges 3) Absent (AtMost 3) image_a (first_filed image_a) gives returned 1 expanded 3 complete 2 rejected 2 cycles 0 flags count_flag paths (0 ∷ 1 ∷ []) ∷ [])
+    ∷ (joining_under (bounded max_edges 3) None None image_a (first_filed image_a) gives refused (36 ∷ []))
+    ∷ (joining_under (bounded max_edges 4) None None image_a (first_filed image_a) gives returned 1 expanded 4 complete 2 rejected 2 cycles 0 flags no_flag paths (0 ∷ 1 ∷ []) ∷ [])
+    ∷ (joining_under (bounded max_edges 3) None (Some 3) image_a (first_filed image_a) gives returned 1 expanded 3 complete 2 rejected 2 cycles 0 flags count_flag paths (0 ∷ 1 ∷ []) ∷ [])
     ∷ []
 
 pub stitch-cases : Agreed stitches

@@ -1,13 +1,11 @@
 -- Version 2: what its bytes decode to, the sizes that the versions may have, the rewrites there and back as bytes, their refusals in their order, and searches
 -- by symbols that differ in the high half alone. Document 02, order 3. Shows too that the premises of its theorems can be met.
-use Rattle.std.specs.Prelude.{ℕ, ◌-◌, ◌≡◌, refl, true, false, List, [], ◌∷◌, ◌++◌, map, set, take, replicate, pos}
+use Rattle.std.specs.Prelude.{ℕ, ◌-◌, ◌≡◌, refl, true, false, List, [], ◌∷◌, ◌++◌, map, set, take, replicate, pos, None, Err, Ok}
 use Rattle.std.proofs.Common.{arith}
 use Rattle.semantics.specs.declared.graph.Node.TheVariants as N
 use Rattle.semantics.specs.declared.graph.Edge.TheVariants as E
 use Rattle.semantics.specs.declared.refusal.ImageRefusal.{ImageRefusal}
 use Rattle.semantics.specs.declared.refusal.ImageRefusal.TheVariants as Image
-use Rattle.semantics.specs.declared.answer.Rewriting.TheVariants as Rewriting
-use Rattle.semantics.specs.declared.search.Limit.TheVariants.{Absent}
 use Rattle.semantics.specs.declared.search.SearchOrder.TheVariants.{BreadthFirst}
 use Rattle.semantics.specs.Answer.{Answer, ok}
 use Rattle.semantics.specs.Graph.{node_id, file_id, Graph}
@@ -20,6 +18,7 @@ use Rattle.semantics.proofs.Theorems.Rewriting.Laws.{Alike, undo-1, undo-2, same
 use Rattle.semantics.specs.Cases.Rows.{Row, ◌gives◌, Agreed, refused, returned◌expanded◌complete◌rejected◌cycles◌flags◌paths◌, no_flag}
 use Rattle.semantics.specs.Cases.Graphs.{image_a, image_d}
 use Rattle.semantics.specs.Cases.Asked.{checking, replaying, replayed, searching}
+use Rattle.semantics.specs.declared.answer.RewritingRefusal.{RewritingRefusal}
 
 -- A in version 2: a record to a line
 abbrev image_a2 : List ℕ
@@ -147,9 +146,9 @@ pub searches : List (Row (List (List ℕ)))
 unfolding searching
 searches =
     -- the starred row of A
-    (searching BreadthFirst Absent Absent Absent image_a2 gives searching BreadthFirst Absent Absent Absent image_a)
+    (searching BreadthFirst None None None image_a2 gives searching BreadthFirst None None None image_a)
     -- the other definition, though the low halves of both are what is pushed
-    ∷ (searching BreadthFirst Absent Absent Absent image_high gives returned 1 expanded 3 complete 1 rejected 1 cycles 0 flags no_flag paths (0 ∷ 2 ∷ []) ∷ [])
+    ∷ (searching BreadthFirst None None None image_high gives returned 1 expanded 3 complete 1 rejected 1 cycles 0 flags no_flag paths (0 ∷ 2 ∷ []) ∷ [])
     -- the judgement by itself, and the symbol that a path holds
     ∷ (replaying image_high 2 (0 ∷ 1 ∷ []) ∷ [] gives refused (15 ∷ 4 ∷ []))
     ∷ (map (λ x. x.symbol ∷ []) (replayed image_high 2 (0 ∷ [])).symbols gives (4294967303 ∷ []) ∷ [])
@@ -163,15 +162,15 @@ search-cases = refl
 pub rewritten : List (Row Rewritten)
 unfolding check_image rewrite_call
 rewritten =
-    (widen image_a 100 gives record { answer = Rewriting.Done 89; bytes = image_a2 ++ zeros 11 })
-    ∷ (narrow image_a2 77 gives record { answer = Rewriting.Done 77; bytes = image_a })
-    ∷ (widen image_r 46 gives record { answer = Rewriting.Done 46; bytes = image_r2 })
-    ∷ (narrow image_r2 43 gives record { answer = Rewriting.Done 42; bytes = image_r ++ zeros 1 })
-    ∷ (narrow (take 124 (widen image_d 130).bytes) 108 gives record { answer = Rewriting.Done 108; bytes = image_d })
+    (widen image_a 100 gives record { answer = Ok 89; bytes = image_a2 ++ zeros 11 })
+    ∷ (narrow image_a2 77 gives record { answer = Ok 77; bytes = image_a })
+    ∷ (widen image_r 46 gives record { answer = Ok 46; bytes = image_r2 })
+    ∷ (narrow image_r2 43 gives record { answer = Ok 42; bytes = image_r ++ zeros 1 })
+    ∷ (narrow (take 124 (widen image_d 130).bytes) 108 gives record { answer = Ok 108; bytes = image_d })
     -- refused: no byte is left
-    ∷ (widen image_a 88 gives record { answer = Rewriting.NoRoom; bytes = zeros 88 })
-    ∷ (narrow (set image_a2 40 1) 80 gives record { answer = Rewriting.WideSymbol 33; bytes = zeros 80 })
-    ∷ (narrow image_a 3 gives record { answer = Rewriting.Image Image.Version; bytes = zeros 3 })
+    ∷ (widen image_a 88 gives record { answer = Err RewritingRefusal.NoRoom; bytes = zeros 88 })
+    ∷ (narrow (set image_a2 40 1) 80 gives record { answer = Err (RewritingRefusal.WideSymbol 33); bytes = zeros 80 })
+    ∷ (narrow image_a 3 gives record { answer = Err (RewritingRefusal.Image Image.Version); bytes = zeros 3 })
     ∷ []
 
 pub rewritten-cases : Agreed rewritten
@@ -185,18 +184,18 @@ bytes-a = bytes-test image_a refl
 bytes-a2 : AllBytes image_a2
 bytes-a2 = bytes-test image_a2 refl
 
-done-a : (widen image_a 100).answer ≡ Rewriting.Done 89
+done-a : (widen image_a 100).answer ≡ Ok 89
 unfolding check_image rewrite_call
 done-a = refl
 
-done-a2 : (narrow image_a2 77).answer ≡ Rewriting.Done 77
+done-a2 : (narrow image_a2 77).answer ≡ Ok 77
 unfolding check_image rewrite_call
 done-a2 = refl
 
-pub undo-a : narrow (take 89 (widen image_a 100).bytes) 80 ≡ record { answer = Rewriting.Done 77; bytes = image_a ++ zeros 3 }
+pub undo-a : narrow (take 89 (widen image_a 100).bytes) 80 ≡ record { answer = Ok 77; bytes = image_a ++ zeros 3 }
 undo-a = undo-1 image_a 100 89 80 bytes-a done-a (omega arith)
 
-pub undo-a2 : widen (take 77 (narrow image_a2 77).bytes) 89 ≡ record { answer = Rewriting.Done 89; bytes = image_a2 ++ [] }
+pub undo-a2 : widen (take 77 (narrow image_a2 77).bytes) 89 ≡ record { answer = Ok 89; bytes = image_a2 ++ [] }
 undo-a2 = undo-2 image_a2 77 77 89 bytes-a2 done-a2 (omega arith)
 
 pub alike-a : Alike (check_image symbol_bytes (take 89 (widen image_a 100).bytes)) (check_image symbol_bytes image_a)
@@ -245,6 +244,6 @@ large =
     }
 
 -- 2, before 32
-pub long-case : rewrite_call 2 8 (ok large) [] 0 ≡ record { answer = Rewriting.Image Image.Length; bytes = [] }
+pub long-case : rewrite_call 2 8 (ok large) [] 0 ≡ record { answer = Err (RewritingRefusal.Image Image.Length); bytes = [] }
 unfolding large rewrite_call
 long-case = refl

@@ -2,7 +2,7 @@
 -- Document 02, order 5.
 use Prim.Native.Nat.{ℕ, ◌≤◌, ◌<◌}
 use Rattle.std.proofs.Common.{arith, sym, ◌∙◌, subst, ⊎_elim, true≢false}
-use Rattle.std.specs.Prelude.{◌≡◌, Bool, eqb, length, ℤ}
+use Rattle.std.specs.Prelude.{◌≡◌, Bool, eqb, length, ℤ, None}
 use Rattle.std.proofs.Math.Path.{refl, ap}
 use Rattle.std.proofs.Math.Logic.{inl, inr}
 use Rattle.std.proofs.Math.Bool.{true, false}
@@ -14,13 +14,11 @@ use Rattle.semantics.specs.declared.graph.NodeId.{NodeId}
 use Rattle.semantics.specs.declared.graph.Node.{Node}
 use Rattle.semantics.specs.declared.graph.Node.TheVariants as N
 use Rattle.semantics.specs.declared.graph.Edge.TheVariants as E
-use Rattle.semantics.specs.declared.search.Limit.{Limit}
-use Rattle.semantics.specs.declared.search.Limit.TheVariants.{Absent}
 use Rattle.semantics.specs.declared.refusal.PartialPathRefusal.{PartialPathRefusal}
 use Rattle.semantics.specs.declared.refusal.SearchRefusal.{SearchRefusal}
 use Rattle.semantics.specs.Lists.{and, pick, Distinct}
 use Rattle.semantics.specs.Lists.Laws.{eqb-true, and-true, bool_false}
-use Rattle.semantics.specs.Limits.{Bounds, nobody}
+use Rattle.semantics.specs.Limits.{Bounds, nobody, Limit}
 use Rattle.semantics.specs.Answer.{ok}
 use Rattle.semantics.specs.Graph.{node_id, Graph, view_of, traits, file_of, lacks_file, is_start, is_endpoint}
 use Rattle.semantics.specs.Graph.Laws.{view_of-lawful, fileless-shared}
@@ -178,7 +176,7 @@ module _ (g : Graph) (good : accepts g ≡ true) where
     unfolding alias_routes
     alias-found = partials-found bd lim c (view_of g) (view_of-lawful g) (all_owners g) nobody (route_at 0 ∷ []) start_is start_has u h
 
-    alias-unlimited : c.max_count ≡ Absent → c.max_complete ≡ Absent → (r : Route) → Partial bd lim (view_of g) (all_owners g) nobody r → Memᴰ r u.kept
+    alias-unlimited : c.max_count ≡ None → c.max_complete ≡ None → (r : Route) → Partial bd lim (view_of g) (all_owners g) nobody r → Memᴰ r u.kept
     unfolding alias_routes partials
     alias-unlimited n k r p =
         let z = enumerate-unlimited c (route_tries bd lim (view_of g) (owned_by (view_of g) nobody)) bd.expansions (route_at 0 ∷ []) u h n k in
@@ -190,13 +188,13 @@ module _ (g : Graph) (good : accepts g ≡ true) where
     computed-known (of-file f c l h n k) = inl l
     computed-known (of-aliases c h n k) = inr refl
 
-    pub computed-sound : {f : ℕ} {u : State Route} → Computed bd g f u → (r : Route) → Memᴰ r u.kept → Partial bd Absent (view_of g) (all_owners g) f r
-    computed-sound (of-file {u = u} f c l h n k) r m = file-to-all bd Absent f r l ((file-found bd Absent c g f u h).sound r m)
-    computed-sound (of-aliases {u = u} c h n k) r m = (alias-found bd Absent c u h).sound r m
+    pub computed-sound : {f : ℕ} {u : State Route} → Computed bd g f u → (r : Route) → Memᴰ r u.kept → Partial bd None (view_of g) (all_owners g) f r
+    computed-sound (of-file {u = u} f c l h n k) r m = file-to-all bd None f r l ((file-found bd None c g f u h).sound r m)
+    computed-sound (of-aliases {u = u} c h n k) r m = (alias-found bd None c u h).sound r m
 
-    pub computed-whole : {f : ℕ} {u : State Route} → Computed bd g f u → (r : Route) → Partial bd Absent (view_of g) (all_owners g) f r → Memᴰ r u.kept
-    computed-whole (of-file {u = u} f c l h n k) r p = file-unlimited bd Absent c g f u h n k r (all-to-file bd Absent f r l p)
-    computed-whole (of-aliases {u = u} c h n k) r p = alias-unlimited bd Absent c u h n k r p
+    pub computed-whole : {f : ℕ} {u : State Route} → Computed bd g f u → (r : Route) → Partial bd None (view_of g) (all_owners g) f r → Memᴰ r u.kept
+    computed-whole (of-file {u = u} f c l h n k) r p = file-unlimited bd None c g f u h n k r (all-to-file bd None f r l p)
+    computed-whole (of-aliases {u = u} c h n k) r p = alias-unlimited bd None c u h n k r p
 
   -- NOBODY'S PARTIAL PATHS are all lists of 1 to as many distinct edges of this kind as the bound says, each going on from the last one's target (document 02): that they
   -- start at root and reach an endpoint needs no saying
@@ -220,7 +218,7 @@ module _ (g : Graph) (good : accepts g ≡ true) where
   nobody-starts bd lim r p = ⊎_elim (λ z. z) (λ (h : (file_of ((view_of g).node r.start) ≡ some nobody) × (is_start ((view_of g).node r.start) ≡ true)). absurd (not-file ((suited g good).home r.start nobody h.0))) p.begins
 
   pub nobody-has : (bd : Bounds) (n m e : ℕ) (es : List ℕ) → Walk (view_of g) (owned_by (view_of g) nobody) n (e ∷ es) m → length (e ∷ es) ≤ bd.edges → Distinct (e ∷ es)
-      → Partial bd Absent (view_of g) (all_owners g) nobody (record { start = n; current = m; edges = e ∷ es })
+      → Partial bd None (view_of g) (all_owners g) nobody (record { start = n; current = m; edges = e ∷ es })
   nobody-has bd n m e es w few d =
       let k = walk-cons (view_of g) (owned_by (view_of g) nobody) w in
       record { begins = inl (fileless-ends n e k.0 k.1 k.2 k.3).0; walk = w; some-edge = omega arith; fits = few; distinct = d; short = refl; endpoint = walk_ends w }

@@ -1,6 +1,6 @@
 -- What a database holds in which files and the alias set were replaced, without limits and unrefused.
 -- Document 01, "Partial paths", last paragraph: the premise of demand 3 on databases; document 02, order 5.
-use Rattle.std.specs.Prelude.{ℕ, ◌<◌, ◌≡◌, ◌⊎◌, Bool}
+use Rattle.std.specs.Prelude.{ℕ, ◌<◌, ◌≡◌, ◌⊎◌, Bool, None}
 use Rattle.std.proofs.Math.Path.{refl, ap}
 use Rattle.std.proofs.Common.{sym, ◌∙◌, subst, inl, inr, true≢false}
 use Rattle.std.proofs.Math.Logic.{⊎_elim}
@@ -8,7 +8,6 @@ use Rattle.std.proofs.Math.Bool.{true, false}
 use mathlib.Core.List.Memᴰ
 use mathlib.Core.List.{List, ◌∷◌, ◌++◌, map, Memᴰ}
 use Rattle.std.proofs.Math.Dec.{eqb}
-use Rattle.semantics.specs.declared.search.Limit.TheVariants.{Absent}
 use Rattle.semantics.specs.Lists.Laws.{eqb-true, eqb_same, map-mem, mem-map}
 use Rattle.semantics.specs.Limits.{Bounds, nobody}
 use Rattle.semantics.specs.Graph.{Graph, view_of}
@@ -37,7 +36,7 @@ kept-aliases f s t es db u n m = ⊎_elim (λ i. (clear-from f nobody s t es db 
 
 module _ (bd : Bounds) (g : Graph) (good : accepts g ≡ true) where
   abbrev Found-in : ℕ → ℕ → ℕ → List ℕ → Type 0
-  Found-in f s t es = Partial bd Absent (view_of g) (all_owners g) f (record { start = s; current = t; edges = es })
+  Found-in f s t es = Partial bd None (view_of g) (all_owners g) f (record { start = s; current = t; edges = es })
 
   -- every slot names a file of the graph or nobody, and one of an owner that was replaced is a partial path of it
   built-only : {db : List Slot} {done : List ℕ} → Built bd g db done → (f s t : ℕ) (es : List ℕ) → Memᴰ (slot f s t es) db → (all_owners g).Known f × (Memᴰ f done → Found-in f s t es)
@@ -64,7 +63,7 @@ module _ (bd : Bounds) (g : Graph) (good : accepts g ≡ true) where
           (subst (all_owners g).Known (sym ff) (computed-known g good bd h), λ j. rw (ff, r) p)
   built-only (closed b e) f s t es m = built-only b f s t es (same_back e f s t es m)
 
-  built-every : {db : List Slot} {done : List ℕ} → Built bd g db done → (f : ℕ) (r : Route) → Memᴰ f done → Partial bd Absent (view_of g) (all_owners g) f r → Memᴰ (slot f r.start r.current r.edges) db
+  built-every : {db : List Slot} {done : List ℕ} → Built bd g db done → (f : ℕ) (r : Route) → Memᴰ f done → Partial bd None (view_of g) (all_owners g) f r → Memᴰ (slot f r.start r.current r.edges) db
   unfolding replaced
   built-every (given h) f r m p = absurd (Memᴰ.not-nil m)
   built-every (after {db = db} {done = done} f' u b h) f r m p = by-owner (eqb f f') refl (λ i. built-every b f r i p)
@@ -84,8 +83,8 @@ module _ (bd : Bounds) (g : Graph) (good : accepts g ≡ true) where
     -- every file was replaced, and no slot is of the alias set
     pub built-holds : NoAliases db → Holds (file_owners g) bd (view_of g) db
     built-holds none = record {
-      every = λ f r l p. built-every b f r (all f l) (file-to-all g good bd Absent f r l p);
-      only = λ f s t es m. let y = built-only b f s t es m in ⊎_elim (λ (l : f < g.files). (l, all-to-file g good bd Absent f (record { start = s; current = t; edges = es }) l (y.1 (all f l))))
+      every = λ f r l p. built-every b f r (all f l) (file-to-all g good bd None f r l p);
+      only = λ f s t es m. let y = built-only b f s t es m in ⊎_elim (λ (l : f < g.files). (l, all-to-file g good bd None f (record { start = s; current = t; edges = es }) l (y.1 (all f l))))
           (λ (z : f ≡ nobody). absurd (none s t es (subst (λ x. Memᴰ (slot x s t es) db) z m))) y.0;
     }
 
@@ -101,8 +100,8 @@ module _ (bd : Bounds) (g : Graph) (good : accepts g ≡ true) where
   module _ (see : ℕ → Bool) (db : List Slot) (done : List ℕ) (b : Built bd g db done) (all : (f : ℕ) → f < g.files → see f ≡ true → Memᴰ f done) where
     pub built-visible : NoAliases db → HoldsVisible see g (file_owners g) bd db
     built-visible none = record {
-      every = λ f r l visible p. built-every b f r (all f l (file-visible see g good f l visible)) (file-to-all g good bd Absent f r l p);
-      only = λ f s t es visible m. let y = built-only b f s t es m in ⊎_elim (λ (l : f < g.files). (l, all-to-file g good bd Absent f (record { start = s; current = t; edges = es }) l (y.1 (all f l (file-visible see g good f l visible)))))
+      every = λ f r l visible p. built-every b f r (all f l (file-visible see g good f l visible)) (file-to-all g good bd None f r l p);
+      only = λ f s t es visible m. let y = built-only b f s t es m in ⊎_elim (λ (l : f < g.files). (l, all-to-file g good bd None f (record { start = s; current = t; edges = es }) l (y.1 (all f l (file-visible see g good f l visible)))))
           (λ (z : f ≡ nobody). absurd (none s t es (subst (λ x. Memᴰ (slot x s t es) db) z m))) y.0;
     }
 

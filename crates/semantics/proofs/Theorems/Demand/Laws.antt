@@ -8,10 +8,9 @@ use Rattle.std.proofs.Math.Option.{Option, none, some}
 use Rattle.semantics.specs.declared.graph.NodeId.{NodeId}
 use Rattle.semantics.specs.declared.graph.Edge.{Edge}
 use Rattle.semantics.specs.declared.graph.Edge.TheVariants as E
-use Rattle.semantics.specs.declared.search.Limit.{Limit}
 use Rattle.semantics.specs.declared.refusal.SearchRefusal.{SearchRefusal}
 use Rattle.semantics.specs.Lists.{and}
-use Rattle.semantics.specs.Limits.{Bounds}
+use Rattle.semantics.specs.Limits.{Bounds, Limit}
 use Rattle.semantics.specs.Answer.{ok}
 use Rattle.semantics.specs.Answer.Laws.{and_then-ok}
 use Rattle.semantics.specs.Graph.{Graph, View, view_of, file_of, lacks_file, Lawful}

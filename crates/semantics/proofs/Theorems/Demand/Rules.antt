@@ -5,10 +5,9 @@
 use Rattle.std.specs.Prelude.{ℕ, ◌≤◌, ◌≡◌, true, false, length}
 use Rattle.std.proofs.Common.{arith, sym, ◌∙◌, ap, subst}
 use mathlib.Core.List.{List, [], ◌∷◌, Memᴰ}
-use Rattle.semantics.specs.declared.search.Limit.{Limit}
 use Rattle.semantics.specs.declared.refusal.SearchRefusal.{SearchRefusal}
 use Rattle.semantics.specs.Lists.{Distinct}
-use Rattle.semantics.specs.Limits.{Bounds, within}
+use Rattle.semantics.specs.Limits.{Bounds, within, Limit}
 use Rattle.semantics.specs.Answer.{ok, and_then}
 use Rattle.semantics.specs.Answer.Laws.{ok-inj, and_then-ok}
 use Rattle.semantics.specs.Graph.{View, Lawful, is_reference, is_definition}

@@ -7,14 +7,13 @@ use Rattle.std.proofs.Math.Bool.{true, false, true≢false}
 use mathlib.Core.List.Memᴰ
 use mathlib.Core.List.{List, [], ◌∷◌, ◌++◌, append_assoc, Memᴰ}
 use Rattle.std.proofs.Math.ListN.{length-append}
-use Rattle.semantics.specs.declared.search.Limit.{Limit}
 use Rattle.semantics.specs.declared.refusal.PathRefusal.{PathRefusal}
 use Rattle.semantics.specs.declared.refusal.ReplayRefusal.TheVariants as Replay
 use Rattle.semantics.specs.declared.refusal.SearchRefusal.{SearchRefusal}
 use Rattle.semantics.specs.declared.refusal.SearchRefusal.TheVariants as Search
 use Rattle.semantics.specs.Lists.{has, Distinct}
 use Rattle.semantics.specs.Lists.Laws.{distinct_snoc, distinct-split, map-mem, mem-map, length-snoc}
-use Rattle.semantics.specs.Limits.{Bounds, within}
+use Rattle.semantics.specs.Limits.{Bounds, within, Limit}
 use Rattle.semantics.proofs.Theorems.Limits.Laws.{within-le, within-zero}
 use Rattle.semantics.specs.Answer.{Answer, ok, refuse, wrap}
 use Rattle.semantics.specs.Answer.Laws.{ok-inj, and_then-ok, wrap-ok}

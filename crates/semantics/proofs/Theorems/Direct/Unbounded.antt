@@ -7,13 +7,12 @@ use Rattle.std.proofs.Math.Bool.{true, false}
 use mathlib.Core.List.{List, [], ◌∷◌, ◌++◌, append_assoc, Memᴰ}
 use Rattle.std.proofs.Math.Dec.{ltb}
 use Rattle.std.proofs.Math.ListN.{length-append}
-use Rattle.semantics.specs.declared.search.Limit.{Limit}
 use Rattle.semantics.specs.declared.refusal.PathRefusal.{PathRefusal}
 use Rattle.semantics.specs.declared.refusal.SearchRefusal.{SearchRefusal}
 use Rattle.semantics.specs.declared.refusal.SearchRefusal.TheVariants as Search
 use Rattle.semantics.specs.Lists.{has, Distinct}
 use Rattle.semantics.specs.Lists.Laws.{distinct-split, map-mem}
-use Rattle.semantics.specs.Limits.{Bounds, within}
+use Rattle.semantics.specs.Limits.{Bounds, within, Limit}
 use Rattle.semantics.proofs.Theorems.Limits.Laws.{within-le}
 use Rattle.semantics.specs.Answer.{Answer, ok, and_then}
 use Rattle.semantics.specs.Answer.Laws.{ok-inj, and_then-ok}

@@ -3,7 +3,7 @@
 use Prim.Native.Nat.{ℕ, zero, suc, ◌+◌, ◌<◌, ◌≤◌}
 use Rattle.std.proofs.Common.{add-zero, zero-add, add-suc, suc-add, arith, sym, ◌∙◌, inl, inr}
 use Rattle.std.proofs.Math.Path.{◌≡◌, refl, ap, subst}
-use Rattle.std.specs.Prelude.{◌⊎◌, Bool, length, get_or, ℤ}
+use Rattle.std.specs.Prelude.{◌⊎◌, Bool, length, get_or, ℤ, None, Ok, Some}
 use Rattle.std.proofs.Math.Logic.{⊎_elim}
 use Rattle.std.proofs.Math.Bool.{true, false, true≢false}
 use Rattle.std.proofs.lemmas.Bool.{false≢true}
@@ -15,13 +15,12 @@ use Rattle.semantics.specs.declared.graph.NodeId.{NodeId}
 use Rattle.semantics.specs.declared.graph.Node.{Node}
 use Rattle.semantics.specs.declared.graph.Node.TheVariants as N
 use Rattle.semantics.specs.declared.graph.Edge.TheVariants as E
-use Rattle.semantics.specs.declared.search.Limit.{Limit}
 use Rattle.semantics.specs.declared.search.SearchOrder.TheVariants.{BreadthFirst}
 use Rattle.semantics.specs.declared.refusal.SearchRefusal.{SearchRefusal}
 use Rattle.semantics.specs.declared.refusal.SearchRefusal.TheVariants as Search
 use Rattle.semantics.specs.Lists.{cons_if, pick, or, same}
 use Rattle.semantics.specs.Lists.Laws.{eqb-true, eqb_same, same-eq, cons_if-tail, cons_if-cases}
-use Rattle.semantics.specs.Limits.{Bounds, slot_words}
+use Rattle.semantics.specs.Limits.{Bounds, slot_words, Limit}
 use Rattle.semantics.proofs.Theorems.Limits.Laws.{within-zero}
 use Rattle.semantics.specs.Answer.{Answer, ok, refuse, and_then}
 use Rattle.semantics.specs.Answer.Laws.{ok-inj, ok-refuse, and_then-ok}
@@ -37,12 +36,12 @@ use Rattle.semantics.specs.Direct.{tries, direct, search_setting}
 use Rattle.semantics.proofs.Theorems.Direct.Laws.{step-taken, direct-ok, direct-exact}
 use Rattle.semantics.specs.Demand.{Taken, Valid}
 use Rattle.semantics.specs.declared.refusal.ImageRefusal.{ImageRefusal}
-use Rattle.semantics.specs.declared.answer.Finding.{Finding}
 use Rattle.semantics.specs.Told.{told_finding}
 use Rattle.semantics.specs.Words.{whole_slots, area}
 use Rattle.semantics.specs.Calls.{Outcome}
 use Rattle.semantics.proofs.Theorems.Calls.Refused.{Zeroed}
 use Rattle.semantics.specs.Finding.{Name, first_to, references_from, named, find_in, only_length, search_to, name_to, FindRequest, found_as, if_definition, unless_removed, find_call}
+use Rattle.semantics.specs.PublicAnswers.{Finding}
 
 -- ---- WHERE A COMPLETE PATH ENDS
 
@@ -471,13 +470,13 @@ module _ (bd : Bounds) (g : Graph) (q : FindRequest) where
   abbrev pub Nameless : ℕ → Type 0
   Nameless r = Unnamed bd q.length (view_of g) q.node r
 
-  found_nothing : (t : Answer SearchRefusal (Option Name)) → (found_as bd q t).answer ≡ Finding.Nothing → t ≡ ok none
+  found_nothing : (t : Answer SearchRefusal (Option Name)) → (found_as bd q t).answer ≡ Ok None → t ≡ ok none
   unfolding found_as
   found_nothing (ok none) e = refl
   found_nothing (ok (some m)) e = absurd (let z : ◌≡◌ {A = Bool} true false = cc in true≢false z)
   found_nothing (refuse r) e = absurd (let z : ◌≡◌ {A = Bool} true false = cc in true≢false z)
 
-  found_some : (t : Answer SearchRefusal (Option Name)) (r : ℕ) → (found_as bd q t).answer ≡ Finding.Found (node_id r) → (m : Name) × (t ≡ ok (some m)) × (m.reference ≡ r)
+  found_some : (t : Answer SearchRefusal (Option Name)) (r : ℕ) → (found_as bd q t).answer ≡ Ok (Some (node_id r)) → (m : Name) × (t ≡ ok (some m)) × (m.reference ≡ r)
   unfolding found_as
   found_some (ok (some m)) r e = let z : node_id m.reference ≡ node_id r = cc in (m, refl, ap (λ (x : NodeId). x.0) z)
   found_some (ok none) r e = absurd (let z : ◌≡◌ {A = Bool} true false = cc in true≢false z)
@@ -489,7 +488,7 @@ module _ (bd : Bounds) (g : Graph) (q : FindRequest) where
     definition-call = rw (there, definition)
 
     -- none is answered: no search was refused, and no name leads there
-    pub nothing-answered : (find_call bd (ok g) q).answer ≡ Finding.Nothing → (r : ℕ) → is_reference ((view_of g).node r) ≡ true → ((s : State Path) × (search_by r ≡ ok s)) × Nameless r
+    pub nothing-answered : (find_call bd (ok g) q).answer ≡ Ok None → (r : ℕ) → is_reference ((view_of g).node r) ≡ true → ((s : State Path) × (search_by r ≡ ok s)) × Nameless r
     unfolding name_to
     nothing-answered h r e =
         let t = found_nothing (name_to bd q.length waiting_of results_of g q.node) (ap (λ (o : Outcome Finding). o.answer) (sym definition-call) ∙ h) in
@@ -497,7 +496,7 @@ module _ (bd : Bounds) (g : Graph) (q : FindRequest) where
         ((w.0, w.1), no_name bd q.length waiting_of results_of g q.node t r e)
 
     -- and the other way round
-    pub answers-nothing : ((r : ℕ) → is_reference ((view_of g).node r) ≡ true → ((s : State Path) × (search_by r ≡ ok s)) × Nameless r) → (find_call bd (ok g) q).answer ≡ Finding.Nothing
+    pub answers-nothing : ((r : ℕ) → is_reference ((view_of g).node r) ≡ true → ((s : State Path) × (search_by r ≡ ok s)) × Nameless r) → (find_call bd (ok g) q).answer ≡ Ok None
     unfolding name_to found_as
     answers-nothing h =
         let t : name_to bd q.length waiting_of results_of g q.node ≡ ok none = without-none search_by q.node (references_from 0 g.nodes) (λ r m. from r (h r (searched-reference g r m))) in
@@ -515,7 +514,7 @@ module _ (bd : Bounds) (g : Graph) (q : FindRequest) where
         from r k = (k.0.0, k.0.1, none-there r k.0.0 k.0.1 k.1 (first_to q.node (recorded k.0.0)) refl)
 
     -- a reference is answered: its list stands in the first slot, leads to the node, and no lower reference has one
-    pub found-answered : (r : ℕ) → (find_call bd (ok g) q).answer ≡ Finding.Found (node_id r)
+    pub found-answered : (r : ℕ) → (find_call bd (ok g) q).answer ≡ Ok (Some (node_id r))
         → (m : Name) × (m.reference ≡ r) × ((find_call bd (ok g) q).result ≡ area (slot_words bd) q.result (m.edges ∷ [])) × Lowest bd q.length (view_of g) q.node m
     unfolding found_as
     found-answered r h =

@@ -5,14 +5,13 @@ use Rattle.std.proofs.Math.Path.{refl, sym, ap, fun_ext}
 use Rattle.std.proofs.Common.{◌∙◌}
 use Rattle.std.proofs.Math.Bool.{true, false}
 use mathlib.Core.List.{List, [], ◌∷◌, Memᴰ}
-use Rattle.semantics.specs.declared.search.Limit.{Limit}
 use Rattle.semantics.specs.declared.search.SearchLimits.{SearchLimits}
 use Rattle.semantics.specs.declared.search.SearchOrder.{SearchOrder}
 use Rattle.semantics.specs.declared.refusal.SearchRefusal.{SearchRefusal}
 use Rattle.semantics.specs.declared.refusal.SearchRefusal.TheVariants as Search
 use Rattle.semantics.specs.Lists.{cons_if}
 use Rattle.semantics.specs.Lists.Laws.{eqb_same}
-use Rattle.semantics.specs.Limits.{Bounds, base, slot_words}
+use Rattle.semantics.specs.Limits.{Bounds, base, slot_words, Limit}
 use Rattle.semantics.specs.Answer.{ok, and_then, wrap}
 use Rattle.semantics.specs.Graph.{node_id, Graph, View, view_of, traits, is_definition, Lawful}
 use Rattle.semantics.specs.Graph.Laws.{ascending-same, view_of-lawful}

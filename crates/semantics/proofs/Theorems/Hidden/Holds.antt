@@ -1,6 +1,6 @@
 -- The visible slots of a database that meets the premise of demand 3 meet it for what a desk sees; the slots of hidden files need not hold anything.
 -- Document 02, order 8: "The sets of demand 3 and their equality now concern visible edges only"; the same with the alias set.
-use Rattle.std.specs.Prelude.{ℕ, ◌≤◌, ◌<◌, ◌⊎◌, Bool, eqb, length, ℤ}
+use Rattle.std.specs.Prelude.{ℕ, ◌≤◌, ◌<◌, ◌⊎◌, Bool, eqb, length, ℤ, None}
 use Rattle.std.proofs.Common.{arith, ◌∙◌, inl, inr, ⊎_elim}
 use Rattle.std.proofs.Math.Path.{◌≡◌, refl, sym, ap, subst}
 use Rattle.std.proofs.Math.Bool.{true, false, true≢false}
@@ -10,11 +10,9 @@ use mathlib.Core.List.{List, [], ◌∷◌, Memᴰ}
 use Rattle.semantics.specs.declared.graph.NodeId.{NodeId}
 use Rattle.semantics.specs.declared.graph.Edge.{Edge}
 use Rattle.semantics.specs.declared.graph.Edge.TheVariants as E
-use Rattle.semantics.specs.declared.search.Limit.{Limit}
-use Rattle.semantics.specs.declared.search.Limit.TheVariants.{Absent}
 use Rattle.semantics.specs.Lists.{or, and}
 use Rattle.semantics.specs.Lists.Laws.{and-true, or-true, mem-map, map-mem}
-use Rattle.semantics.specs.Limits.{Bounds, nobody}
+use Rattle.semantics.specs.Limits.{Bounds, nobody, Limit}
 use Rattle.semantics.specs.Graph.{node_id, Graph, View, view_of, file_of, lacks_file, is_start, is_endpoint}
 use Rattle.semantics.specs.PartialPaths.{Slot, dead, slot, Route, belongs, is_fileless, owned_by}
 use Rattle.semantics.proofs.Theorems.PartialPaths.Laws.{belongs-cases, belongs-source, belongs-target}
@@ -151,19 +149,19 @@ module _ (see : ℕ → Bool) (g : Graph) where
 
   -- THE PREMISE for what is seen asks for the visible owners' partial paths on the whole graph, and for no others among the slots of visible owners
   pub record HoldsVisible (O : Owners) (bd : Bounds) (db : List Slot) : Type 0 where
-    pub every : (f : ℕ) (r : Route) → O.Known f → sees_owner see f ≡ true → Partial bd Absent (view_of g) O f r → Memᴰ (slot f r.start r.current r.edges) db
-    pub only : (f s t : ℕ) (es : List ℕ) → sees_owner see f ≡ true → Memᴰ (slot f s t es) db → O.Known f × Partial bd Absent (view_of g) O f (record { start = s; current = t; edges = es })
+    pub every : (f : ℕ) (r : Route) → O.Known f → sees_owner see f ≡ true → Partial bd None (view_of g) O f r → Memᴰ (slot f r.start r.current r.edges) db
+    pub only : (f s t : ℕ) (es : List ℕ) → sees_owner see f ≡ true → Memᴰ (slot f s t es) db → O.Known f × Partial bd None (view_of g) O f (record { start = s; current = t; edges = es })
 
   visible_holds : (O O' : Owners) → Shown O O' → (bd : Bounds) (db : List Slot) → HoldsVisible O bd db → Holds O' bd w (seen_slots see db)
   visible_holds O O' shown bd db h = record {
     every = λ f r k p.
         let known = shown.known f k in
         let visible = owner-seen O O' shown f known r.edges p.some-edge p.walk in
-        in-seen see f r.start r.current r.edges db visible (h.every f r known visible (unhide O O' shown f known bd Absent r p));
+        in-seen see f r.start r.current r.edges db visible (h.every f r known visible (unhide O O' shown f known bd None r p));
     only = λ f s t es m.
         let i = seen-in see f s t es db m in
         let o = h.only f s t es i.1 i.0 in
-        (shown.known-seen f o.0, rehide O O' shown f o.0 i.1 bd Absent (record { start = s; current = t; edges = es }) o.1);
+        (shown.known-seen f o.0, rehide O O' shown f o.0 i.1 bd None (record { start = s; current = t; edges = es }) o.1);
   }
 
   -- a database that holds every owner's holds the visible ones'

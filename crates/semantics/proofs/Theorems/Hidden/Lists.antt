@@ -14,9 +14,8 @@ use Rattle.semantics.specs.declared.graph.Node.TheVariants as N
 use Rattle.semantics.specs.declared.graph.Edge.TheVariants as E
 use Rattle.semantics.specs.declared.refusal.PathRefusal.{PathRefusal}
 use Rattle.semantics.specs.declared.refusal.PathRefusal.TheVariants.{UnknownAttachedScope}
-use Rattle.semantics.specs.declared.search.Limit.{Limit}
 use Rattle.semantics.specs.Lists.Laws.{eqb-true}
-use Rattle.semantics.specs.Limits.{Bounds}
+use Rattle.semantics.specs.Limits.{Bounds, Limit}
 use Rattle.semantics.specs.Answer.{Answer, ok, and_then}
 use Rattle.semantics.specs.Answer.Laws.{refuse-ok, and_then-ok}
 use Rattle.semantics.specs.Graph.{node_id, Graph, View, view_of, traits, file_of, is_reference, is_definition, is_exported}

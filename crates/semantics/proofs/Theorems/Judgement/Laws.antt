@@ -1,6 +1,6 @@
 -- The judgement of an edge says what `append` says, for every view, every path and every edge number.
 -- Document 02, order 4.
-use Rattle.std.specs.Prelude.{ℕ, ◌≡◌, Bool, eqb, ℤ}
+use Rattle.std.specs.Prelude.{ℕ, ◌≡◌, Bool, eqb, ℤ, Err, Ok}
 use Rattle.std.proofs.Math.Path.{refl, ap}
 use Rattle.std.proofs.Common.{sym, ◌∙◌, true≢false}
 use Rattle.std.proofs.Math.Bool.{true, false}
@@ -12,18 +12,17 @@ use Rattle.semantics.specs.declared.graph.Edge.{Edge}
 use Rattle.semantics.specs.declared.graph.Edge.TheVariants as E
 use Rattle.semantics.specs.declared.refusal.PathRefusal.{PathRefusal}
 use Rattle.semantics.specs.declared.refusal.PathRefusal.TheVariants.{UnknownAttachedScope}
-use Rattle.semantics.specs.declared.judgement.EdgeJudgement.{EdgeJudgement}
-use Rattle.semantics.specs.declared.judgement.EdgeJudgement.TheVariants.{Refused, Extends}
 use Rattle.semantics.specs.Lists.{and, pick}
 use Rattle.semantics.specs.Answer.{Answer, ok, refuse, and_then}
 use Rattle.semantics.specs.Graph.{node_id, View, is_reference, is_definition, is_exported}
 use Rattle.semantics.specs.Path.{Stacks, along, Path, apply, jump_to, jump_top, land, extend, append_from, append_edge, append, is_empty, is_complete}
 use Rattle.semantics.specs.Judgement.{complete_at, judge_jump, judge_landing, judge_applied, judge_from, judge_edge, judgement}
+use Rattle.semantics.specs.PublicAnswers.{EdgeJudgement}
 
 -- what `append` says, with the extension built and then asked whether it is complete
 abbrev pub judgement_of : View → Answer PathRefusal Path → EdgeJudgement
-judgement_of g (ok q) = Extends (is_complete g q)
-judgement_of g (refuse r) = Refused r
+judgement_of g (ok q) = Ok (is_complete g q)
+judgement_of g (refuse r) = Err r
 
 -- an exported scope is no definition
 exported-none : (n : Node) → is_exported n ≡ true → is_definition n ≡ false
@@ -47,13 +46,13 @@ module _ (g : View) (t : ℕ) (x : Path) (at : x.end ≡ t) where
   jump-same [] = refl
   jump-same (s ∷ l) = on (is_exported (g.node s)) refl
     where
-      on : (b : Bool) → is_exported (g.node s) ≡ b → pick b (Extends false) (Refused (UnknownAttachedScope (node_id s))) ≡ judgement_of g (jump_to b s l x)
-      on true h = unfold jump_to in unfold is_complete in ap Extends (sym (ap (λ d. and (is_reference (g.node x.start)) (and d (and (is_empty x.stacks.symbols) (is_empty l)))) (exported-none (g.node s) h) ∙ and-false (is_reference (g.node x.start))))
+      on : (b : Bool) → is_exported (g.node s) ≡ b → pick b (Ok false) (Err (UnknownAttachedScope (node_id s))) ≡ judgement_of g (jump_to b s l x)
+      on true h = unfold jump_to in unfold is_complete in ap Ok (sym (ap (λ d. and (is_reference (g.node x.start)) (and d (and (is_empty x.stacks.symbols) (is_empty l)))) (exported-none (g.node s) h) ∙ and-false (is_reference (g.node x.start))))
       on false h = unfold jump_to in refl
 
-  stays : Extends (complete_at g x.start t x.stacks) ≡ judgement_of g (ok x)
+  stays : Ok (complete_at g x.start t x.stacks) ≡ judgement_of g (ok x)
   unfolding complete_at is_complete
-  stays = ap (λ n. Extends (and (is_reference (g.node x.start)) (and (is_definition (g.node n)) (and (is_empty x.stacks.symbols) (is_empty x.stacks.scopes))))) (sym at)
+  stays = ap (λ n. Ok (and (is_reference (g.node x.start)) (and (is_definition (g.node n)) (and (is_empty x.stacks.symbols) (is_empty x.stacks.scopes))))) (sym at)
 
   land-same : (n : Node) → judge_landing g x.start t n x.stacks ≡ judgement_of g (land g t n x)
   unfolding judge_landing land
@@ -91,23 +90,23 @@ pub record Extension (g : View) (p : Path) (e : ℕ) (complete : Bool) : Type 0 
   pub appended : append g p e ≡ ok path
   pub is-complete : is_complete g path ≡ complete
 
-refused-inj : {r x : PathRefusal} → Refused r ≡ Refused x → r ≡ x
+refused-inj : {r x : PathRefusal} → ◌≡◌ {A = EdgeJudgement} (Err r) (Err x) → r ≡ x
 refused-inj h = cc
 
-extends-inj : {a b : Bool} → Extends a ≡ Extends b → a ≡ b
+extends-inj : {a b : Bool} → ◌≡◌ {A = EdgeJudgement} (Ok a) (Ok b) → a ≡ b
 extends-inj h = cc
 
-extends-refused : {b : Bool} {r : PathRefusal} → Extends b ≡ Refused r → ⊥
+extends-refused : {b : Bool} {r : PathRefusal} → ◌≡◌ {A = EdgeJudgement} (Ok b) (Err r) → ⊥
 extends-refused h = let z : ◌≡◌ {A = Bool} true false = cc in true≢false z
 
-pub judged-refused : (g : View) (p : Path) (e : ℕ) (r : PathRefusal) → judgement g p e ≡ Refused r → append g p e ≡ refuse r
+pub judged-refused : (g : View) (p : Path) (e : ℕ) (r : PathRefusal) → judgement g p e ≡ Err r → append g p e ≡ refuse r
 judged-refused g p e r h = on (append g p e) refl
   where
     on : (a : Answer PathRefusal Path) → append g p e ≡ a → append g p e ≡ refuse r
     on (ok q) k = absurd (extends-refused (ap (judgement_of g) (sym k) ∙ sym (judgement-append g p e) ∙ h))
     on (refuse x) k = k ∙ ap refuse (refused-inj (ap (judgement_of g) (sym k) ∙ sym (judgement-append g p e) ∙ h))
 
-pub judged-extends : (g : View) (p : Path) (e : ℕ) (b : Bool) → judgement g p e ≡ Extends b → Extension g p e b
+pub judged-extends : (g : View) (p : Path) (e : ℕ) (b : Bool) → judgement g p e ≡ Ok b → Extension g p e b
 judged-extends g p e b h = on (append g p e) refl
   where
     on : (a : Answer PathRefusal Path) → append g p e ≡ a → Extension g p e b

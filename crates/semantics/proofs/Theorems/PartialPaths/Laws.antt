@@ -1,6 +1,6 @@
 -- What a computation of partial paths finds, and which slots survive a clearing.
 -- Document 01, "Partial paths".
-use Rattle.std.specs.Prelude.{ℕ, zero, suc, ◌+◌, ◌≤◌, ◌<◌, ◌≡◌, ◌⊎◌, Bool, eqb, get_or, ℤ}
+use Rattle.std.specs.Prelude.{ℕ, zero, suc, ◌+◌, ◌≤◌, ◌<◌, ◌≡◌, ◌⊎◌, Bool, eqb, get_or, ℤ, None}
 use Rattle.std.proofs.Common.{add-zero, zero-add, add-suc, suc-add, sym, ◌∙◌, inl, inr, ⊎_elim, true≢false, lt→ltb}
 use native.Mathlib.Omega.{arith}
 use Rattle.std.proofs.Math.Path.{refl, ap, subst}
@@ -16,13 +16,11 @@ use Rattle.semantics.specs.declared.graph.Node.{Node}
 use Rattle.semantics.specs.declared.graph.Node.TheVariants as N
 use Rattle.semantics.specs.declared.graph.Edge.{Edge}
 use Rattle.semantics.specs.declared.graph.Edge.TheVariants as E
-use Rattle.semantics.specs.declared.search.Limit.{Limit}
-use Rattle.semantics.specs.declared.search.Limit.TheVariants.{Absent}
 use Rattle.semantics.specs.declared.refusal.PartialPathRefusal.{PartialPathRefusal}
 use Rattle.semantics.specs.declared.refusal.PartialPathRefusal.TheVariants.{UnknownFile, TooLong}
 use Rattle.semantics.specs.Lists.{has, or, and, select, Distinct}
 use Rattle.semantics.specs.Lists.Laws.{T→eq, eq→T, eqb-true, eqb_same, or-true, and-true, distinct_snoc, distinct-split, map-mem, mem-map, cons_if-tail, cons_if-cases, select_in, in-select, length-snoc}
-use Rattle.semantics.specs.Limits.{Bounds, within, nobody}
+use Rattle.semantics.specs.Limits.{Bounds, within, nobody, Limit}
 use Rattle.semantics.proofs.Theorems.Limits.Laws.{within-le, within-zero}
 use Rattle.semantics.specs.Answer.{ok}
 use Rattle.semantics.specs.Answer.Laws.{refuse-ok}
@@ -225,7 +223,7 @@ module _ (bd : Bounds) (lim : Limit) (c : Setting PartialPathRefusal) (g : Graph
   unfolding file_routes
   file-found h = partials-found bd lim c (view_of g) (view_of-lawful g) (file_owners g) f (start_routes g f) (start_is g f) (start_has g f) u h
 
-  pub file-unlimited : file_routes bd lim c g f ≡ ok u → c.max_count ≡ Absent → c.max_complete ≡ Absent → (r : Route) → Partial bd lim (view_of g) (file_owners g) f r → Memᴰ r u.kept
+  pub file-unlimited : file_routes bd lim c g f ≡ ok u → c.max_count ≡ None → c.max_complete ≡ None → (r : Route) → Partial bd lim (view_of g) (file_owners g) f r → Memᴰ r u.kept
   unfolding file_routes partials
   file-unlimited h n k r p =
       let z = enumerate-unlimited c (route_tries bd lim (view_of g) (belongs (view_of g) f)) bd.expansions (start_routes g f) u h n k in

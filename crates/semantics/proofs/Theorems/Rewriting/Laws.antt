@@ -1,6 +1,6 @@
 -- The rewrites undo each other byte for byte, the rewritten image is accepted with the same graph, and every call answers the same on both.
 -- Document 02, order 3.
-use Rattle.std.specs.Prelude.{ℕ, zero, suc, ◌+◌, ◌-◌, ◌*◌, ◌≤◌, ◌<◌, ◌≡◌, refl, Bool, true, false, List, [], ◌∷◌, ◌++◌, eqb, ltb, length, get_or, take}
+use Rattle.std.specs.Prelude.{ℕ, zero, suc, ◌+◌, ◌-◌, ◌*◌, ◌≤◌, ◌<◌, ◌≡◌, refl, Bool, true, false, List, [], ◌∷◌, ◌++◌, eqb, ltb, length, get_or, take, Err, Ok}
 use Rattle.std.proofs.Common.{arith, sym, ◌∙◌, ap, ap₂, subst, true≢false, ltb→lt, lt→ltb, length-append}
 use Rattle.std.proofs.lemmas.Bool.{false≢true}
 use Rattle.std.proofs.Math.Option.{Option, none, some}
@@ -10,7 +10,6 @@ use Rattle.semantics.specs.declared.graph.Node.{Node}
 use Rattle.semantics.specs.declared.graph.Node.TheVariants as N
 use Rattle.semantics.specs.declared.refusal.ImageRefusal.{ImageRefusal}
 use Rattle.semantics.specs.declared.refusal.ImageRefusal.TheVariants as Image
-use Rattle.semantics.specs.declared.answer.Rewriting.{Rewriting}
 use Rattle.semantics.specs.Lists.{pick, and}
 use Rattle.semantics.specs.Lists.Laws.{T→eq, eq→T, eqb_same, eqb-true, bool_false, and-true}
 use Rattle.semantics.specs.Answer.{Answer, ok, refuse}
@@ -33,18 +32,20 @@ use Rattle.semantics.specs.Calls.{Request, LinearRequest, FileRequest, check_cal
 use Rattle.semantics.specs.Finding.{FindRequest, find_call}
 use Rattle.semantics.proofs.Theorems.Calls.Refused.{IsRefused}
 use Rattle.semantics.specs.Rewriting.{Rewritten, refused_bytes, first_wide, written, written_unless, rewrite_call, rewrite_as, widen, narrow}
+use Rattle.semantics.specs.PublicAnswers.{Rewriting}
+use Rattle.semantics.specs.declared.answer.RewritingRefusal.{RewritingRefusal}
 
 -- ANSWERS THAT DIFFER
-done-image : (n : ℕ) (r : ImageRefusal) → Rewriting.Image r ≡ Rewriting.Done n → ⊥
+done-image : (n : ℕ) (r : ImageRefusal) → Err (RewritingRefusal.Image r) ≡ Ok n → ⊥
 done-image n r e = let z : ◌≡◌ {A = Bool} true false = cc in true≢false z
 
-done-wide : (n p : ℕ) → Rewriting.WideSymbol p ≡ Rewriting.Done n → ⊥
+done-wide : (n p : ℕ) → Err (RewritingRefusal.WideSymbol p) ≡ Ok n → ⊥
 done-wide n p e = let z : ◌≡◌ {A = Bool} true false = cc in true≢false z
 
-done-room : (n : ℕ) → Rewriting.NoRoom ≡ Rewriting.Done n → ⊥
+done-room : (n : ℕ) → (Err RewritingRefusal.NoRoom) ≡ Ok n → ⊥
 done-room n e = let z : ◌≡◌ {A = Bool} true false = cc in true≢false z
 
-done_inj : (m n : ℕ) → Rewriting.Done m ≡ Rewriting.Done n → m ≡ n
+done_inj : (m n : ℕ) → ◌≡◌ {A = Rewriting} (Ok m) (Ok n) → m ≡ n
 done_inj m n e = cc
 
 -- 38: no record is named exactly where every symbol fits
@@ -99,7 +100,7 @@ pub record Did (v w : ℕ) (g : Graph) (len n : ℕ) (o : Rewritten) : Type 0 wh
   pub size : n ≡ length (encode_image v w g)
   pub bytes : o.bytes ≡ encode_image v w g ++ zeros (len - n)
 
-pub rewrite-did : (v w : ℕ) (g : Graph) (im : List ℕ) (len n : ℕ) → (rewrite_call v w (ok g) im len).answer ≡ Rewriting.Done n → Did v w g len n (rewrite_call v w (ok g) im len)
+pub rewrite-did : (v w : ℕ) (g : Graph) (im : List ℕ) (len n : ℕ) → (rewrite_call v w (ok g) im len).answer ≡ Ok n → Did v w g len n (rewrite_call v w (ok g) im len)
 unfolding rewrite_call written_unless written
 rewrite-did v w g im len n e = on (first_wide w im first_record g.nodes) refl e
   where
@@ -107,18 +108,18 @@ rewrite-did v w g im len n e = on (first_wide w im first_record g.nodes) refl e
     out = encode_image v w g
 
     third : symbols_fit w g.nodes ≡ true → length out ≤ most_bytes v → (b : Bool) → ltb len (length out) ≡ b
-        → (pick b (refused_bytes len Rewriting.NoRoom) (record { answer = Rewriting.Done (length out); bytes = out ++ zeros (len - length out) })).answer ≡ Rewriting.Done n
-        → Did v w g len n (pick b (refused_bytes len Rewriting.NoRoom) (record { answer = Rewriting.Done (length out); bytes = out ++ zeros (len - length out) }))
+        → (pick b (refused_bytes len (Err RewritingRefusal.NoRoom)) (record { answer = Ok (length out); bytes = out ++ zeros (len - length out) })).answer ≡ Ok n
+        → Did v w g len n (pick b (refused_bytes len (Err RewritingRefusal.NoRoom)) (record { answer = Ok (length out); bytes = out ++ zeros (len - length out) }))
     third s m true q k = absurd (done-room n k)
     third s m false q k = let z = done_inj (length out) n k in record { symbols = s; short = m; room = ltb-le len (length out) q; size = sym z; bytes = ap (λ (x : ℕ). out ++ zeros (len - x)) z }
 
     second : symbols_fit w g.nodes ≡ true → (b : Bool) → ltb (most_bytes v) (length out) ≡ b
-        → (pick b (refused_bytes len (Rewriting.Image Image.Length)) (pick (ltb len (length out)) (refused_bytes len Rewriting.NoRoom) (record { answer = Rewriting.Done (length out); bytes = out ++ zeros (len - length out) }))).answer ≡ Rewriting.Done n
-        → Did v w g len n (pick b (refused_bytes len (Rewriting.Image Image.Length)) (pick (ltb len (length out)) (refused_bytes len Rewriting.NoRoom) (record { answer = Rewriting.Done (length out); bytes = out ++ zeros (len - length out) })))
+        → (pick b (refused_bytes len (Err (RewritingRefusal.Image Image.Length))) (pick (ltb len (length out)) (refused_bytes len (Err RewritingRefusal.NoRoom)) (record { answer = Ok (length out); bytes = out ++ zeros (len - length out) }))).answer ≡ Ok n
+        → Did v w g len n (pick b (refused_bytes len (Err (RewritingRefusal.Image Image.Length))) (pick (ltb len (length out)) (refused_bytes len (Err RewritingRefusal.NoRoom)) (record { answer = Ok (length out); bytes = out ++ zeros (len - length out) })))
     second s true q k = absurd (done-image n Image.Length k)
     second s false q k = third s (ltb-le (most_bytes v) (length out) q) (ltb len (length out)) refl k
 
-    on : (o : Option ℕ) → first_wide w im first_record g.nodes ≡ o → (written_unless o (most_bytes v) out len).answer ≡ Rewriting.Done n → Did v w g len n (written_unless o (most_bytes v) out len)
+    on : (o : Option ℕ) → first_wide w im first_record g.nodes ≡ o → (written_unless o (most_bytes v) out len).answer ≡ Ok n → Did v w g len n (written_unless o (most_bytes v) out len)
     on none q k = second (none-wide w im first_record g.nodes q) (ltb (most_bytes v) (length out)) refl k
     on (some p) q k = absurd (done-wide n p k)
 
@@ -126,20 +127,20 @@ not-under : (m n : ℕ) → n ≤ m → ltb m n ≡ false
 not-under m n h = bool_false (ltb m n) (λ q. let y = ltb→lt m n (eq→T (ltb m n) q) in omega (arith, y, h))
 
 pub rewrite-does : (v w : ℕ) (g : Graph) (im : List ℕ) (len : ℕ) → symbols_fit w g.nodes ≡ true → length (encode_image v w g) ≤ most_bytes v → length (encode_image v w g) ≤ len
-    → rewrite_call v w (ok g) im len ≡ record { answer = Rewriting.Done (length (encode_image v w g)); bytes = encode_image v w g ++ zeros (len - length (encode_image v w g)) }
+    → rewrite_call v w (ok g) im len ≡ record { answer = Ok (length (encode_image v w g)); bytes = encode_image v w g ++ zeros (len - length (encode_image v w g)) }
 unfolding rewrite_call written_unless written
 rewrite-does v w g im len s m h =
     ap (λ (o : Option ℕ). written_unless o (most_bytes v) (encode_image v w g) len) (wide-none w im first_record g.nodes s)
     ∙ rw (not-under (most_bytes v) (length (encode_image v w g)) m, not-under len (length (encode_image v w g)) h)
 
 -- THE REFUSALS OF THE RESULT: 2 whatever is lent, then 32
-pub rewrite-long : (v w : ℕ) (g : Graph) (im : List ℕ) (len : ℕ) → symbols_fit w g.nodes ≡ true → most_bytes v < length (encode_image v w g) → rewrite_call v w (ok g) im len ≡ refused_bytes len (Rewriting.Image Image.Length)
+pub rewrite-long : (v w : ℕ) (g : Graph) (im : List ℕ) (len : ℕ) → symbols_fit w g.nodes ≡ true → most_bytes v < length (encode_image v w g) → rewrite_call v w (ok g) im len ≡ refused_bytes len (Err (RewritingRefusal.Image Image.Length))
 unfolding rewrite_call written_unless written
 rewrite-long v w g im len s m =
     ap (λ (o : Option ℕ). written_unless o (most_bytes v) (encode_image v w g) len) (wide-none w im first_record g.nodes s)
     ∙ rw (T→eq (ltb (most_bytes v) (length (encode_image v w g))) (lt→ltb (most_bytes v) (length (encode_image v w g)) m))
 
-pub rewrite-cramped : (v w : ℕ) (g : Graph) (im : List ℕ) (len : ℕ) → symbols_fit w g.nodes ≡ true → length (encode_image v w g) ≤ most_bytes v → len < length (encode_image v w g) → rewrite_call v w (ok g) im len ≡ refused_bytes len Rewriting.NoRoom
+pub rewrite-cramped : (v w : ℕ) (g : Graph) (im : List ℕ) (len : ℕ) → symbols_fit w g.nodes ≡ true → length (encode_image v w g) ≤ most_bytes v → len < length (encode_image v w g) → rewrite_call v w (ok g) im len ≡ refused_bytes len (Err RewritingRefusal.NoRoom)
 unfolding rewrite_call written_unless written
 rewrite-cramped v w g im len s m h =
     ap (λ (o : Option ℕ). written_unless o (most_bytes v) (encode_image v w g) len) (wide-none w im first_record g.nodes s)
@@ -161,7 +162,7 @@ rewrite-filled v w (ok g) im len = on (first_wide w im first_record g.nodes)
     out : List ℕ
     out = encode_image v w g
 
-    third : (b : Bool) → ltb len (length out) ≡ b → Filled len (pick b (refused_bytes len Rewriting.NoRoom) (record { answer = Rewriting.Done (length out); bytes = out ++ zeros (len - length out) }))
+    third : (b : Bool) → ltb len (length out) ≡ b → Filled len (pick b (refused_bytes len (Err RewritingRefusal.NoRoom)) (record { answer = Ok (length out); bytes = out ++ zeros (len - length out) }))
     third true q = record { all = length-replicate {A = ℕ} len 0; zeroed = λ h. refl }
     third false q =
         record {
@@ -169,7 +170,7 @@ rewrite-filled v w (ok g) im len = on (first_wide w im first_record g.nodes)
           zeroed = λ h. absurd (h refl);
         }
 
-    second : (b : Bool) → Filled len (pick b (refused_bytes len (Rewriting.Image Image.Length)) (pick (ltb len (length out)) (refused_bytes len Rewriting.NoRoom) (record { answer = Rewriting.Done (length out); bytes = out ++ zeros (len - length out) })))
+    second : (b : Bool) → Filled len (pick b (refused_bytes len (Err (RewritingRefusal.Image Image.Length))) (pick (ltb len (length out)) (refused_bytes len (Err RewritingRefusal.NoRoom)) (record { answer = Ok (length out); bytes = out ++ zeros (len - length out) })))
     second true = record { all = length-replicate {A = ℕ} len 0; zeroed = λ h. refl }
     second false = third (ltb len (length out)) refl
 
@@ -212,12 +213,12 @@ pub record Kept (widths : ℕ → ℕ) (from to : ℕ) (im : List ℕ) (len n : 
   pub front : take n (rewrite_as widths from to im len).bytes ≡ encode_image to (widths to) graph
   pub again : check_image (only widths to) (take n (rewrite_as widths from to im len).bytes) ≡ ok graph
 
-given-graph : (v w : ℕ) (a : Answer ImageRefusal Graph) (im : List ℕ) (len n : ℕ) → (rewrite_call v w a im len).answer ≡ Rewriting.Done n → (g : Graph) × (a ≡ ok g)
+given-graph : (v w : ℕ) (a : Answer ImageRefusal Graph) (im : List ℕ) (len n : ℕ) → (rewrite_call v w a im len).answer ≡ Ok n → (g : Graph) × (a ≡ ok g)
 unfolding rewrite_call
 given-graph v w (ok g) im len n e = (g, refl)
 given-graph v w (refuse x) im len n e = absurd (done-image n x e)
 
-pub kept : (widths : ℕ → ℕ) (from to : ℕ) (im : List ℕ) (len n : ℕ) → AllBytes im → 0 < widths to → (rewrite_as widths from to im len).answer ≡ Rewriting.Done n → Kept widths from to im len n
+pub kept : (widths : ℕ → ℕ) (from to : ℕ) (im : List ℕ) (len n : ℕ) → AllBytes im → 0 < widths to → (rewrite_as widths from to im len).answer ≡ Ok n → Kept widths from to im len n
 kept widths from to im len n b p e =
     let a = given-graph to (widths to) (check_image (only widths from) im) im len n e in
     let g : Graph = a.0 in
@@ -239,8 +240,8 @@ kept widths from to im len n b p e =
     }
 
 -- EACH REWRITE UNDOES THE OTHER, byte for byte
-pub undo : (widths : ℕ → ℕ) (from to : ℕ) (im : List ℕ) (len n len' : ℕ) → AllBytes im → 0 < widths to → (rewrite_as widths from to im len).answer ≡ Rewriting.Done n → length im ≤ len'
-    → rewrite_as widths to from (take n (rewrite_as widths from to im len).bytes) len' ≡ record { answer = Rewriting.Done (length im); bytes = im ++ zeros (len' - length im) }
+pub undo : (widths : ℕ → ℕ) (from to : ℕ) (im : List ℕ) (len n len' : ℕ) → AllBytes im → 0 < widths to → (rewrite_as widths from to im len).answer ≡ Ok n → length im ≤ len'
+    → rewrite_as widths to from (take n (rewrite_as widths from to im len).bytes) len' ≡ record { answer = Ok (length im); bytes = im ++ zeros (len' - length im) }
 undo widths from to im len n len' b p e h =
     let k = kept widths from to im len n b p e in
     let g = k.graph in
@@ -250,14 +251,14 @@ undo widths from to im len n len' b p e h =
     let most : length im ≤ most_bytes from = subst (λ (x : ℕ). length im ≤ most_bytes x) v (image-sized (only widths from) im g k.given).most in
     ap (λ (x : Answer ImageRefusal Graph). rewrite_call from (widths from) x (take n (rewrite_as widths from to im len).bytes) len') k.again
     ∙ rewrite-does from (widths from) g (take n (rewrite_as widths from to im len).bytes) len' k.writable.symbols (omega (arith, size, most)) (omega (arith, size, h))
-    ∙ ap (λ (l : List ℕ). record { answer = Rewriting.Done (length l); bytes = l ++ zeros (len' - length l) }) s
+    ∙ ap (λ (l : List ℕ). record { answer = Ok (length l); bytes = l ++ zeros (len' - length l) }) s
 
-pub undo-1 : (im : List ℕ) (len n len' : ℕ) → AllBytes im → (widen im len).answer ≡ Rewriting.Done n → length im ≤ len'
-    → narrow (take n (widen im len).bytes) len' ≡ record { answer = Rewriting.Done (length im); bytes = im ++ zeros (len' - length im) }
+pub undo-1 : (im : List ℕ) (len n len' : ℕ) → AllBytes im → (widen im len).answer ≡ Ok n → length im ≤ len'
+    → narrow (take n (widen im len).bytes) len' ≡ record { answer = Ok (length im); bytes = im ++ zeros (len' - length im) }
 undo-1 im len n len' b e h = undo symbol_bytes 1 2 im len n len' b (omega arith) e h
 
-pub undo-2 : (im : List ℕ) (len n len' : ℕ) → AllBytes im → (narrow im len).answer ≡ Rewriting.Done n → length im ≤ len'
-    → widen (take n (narrow im len).bytes) len' ≡ record { answer = Rewriting.Done (length im); bytes = im ++ zeros (len' - length im) }
+pub undo-2 : (im : List ℕ) (len n len' : ℕ) → AllBytes im → (narrow im len).answer ≡ Ok n → length im ≤ len'
+    → widen (take n (narrow im len).bytes) len' ≡ record { answer = Ok (length im); bytes = im ++ zeros (len' - length im) }
 undo-2 im len n len' b e h = undo symbol_bytes 2 1 im len n len' b (omega arith) e h
 
 -- what was written are bytes, so that it can be rewritten again
@@ -267,8 +268,8 @@ kept-bytes widths from to im len n k a h = subst AllBytes (sym k.front) (encoded
 -- WHEN A REWRITE IS DONE
 -- back, given room, exactly when every symbol fits 32 bits; it is never too long for version 1
 pub record Exactly (P : Type 0) (o : Rewritten) (out : List ℕ) (len : ℕ) : Type 0 where
-  pub whenever : P → o ≡ record { answer = Rewriting.Done (length out); bytes = out ++ zeros (len - length out) }
-  pub only_then : (n : ℕ) → o.answer ≡ Rewriting.Done n → P
+  pub whenever : P → o ≡ record { answer = Ok (length out); bytes = out ++ zeros (len - length out) }
+  pub only_then : (n : ℕ) → o.answer ≡ Ok n → P
 
 pub back-exactly : (im : List ℕ) (g : Graph) (len : ℕ) → check_image (only symbol_bytes 2) im ≡ ok g → length (encode_image 1 4 g) ≤ len → Exactly (symbols_fit 4 g.nodes ≡ true) (narrow im len) (encode_image 1 4 g) len
 back-exactly im g len e h =
@@ -295,37 +296,37 @@ forward-length im g b e =
     encoded-wider 2 1 4 4 g ∙ ap (λ (l : List ℕ). length l + 4 * symbols_in g.nodes) (sym s)
 
 -- 38 names the first record of the given image whose symbol does not fit, and is answered wherever there is one
-image-wide : (r : ImageRefusal) (p : ℕ) → Rewriting.Image r ≡ Rewriting.WideSymbol p → ⊥
+image-wide : (r : ImageRefusal) (p : ℕ) → ◌≡◌ {A = Rewriting} (Err (RewritingRefusal.Image r)) (Err (RewritingRefusal.WideSymbol p)) → ⊥
 image-wide r p e = let z : ◌≡◌ {A = Bool} true false = cc in true≢false z
 
-room-wide : (p : ℕ) → Rewriting.NoRoom ≡ Rewriting.WideSymbol p → ⊥
+room-wide : (p : ℕ) → ◌≡◌ {A = Rewriting} (Err RewritingRefusal.NoRoom) (Err (RewritingRefusal.WideSymbol p)) → ⊥
 room-wide p e = let z : ◌≡◌ {A = Bool} true false = cc in true≢false z
 
-wide-inj : (p q : ℕ) → Rewriting.WideSymbol p ≡ Rewriting.WideSymbol q → p ≡ q
+wide-inj : (p q : ℕ) → ◌≡◌ {A = Rewriting} (Err (RewritingRefusal.WideSymbol p)) (Err (RewritingRefusal.WideSymbol q)) → p ≡ q
 wide-inj p q e = cc
 
-written-narrow : (most : ℕ) (out : List ℕ) (len p : ℕ) → (written most out len).answer ≡ Rewriting.WideSymbol p → ⊥
+written-narrow : (most : ℕ) (out : List ℕ) (len p : ℕ) → (written most out len).answer ≡ Err (RewritingRefusal.WideSymbol p) → ⊥
 unfolding written
 written-narrow most out len p e = on (ltb most (length out)) (ltb len (length out)) e
   where
-    on : (b c : Bool) → (pick b (refused_bytes len (Rewriting.Image Image.Length)) (pick c (refused_bytes len Rewriting.NoRoom) (record { answer = Rewriting.Done (length out); bytes = out ++ zeros (len - length out) }))).answer ≡ Rewriting.WideSymbol p → ⊥
+    on : (b c : Bool) → (pick b (refused_bytes len (Err (RewritingRefusal.Image Image.Length))) (pick c (refused_bytes len (Err RewritingRefusal.NoRoom)) (record { answer = Ok (length out); bytes = out ++ zeros (len - length out) }))).answer ≡ Err (RewritingRefusal.WideSymbol p) → ⊥
     on true c k = image-wide Image.Length p k
     on false true k = room-wide p k
     on false false k = done-wide (length out) p (sym k)
 
-pub wide-names : (v w : ℕ) (g : Graph) (im : List ℕ) (len place : ℕ) → (rewrite_call v w (ok g) im len).answer ≡ Rewriting.WideSymbol place → First w im first_record g.nodes place
+pub wide-names : (v w : ℕ) (g : Graph) (im : List ℕ) (len place : ℕ) → (rewrite_call v w (ok g) im len).answer ≡ Err (RewritingRefusal.WideSymbol place) → First w im first_record g.nodes place
 unfolding rewrite_call written_unless
 wide-names v w g im len place e = on (first_wide w im first_record g.nodes) refl e
   where
-    on : (o : Option ℕ) → first_wide w im first_record g.nodes ≡ o → (written_unless o (most_bytes v) (encode_image v w g) len).answer ≡ Rewriting.WideSymbol place → First w im first_record g.nodes place
+    on : (o : Option ℕ) → first_wide w im first_record g.nodes ≡ o → (written_unless o (most_bytes v) (encode_image v w g) len).answer ≡ Err (RewritingRefusal.WideSymbol place) → First w im first_record g.nodes place
     on none q k = absurd (written-narrow (most_bytes v) (encode_image v w g) len place k)
     on (some p) q k = wide-first w im first_record g.nodes place (q ∙ ap some (wide-inj p place k))
 
-pub names-wide : (v w : ℕ) (g : Graph) (im : List ℕ) (len : ℕ) → symbols_fit w g.nodes ≡ false → (place : ℕ) × (rewrite_call v w (ok g) im len ≡ record { answer = Rewriting.WideSymbol place; bytes = zeros len })
+pub names-wide : (v w : ℕ) (g : Graph) (im : List ℕ) (len : ℕ) → symbols_fit w g.nodes ≡ false → (place : ℕ) × (rewrite_call v w (ok g) im len ≡ record { answer = Err (RewritingRefusal.WideSymbol place); bytes = zeros len })
 unfolding rewrite_call written_unless
 names-wide v w g im len h = on (first_wide w im first_record g.nodes) refl
   where
-    on : (o : Option ℕ) → first_wide w im first_record g.nodes ≡ o → (place : ℕ) × (written_unless o (most_bytes v) (encode_image v w g) len ≡ record { answer = Rewriting.WideSymbol place; bytes = zeros len })
+    on : (o : Option ℕ) → first_wide w im first_record g.nodes ≡ o → (place : ℕ) × (written_unless o (most_bytes v) (encode_image v w g) len ≡ record { answer = Err (RewritingRefusal.WideSymbol place); bytes = zeros len })
     on none q = absurd (false≢true (sym h ∙ none-wide w im first_record g.nodes q))
     on (some p) q = (p, refl)
 
@@ -335,7 +336,7 @@ fits_all w [] j h = refl
 fits_all w (n ∷ ns) zero h = (and-true (symbol_fits w n) (symbols_fit w ns) h).0
 fits_all w (n ∷ ns) (suc j) h = fits_all w ns j (and-true (symbol_fits w n) (symbols_fit w ns) h).1
 
-pub forward-fits : (im : List ℕ) (g : Graph) (len place : ℕ) → AllBytes im → check_image (only symbol_bytes 1) im ≡ ok g → (widen im len).answer ≡ Rewriting.WideSymbol place → ⊥
+pub forward-fits : (im : List ℕ) (g : Graph) (len place : ℕ) → AllBytes im → check_image (only symbol_bytes 1) im ≡ ok g → (widen im len).answer ≡ Err (RewritingRefusal.WideSymbol place) → ⊥
 forward-fits im g len place b e k =
     let v = image-version symbol_bytes 1 im g e in
     let s : symbols_fit 4 g.nodes ≡ true = subst (λ (x : ℕ). symbols_fit x g.nodes ≡ true) (ap (only symbol_bytes 1) v) (image-writable (only symbol_bytes 1) im g b e).symbols in
@@ -343,19 +344,19 @@ forward-fits im g len place b e k =
     true≢false (sym (fits_all 8 g.nodes f.number (symbols-more 4 4 g.nodes s)) ∙ f.wide)
 
 -- back, 2 is an answer to the given image alone, never to the result
-written-short : (most : ℕ) (out : List ℕ) (len : ℕ) → length out ≤ most → (written most out len).answer ≡ Rewriting.Image Image.Length → ⊥
+written-short : (most : ℕ) (out : List ℕ) (len : ℕ) → length out ≤ most → (written most out len).answer ≡ Err (RewritingRefusal.Image Image.Length) → ⊥
 unfolding written
-written-short most out len m e = on (ltb len (length out)) (sym (ap (λ (b : Bool). (pick b (refused_bytes len (Rewriting.Image Image.Length)) (pick (ltb len (length out)) (refused_bytes len Rewriting.NoRoom) (record { answer = Rewriting.Done (length out); bytes = out ++ zeros (len - length out) }))).answer) (not-under most (length out) m)) ∙ e)
+written-short most out len m e = on (ltb len (length out)) (sym (ap (λ (b : Bool). (pick b (refused_bytes len (Err (RewritingRefusal.Image Image.Length))) (pick (ltb len (length out)) (refused_bytes len (Err RewritingRefusal.NoRoom)) (record { answer = Ok (length out); bytes = out ++ zeros (len - length out) }))).answer) (not-under most (length out) m)) ∙ e)
   where
-    on : (c : Bool) → (pick c (refused_bytes len Rewriting.NoRoom) (record { answer = Rewriting.Done (length out); bytes = out ++ zeros (len - length out) })).answer ≡ Rewriting.Image Image.Length → ⊥
+    on : (c : Bool) → (pick c (refused_bytes len (Err RewritingRefusal.NoRoom)) (record { answer = Ok (length out); bytes = out ++ zeros (len - length out) })).answer ≡ Err (RewritingRefusal.Image Image.Length) → ⊥
     on true k = let z : ◌≡◌ {A = Bool} true false = cc in true≢false z
     on false k = done-image (length out) Image.Length (sym k)
 
-pub back-never-long : (im : List ℕ) (g : Graph) (len : ℕ) → check_image (only symbol_bytes 2) im ≡ ok g → (narrow im len).answer ≡ Rewriting.Image Image.Length → ⊥
+pub back-never-long : (im : List ℕ) (g : Graph) (len : ℕ) → check_image (only symbol_bytes 2) im ≡ ok g → (narrow im len).answer ≡ Err (RewritingRefusal.Image Image.Length) → ⊥
 unfolding rewrite_call written_unless
 back-never-long im g len e k = on (first_wide 4 im first_record g.nodes) (sym (ap (λ (x : Answer ImageRefusal Graph). (rewrite_call 1 4 x im len).answer) e) ∙ k)
   where
-    on : (o : Option ℕ) → (written_unless o (most_bytes 1) (encode_image 1 4 g) len).answer ≡ Rewriting.Image Image.Length → ⊥
+    on : (o : Option ℕ) → (written_unless o (most_bytes 1) (encode_image 1 4 g) len).answer ≡ Err (RewritingRefusal.Image Image.Length) → ⊥
     on none j = written-short 63499 (encode_image 1 4 g) len (back_fits 1 g (image-accepted (only symbol_bytes 2) im g e)) j
     on (some p) j = image-wide Image.Length p (sym j)
 
@@ -389,14 +390,14 @@ alike x y e =
       aliases = λ bd known q words. ap (λ (a : Answer ImageRefusal Graph). alias_call bd known a q words) e;
     }
 
-pub same-image : (widths : ℕ → ℕ) (from to : ℕ) (im : List ℕ) (len n : ℕ) → AllBytes im → 0 < widths to → (rewrite_as widths from to im len).answer ≡ Rewriting.Done n
+pub same-image : (widths : ℕ → ℕ) (from to : ℕ) (im : List ℕ) (len n : ℕ) → AllBytes im → 0 < widths to → (rewrite_as widths from to im len).answer ≡ Ok n
     → check_image widths (take n (rewrite_as widths from to im len).bytes) ≡ check_image widths im
 same-image widths from to im len n b p e =
     let k = kept widths from to im len n b p e in
     only-all widths to (take n (rewrite_as widths from to im len).bytes) k.graph k.again ∙ sym (only-all widths from im k.graph k.given)
 
-pub same-searches : (im : List ℕ) (len n : ℕ) → AllBytes im → (widen im len).answer ≡ Rewriting.Done n → Alike (check_image symbol_bytes (take n (widen im len).bytes)) (check_image symbol_bytes im)
+pub same-searches : (im : List ℕ) (len n : ℕ) → AllBytes im → (widen im len).answer ≡ Ok n → Alike (check_image symbol_bytes (take n (widen im len).bytes)) (check_image symbol_bytes im)
 same-searches im len n b e = alike (check_image symbol_bytes (take n (widen im len).bytes)) (check_image symbol_bytes im) (same-image symbol_bytes 1 2 im len n b (omega arith) e)
 
-pub same-searches-back : (im : List ℕ) (len n : ℕ) → AllBytes im → (narrow im len).answer ≡ Rewriting.Done n → Alike (check_image symbol_bytes (take n (narrow im len).bytes)) (check_image symbol_bytes im)
+pub same-searches-back : (im : List ℕ) (len n : ℕ) → AllBytes im → (narrow im len).answer ≡ Ok n → Alike (check_image symbol_bytes (take n (narrow im len).bytes)) (check_image symbol_bytes im)
 same-searches-back im len n b e = alike (check_image symbol_bytes (take n (narrow im len).bytes)) (check_image symbol_bytes im) (same-image symbol_bytes 2 1 im len n b (omega arith) e)

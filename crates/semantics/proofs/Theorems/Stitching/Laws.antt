@@ -1,6 +1,6 @@
 -- What stitched search records over a database that holds just the partial paths of the owners: the valid lists whose edges all
 -- have an owner, no other, none twice. Demand 3 for stitching.
-use Rattle.std.specs.Prelude.{ℕ, ◌+◌, ◌≤◌, Bool, leb, ℤ}
+use Rattle.std.specs.Prelude.{ℕ, ◌+◌, ◌≤◌, Bool, leb, ℤ, None}
 use Rattle.std.proofs.Common.{arith, ◌∙◌, le→leb, length-append}
 use Rattle.std.proofs.Math.Path.{◌≡◌, refl, sym, ap, subst}
 use Rattle.std.proofs.Math.Logic.{⊎_elim}
@@ -11,8 +11,6 @@ use Rattle.std.proofs.Math.Dec.{eqb}
 use Rattle.std.proofs.Math.ListN.{length}
 use Rattle.semantics.specs.declared.graph.NodeId.{NodeId}
 use Rattle.semantics.specs.declared.graph.Edge.TheVariants as E
-use Rattle.semantics.specs.declared.search.Limit.{Limit}
-use Rattle.semantics.specs.declared.search.Limit.TheVariants.{Absent}
 use Rattle.semantics.specs.declared.refusal.PathRefusal.{PathRefusal}
 use Rattle.semantics.specs.declared.refusal.PathRefusal.TheVariants as P
 use Rattle.semantics.specs.declared.refusal.ReplayRefusal.{ReplayRefusal}
@@ -21,7 +19,7 @@ use Rattle.semantics.specs.declared.refusal.SearchRefusal.{SearchRefusal}
 use Rattle.semantics.specs.declared.refusal.SearchRefusal.TheVariants as Search
 use Rattle.semantics.specs.Lists.{cons_if, shares, Distinct}
 use Rattle.semantics.specs.Lists.Laws.{T→eq, eqb-true, eqb_same, and-true, distinct-left, distinct-right, distinct-join, shares-none, cons_if-tail, cons_if-cases, length-snoc}
-use Rattle.semantics.specs.Limits.{Bounds, within}
+use Rattle.semantics.specs.Limits.{Bounds, within, Limit}
 use Rattle.semantics.proofs.Theorems.Limits.Laws.{within-le, within-zero}
 use Rattle.semantics.specs.Answer.{Answer, ok, refuse, and_then, wrap}
 use Rattle.semantics.specs.Answer.Laws.{ok-inj, and_then-ok, wrap-ok}
@@ -210,7 +208,7 @@ module _ (O : Owners) (bd : Bounds) (lim : Limit) (g : View) (db : List Slot) (h
       total : length w.edges + length new ≤ bd.edges
       total = append_all-bound bd g new w q room a.appended
 
-      partial : Partial bd Absent g O a.file (record { start = w.end; current = t; edges = new })
+      partial : Partial bd None g O a.file (record { start = w.end; current = t; edges = new })
       partial = record { begins = a.begins; walk = a.walk; some-edge = omega (arith, length-snoc seg e); fits = omega (arith, total); distinct = distinct-right w.edges new both; short = refl; endpoint = c }
 
       whole_length : length (w.edges ++ (new ++ rest)) ≡ length w.edges + (length new + length rest)

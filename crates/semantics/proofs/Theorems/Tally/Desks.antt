@@ -1,8 +1,7 @@
 -- Two images of which a desk sees the same give it the same tally, refused or not: it learns nothing of hidden files.
 -- Document 02, orders 8 and 9.
-use Rattle.std.specs.Prelude.{ℕ, ◌≡◌, Bool, List}
+use Rattle.std.specs.Prelude.{ℕ, ◌≡◌, Bool, List, None}
 use Rattle.std.proofs.Common.{ap}
-use Rattle.semantics.specs.declared.search.Limit.TheVariants.{Absent}
 use Rattle.semantics.specs.Limits.{Bounds, base, slot_words}
 use Rattle.semantics.specs.Answer.{ok}
 use Rattle.semantics.specs.Graph.{Graph, View}
@@ -17,7 +16,7 @@ use Rattle.semantics.specs.Entries.{tally_request_of, tally_lengths}
 -- on graphs
 graph-tally : (see : ℕ → Bool) (g h : Graph) → SameDesk see g h → (bd : Bounds) (q : TallyRequest) → tally_call bd q (ok (seen see g)) ≡ tally_call bd q (ok (seen see h))
 unfolding tally_call
-graph-tally see g h desk bd q = ap (λ (v : View). tally_outcome bd q (direct bd Absent (tally_setting (whole_slots (slot_words bd) q.work)) v q.node)) (desk-view see g h desk)
+graph-tally see g h desk bd q = ap (λ (v : View). tally_outcome bd q (direct bd None (tally_setting (whole_slots (slot_words bd) q.work)) v q.node)) (desk-view see g h desk)
 
 -- from bytes
 pub desk-tally : (w : ℕ → ℕ) (see : ℕ → Bool) (im im' : List ℕ) → SameImages w see im im' → (bd : Bounds) (q : TallyRequest) → tally_call bd q (seen_image see (check_image w im)) ≡ tally_call bd q (seen_image see (check_image w im'))

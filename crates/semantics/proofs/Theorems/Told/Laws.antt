@@ -1,6 +1,6 @@
 -- Nothing is lost in the telling: each answer is read back from its number and values, so two answers told alike are the same.
 -- Document 01: "a definition states this paper's number and values for every one of its cases".
-use Rattle.std.specs.Prelude.{ℕ, ◌≡◌, refl, Bool, true, false, List, ◌∷◌, eqb, ltb, get_or, drop}
+use Rattle.std.specs.Prelude.{ℕ, ◌≡◌, refl, Bool, true, false, List, ◌∷◌, eqb, ltb, get_or, drop, Err, None, Ok, Some}
 use Rattle.std.proofs.Common.{sym, ◌∙◌, ap}
 use Rattle.semantics.specs.declared.search.SearchStats.{SearchStats}
 use Rattle.semantics.specs.declared.search.PartialPathStats.{PartialPathStats}
@@ -18,32 +18,28 @@ use Rattle.semantics.specs.declared.refusal.PartialPathRefusal.{PartialPathRefus
 use Rattle.semantics.specs.declared.refusal.PartialPathRefusal.TheVariants as Partial
 use Rattle.semantics.specs.declared.refusal.DatabaseRefusal.{DatabaseRefusal}
 use Rattle.semantics.specs.declared.refusal.DatabaseRefusal.TheVariants as Database
-use Rattle.semantics.specs.declared.answer.Checked.{Checked}
-use Rattle.semantics.specs.declared.answer.Replayed.{Replayed}
-use Rattle.semantics.specs.declared.answer.Judgement.{Judgement}
-use Rattle.semantics.specs.declared.answer.Resolution.{Resolution}
-use Rattle.semantics.specs.declared.answer.LinearResolution.{LinearResolution}
-use Rattle.semantics.specs.declared.answer.Creation.{Creation}
-use Rattle.semantics.specs.declared.answer.Replacement.{Replacement}
-use Rattle.semantics.specs.declared.answer.Finding.{Finding}
 use Rattle.semantics.specs.Lists.{or, pick}
 use Rattle.semantics.specs.Graph.{node_id, edge_id, file_id}
 use Rattle.semantics.specs.Told.{told_flag, told_image, told_path, told_replay_refusal, told_search, told_linear, told_partial, told_database, told_stats, told_partial_stats, told_checked, told_replayed, told_judgement, told_resolution, told_linear_resolution, told_creation, told_replacement, told_finding, told_rewriting, told_conversion, told_compaction, told_entered, told_trend, told_node, told_node_reading, told_edge_reading, told_listing, told_tallying, told_flow}
-use Rattle.semantics.specs.declared.answer.Tallying.{Tallying}
 use Rattle.semantics.specs.declared.answer.Definitions.{Definitions}
-use Rattle.semantics.specs.declared.answer.Flow.{Flow}
-use Rattle.semantics.specs.declared.answer.Rewriting.{Rewriting}
-use Rattle.semantics.specs.declared.answer.Conversion.{Conversion}
-use Rattle.semantics.specs.declared.answer.Compaction.{Compaction}
-use Rattle.semantics.specs.declared.answer.Entered.{Entered}
 use Rattle.semantics.specs.declared.answer.Trend.{Trend}
 use Rattle.semantics.specs.declared.graph.Node.{Node}
 use Rattle.semantics.specs.declared.graph.Node.TheVariants as N
-use Rattle.semantics.specs.declared.answer.NodeReading.{NodeReading}
-use Rattle.semantics.specs.declared.answer.EdgeReading.{EdgeReading}
-use Rattle.semantics.specs.declared.answer.Listing.{Listing}
 use Rattle.semantics.specs.Bytes.{signed}
 use Rattle.semantics.specs.Bytes.Written.{fits32, signed-unsigned}
+use Rattle.semantics.specs.PublicAnswers.{Checked, Compaction, Conversion, Creation, EdgeReading, Entered, Finding, Flow, Judgement, LinearResolution, Listing, NodeReading, Replacement, Replayed, Resolution, Rewriting, Tallying, accepted, edge_answer, flowed, resolved}
+use Rattle.semantics.specs.declared.answer.CompactionRefusal.{CompactionRefusal}
+use Rattle.semantics.specs.declared.answer.ConversionRefusal.{ConversionRefusal}
+use Rattle.semantics.specs.declared.answer.CreationRefusal.{CreationRefusal}
+use Rattle.semantics.specs.declared.answer.EntryRefusal.{EntryRefusal}
+use Rattle.semantics.specs.declared.answer.FindingRefusal.{FindingRefusal}
+use Rattle.semantics.specs.declared.answer.FlowRefusal.{FlowRefusal}
+use Rattle.semantics.specs.declared.answer.ListingRefusal.{ListingRefusal}
+use Rattle.semantics.specs.declared.answer.ReadingRefusal.{ReadingRefusal}
+use Rattle.semantics.specs.declared.answer.ReplacementRefusal.{ReplacementRefusal}
+use Rattle.semantics.specs.declared.answer.ResolutionRefusal.{ResolutionRefusal}
+use Rattle.semantics.specs.declared.answer.RewritingRefusal.{RewritingRefusal}
+use Rattle.semantics.specs.declared.answer.TurnedBack.{TurnedBack}
 
 -- what can be read back is told without loss
 told-alike : {A : Type 0} (told : A → List ℕ) (read : List ℕ → A) → ((a : A) → read (told a) ≡ a) → (a b : A) → told a ≡ told b → a ≡ b
@@ -224,85 +220,85 @@ module _ {A : Type 0} (done : List ℕ → A) (image : ImageRefusal → A) (othe
   image-answer (Image.Reference place) = refl
 
 abbrev read_checked : List ℕ → Checked
-read_checked = read_answer (λ t. Checked.Accepted (value 0 t) (value 1 t) (value 2 t)) Checked.Refused (λ t. Checked.Accepted 0 0 0)
+read_checked = read_answer (λ t. accepted (value 0 t) (value 1 t) (value 2 t)) Err (λ t. accepted 0 0 0)
 
 checked-back : (a : Checked) → read_checked (told_checked a) ≡ a
-checked-back (Checked.Accepted files nodes edges) = refl
-checked-back (Checked.Refused r) = image-answer (λ t. Checked.Accepted (value 0 t) (value 1 t) (value 2 t)) Checked.Refused (λ t. Checked.Accepted 0 0 0) r
+checked-back (Ok counts) = refl
+checked-back (Err r) = image-answer (λ t. accepted (value 0 t) (value 1 t) (value 2 t)) Err (λ t. accepted 0 0 0) r
 
 pub checked-alike : (a b : Checked) → told_checked a ≡ told_checked b → a ≡ b
 checked-alike = told-alike told_checked read_checked checked-back
 
 abbrev read_replayed : List ℕ → Replayed
-read_replayed = read_answer (λ t. Replayed.Done) Replayed.Image (λ t. Replayed.Refused (read_replay t))
+read_replayed = read_answer (λ t. (Ok tt)) (λ r. Err (TurnedBack.Image r)) (λ t. Err (TurnedBack.Refused (read_replay t)))
 
 replayed-back : (a : Replayed) → read_replayed (told_replayed a) ≡ a
-replayed-back Replayed.Done = refl
-replayed-back (Replayed.Image r) = image-answer (λ t. Replayed.Done) Replayed.Image (λ t. Replayed.Refused (read_replay t)) r
-replayed-back (Replayed.Refused r) = let k = replay-back r in rw k.image (ap Replayed.Refused k.same)
+replayed-back (Ok tt) = refl
+replayed-back (Err (TurnedBack.Image r)) = image-answer (λ t. (Ok tt)) (λ r. Err (TurnedBack.Image r)) (λ t. Err (TurnedBack.Refused (read_replay t))) r
+replayed-back (Err (TurnedBack.Refused r)) = let k = replay-back r in rw k.image (ap (λ r. Err (TurnedBack.Refused r)) k.same)
 
 pub replayed-alike : (a b : Replayed) → told_replayed a ≡ told_replayed b → a ≡ b
 replayed-alike = told-alike told_replayed read_replayed replayed-back
 
 abbrev read_judgement : List ℕ → Judgement
-read_judgement = read_answer (λ t. Judgement.Done (flag 0 t)) Judgement.Image (λ t. Judgement.Refused (read_replay t))
+read_judgement = read_answer (λ t. Ok (flag 0 t)) (λ r. Err (TurnedBack.Image r)) (λ t. Err (TurnedBack.Refused (read_replay t)))
 
 judgement-back : (a : Judgement) → read_judgement (told_judgement a) ≡ a
-judgement-back (Judgement.Done holds) = ap Judgement.Done (flag-back holds)
-judgement-back (Judgement.Image r) = image-answer (λ t. Judgement.Done (flag 0 t)) Judgement.Image (λ t. Judgement.Refused (read_replay t)) r
-judgement-back (Judgement.Refused r) = let k = replay-back r in rw k.image (ap Judgement.Refused k.same)
+judgement-back (Ok holds) = ap Ok (flag-back holds)
+judgement-back (Err (TurnedBack.Image r)) = image-answer (λ t. Ok (flag 0 t)) (λ r. Err (TurnedBack.Image r)) (λ t. Err (TurnedBack.Refused (read_replay t))) r
+judgement-back (Err (TurnedBack.Refused r)) = let k = replay-back r in rw k.image (ap (λ r. Err (TurnedBack.Refused r)) k.same)
 
 pub judgement-alike : (a b : Judgement) → told_judgement a ≡ told_judgement b → a ≡ b
 judgement-alike = told-alike told_judgement read_judgement judgement-back
 
 abbrev read_resolution : List ℕ → Resolution
-read_resolution = read_answer (λ t. Resolution.Done (value 0 t) (read_stats t)) Resolution.Image (λ t. pick (of_database t) (Resolution.Database (read_database t)) (Resolution.Refused (read_search t)))
+read_resolution = read_answer (λ t. resolved (value 0 t) (read_stats t)) (λ r. Err (ResolutionRefusal.Image r)) (λ t. pick (of_database t) (Err (ResolutionRefusal.Database (read_database t))) (Err (ResolutionRefusal.Refused (read_search t))))
 
 resolution-back : (a : Resolution) → read_resolution (told_resolution a) ≡ a
-resolution-back (Resolution.Done paths stats) = ap (Resolution.Done paths) (stats-back paths stats)
-resolution-back (Resolution.Image r) = image-answer (λ t. Resolution.Done (value 0 t) (read_stats t)) Resolution.Image (λ t. pick (of_database t) (Resolution.Database (read_database t)) (Resolution.Refused (read_search t))) r
-resolution-back (Resolution.Database Database.Outgrown) = refl
-resolution-back (Resolution.Database Database.Malformed) = refl
-resolution-back (Resolution.Refused r) = let k = search-back r in rw (k.image, k.database) (ap Resolution.Refused k.same)
+resolution-back (Ok found) = ap (resolved found.paths) (stats-back found.paths found.stats)
+resolution-back (Err (ResolutionRefusal.Image r)) = image-answer (λ t. resolved (value 0 t) (read_stats t)) (λ r. Err (ResolutionRefusal.Image r)) (λ t. pick (of_database t) (Err (ResolutionRefusal.Database (read_database t))) (Err (ResolutionRefusal.Refused (read_search t)))) r
+resolution-back (Err (ResolutionRefusal.Database Database.Outgrown)) = refl
+resolution-back (Err (ResolutionRefusal.Database Database.Malformed)) = refl
+resolution-back (Err (ResolutionRefusal.Refused r)) = let k = search-back r in rw (k.image, k.database) (ap (λ r. Err (ResolutionRefusal.Refused r)) k.same)
 
 pub resolution-alike : (a b : Resolution) → told_resolution a ≡ told_resolution b → a ≡ b
 resolution-alike = told-alike told_resolution read_resolution resolution-back
 
 abbrev read_linear_resolution : List ℕ → LinearResolution
-read_linear_resolution = read_answer (λ t. LinearResolution.Done (value 0 t) (read_stats t)) LinearResolution.Image (λ t. LinearResolution.Refused (read_linear t))
+read_linear_resolution = read_answer (λ t. resolved (value 0 t) (read_stats t)) (λ r. Err (TurnedBack.Image r)) (λ t. Err (TurnedBack.Refused (read_linear t)))
 
 linear-resolution-back : (a : LinearResolution) → read_linear_resolution (told_linear_resolution a) ≡ a
-linear-resolution-back (LinearResolution.Done paths stats) = ap (LinearResolution.Done paths) (stats-back paths stats)
-linear-resolution-back (LinearResolution.Image r) = image-answer (λ t. LinearResolution.Done (value 0 t) (read_stats t)) LinearResolution.Image (λ t. LinearResolution.Refused (read_linear t)) r
-linear-resolution-back (LinearResolution.Refused r) = let k = linear-back r in rw k.image (ap LinearResolution.Refused k.same)
+linear-resolution-back (Ok found) = ap (resolved found.paths) (stats-back found.paths found.stats)
+linear-resolution-back (Err (TurnedBack.Image r)) = image-answer (λ t. resolved (value 0 t) (read_stats t)) (λ r. Err (TurnedBack.Image r)) (λ t. Err (TurnedBack.Refused (read_linear t))) r
+linear-resolution-back (Err (TurnedBack.Refused r)) = let k = linear-back r in rw k.image (ap (λ r. Err (TurnedBack.Refused r)) k.same)
 
 pub linear-resolution-alike : (a b : LinearResolution) → told_linear_resolution a ≡ told_linear_resolution b → a ≡ b
 linear-resolution-alike = told-alike told_linear_resolution read_linear_resolution linear-resolution-back
 
 abbrev read_creation : List ℕ → Creation
-read_creation = read_answer (λ t. Creation.Done) Creation.Image (λ t. Creation.Malformed)
+read_creation = read_answer (λ t. (Ok tt)) (λ r. Err (CreationRefusal.Image r)) (λ t. (Err CreationRefusal.Malformed))
 
 creation-back : (a : Creation) → read_creation (told_creation a) ≡ a
-creation-back Creation.Done = refl
-creation-back (Creation.Image r) = image-answer (λ t. Creation.Done) Creation.Image (λ t. Creation.Malformed) r
-creation-back Creation.Malformed = refl
+creation-back (Ok tt) = refl
+creation-back (Err (CreationRefusal.Image r)) = image-answer (λ t. (Ok tt)) (λ r. Err (CreationRefusal.Image r)) (λ t. (Err CreationRefusal.Malformed)) r
+creation-back (Err CreationRefusal.Malformed) = refl
 
 pub creation-alike : (a b : Creation) → told_creation a ≡ told_creation b → a ≡ b
 creation-alike = told-alike told_creation read_creation creation-back
 
 abbrev read_replacement : List ℕ → Replacement
-read_replacement = read_answer (λ t. Replacement.Done (read_partial_stats t)) Replacement.Image (λ t. pick (eqb (number t) 33) Replacement.Full (pick (of_database t) (Replacement.Database (read_database t)) (Replacement.Refused (read_partial t))))
+read_replacement = read_answer (λ t. Ok (read_partial_stats t)) (λ r. Err (ReplacementRefusal.Image r)) (λ t. pick (eqb (number t) 33) (Err ReplacementRefusal.Full) (pick (of_database t) (Err (ReplacementRefusal.Database (read_database t))) (Err (ReplacementRefusal.Refused (read_partial t)))))
 
 replacement-back : (a : Replacement) → read_replacement (told_replacement a) ≡ a
-replacement-back (Replacement.Done stats) = ap Replacement.Done (partial-stats-back stats)
-replacement-back (Replacement.Image r) = image-answer (λ t. Replacement.Done (read_partial_stats t)) Replacement.Image (λ t. pick (eqb (number t) 33) Replacement.Full (pick (of_database t) (Replacement.Database (read_database t)) (Replacement.Refused (read_partial t)))) r
-replacement-back (Replacement.Database Database.Outgrown) = refl
-replacement-back (Replacement.Database Database.Malformed) = refl
-replacement-back (Replacement.Refused (Partial.UnknownFile f)) = refl
-replacement-back (Replacement.Refused Partial.TooLong) = refl
-replacement-back (Replacement.Refused Partial.NoWaitingSlot) = refl
-replacement-back (Replacement.Refused Partial.TooManyExpansions) = refl
-replacement-back Replacement.Full = refl
+replacement-back (Ok stats) = ap Ok (partial-stats-back stats)
+replacement-back (Err (ReplacementRefusal.Image r)) = image-answer (λ t. Ok (read_partial_stats t)) (λ r. Err (ReplacementRefusal.Image r)) (λ t. pick (eqb (number t) 33) (Err ReplacementRefusal.Full) (pick (of_database t) (Err (ReplacementRefusal.Database (read_database t))) (Err (ReplacementRefusal.Refused (read_partial t))))) r
+replacement-back (Err (ReplacementRefusal.Database Database.Outgrown)) = refl
+replacement-back (Err (ReplacementRefusal.Database Database.Malformed)) = refl
+replacement-back (Err (ReplacementRefusal.Refused (Partial.UnknownFile f))) = refl
+replacement-back (Err (ReplacementRefusal.Refused Partial.TooLong)) = refl
+replacement-back (Err (ReplacementRefusal.Refused Partial.NoWaitingSlot)) = refl
+replacement-back (Err (ReplacementRefusal.Refused Partial.TooManyExpansions)) = refl
+replacement-back (Err ReplacementRefusal.Full) = refl
 
 pub replacement-alike : (a b : Replacement) → told_replacement a ≡ told_replacement b → a ≡ b
 replacement-alike = told-alike told_replacement read_replacement replacement-back
@@ -342,79 +338,79 @@ not-37 Search.NoResultSlot = refl
 not-37 Search.TooManyExpansions = refl
 
 abbrev read_found : List ℕ → Finding
-read_found t = pick (eqb (value 0 t) 1) (Finding.Found (node_id (value 1 t))) Finding.Nothing
+read_found t = pick (eqb (value 0 t) 1) (Ok (Some (node_id (value 1 t)))) (Ok None)
 
 abbrev read_unfound : List ℕ → Finding
-read_unfound t = pick (eqb (number t) 37) (Finding.NotDefinition (node_id (value 0 t))) (Finding.Refused (read_search t))
+read_unfound t = pick (eqb (number t) 37) (Err (FindingRefusal.NotDefinition (node_id (value 0 t)))) (Err (FindingRefusal.Refused (read_search t)))
 
 abbrev read_finding : List ℕ → Finding
-read_finding = read_answer read_found Finding.Image read_unfound
+read_finding = read_answer read_found (λ r. Err (FindingRefusal.Image r)) read_unfound
 
 finding-back : (a : Finding) → read_finding (told_finding a) ≡ a
-finding-back (Finding.Found n) = refl
-finding-back Finding.Nothing = refl
-finding-back (Finding.Image r) = image-answer read_found Finding.Image read_unfound r
-finding-back (Finding.NotDefinition n) = refl
-finding-back (Finding.Refused r) = let k = search-back r in rw (k.image, not-37 r) (ap Finding.Refused k.same)
+finding-back (Ok (Some n)) = refl
+finding-back (Ok None) = refl
+finding-back (Err (FindingRefusal.Image r)) = image-answer read_found (λ r. Err (FindingRefusal.Image r)) read_unfound r
+finding-back (Err (FindingRefusal.NotDefinition n)) = refl
+finding-back (Err (FindingRefusal.Refused r)) = let k = search-back r in rw (k.image, not-37 r) (ap (λ r. Err (FindingRefusal.Refused r)) k.same)
 
 pub finding-alike : (a b : Finding) → told_finding a ≡ told_finding b → a ≡ b
 finding-alike = told-alike told_finding read_finding finding-back
 
 abbrev read_tallying : List ℕ → Tallying
-read_tallying = read_answer (λ t. Tallying.Done) Tallying.Image (λ t. Tallying.Refused (read_search t))
+read_tallying = read_answer (λ t. (Ok tt)) (λ r. Err (TurnedBack.Image r)) (λ t. Err (TurnedBack.Refused (read_search t)))
 
 tallying-back : (a : Tallying) → read_tallying (told_tallying a) ≡ a
-tallying-back Tallying.Done = refl
-tallying-back (Tallying.Image r) = image-answer (λ t. Tallying.Done) Tallying.Image (λ t. Tallying.Refused (read_search t)) r
-tallying-back (Tallying.Refused r) = let k = search-back r in rw k.image (ap Tallying.Refused k.same)
+tallying-back (Ok tt) = refl
+tallying-back (Err (TurnedBack.Image r)) = image-answer (λ t. (Ok tt)) (λ r. Err (TurnedBack.Image r)) (λ t. Err (TurnedBack.Refused (read_search t))) r
+tallying-back (Err (TurnedBack.Refused r)) = let k = search-back r in rw k.image (ap (λ r. Err (TurnedBack.Refused r)) k.same)
 
 pub tallying-alike : (a b : Tallying) → told_tallying a ≡ told_tallying b → a ≡ b
 tallying-alike = told-alike told_tallying read_tallying tallying-back
 
 abbrev other_rewriting : List ℕ → Rewriting
-other_rewriting t = pick (eqb (number t) 38) (Rewriting.WideSymbol (value 0 t)) Rewriting.NoRoom
+other_rewriting t = pick (eqb (number t) 38) (Err (RewritingRefusal.WideSymbol (value 0 t))) (Err RewritingRefusal.NoRoom)
 
 abbrev read_rewriting : List ℕ → Rewriting
-read_rewriting = read_answer (λ t. Rewriting.Done (value 0 t)) Rewriting.Image other_rewriting
+read_rewriting = read_answer (λ t. Ok (value 0 t)) (λ r. Err (RewritingRefusal.Image r)) other_rewriting
 
 rewriting-back : (a : Rewriting) → read_rewriting (told_rewriting a) ≡ a
-rewriting-back (Rewriting.Done length) = refl
-rewriting-back (Rewriting.Image r) = image-answer (λ t. Rewriting.Done (value 0 t)) Rewriting.Image other_rewriting r
-rewriting-back (Rewriting.WideSymbol place) = refl
-rewriting-back Rewriting.NoRoom = refl
+rewriting-back (Ok length) = refl
+rewriting-back (Err (RewritingRefusal.Image r)) = image-answer (λ t. Ok (value 0 t)) (λ r. Err (RewritingRefusal.Image r)) other_rewriting r
+rewriting-back (Err (RewritingRefusal.WideSymbol place)) = refl
+rewriting-back (Err RewritingRefusal.NoRoom) = refl
 
 pub rewriting-alike : (a b : Rewriting) → told_rewriting a ≡ told_rewriting b → a ≡ b
 rewriting-alike = told-alike told_rewriting read_rewriting rewriting-back
 
 abbrev read_conversion : List ℕ → Conversion
-read_conversion t = pick (eqb (number t) 0) Conversion.Done (pick (eqb (number t) 35) Conversion.Malformed (pick (eqb (number t) 33) Conversion.Full Conversion.TooLong))
+read_conversion t = pick (eqb (number t) 0) (Ok tt) (pick (eqb (number t) 35) (Err ConversionRefusal.Malformed) (pick (eqb (number t) 33) (Err ConversionRefusal.Full) (Err ConversionRefusal.TooLong)))
 
 conversion-back : (a : Conversion) → read_conversion (told_conversion a) ≡ a
-conversion-back Conversion.Done = refl
-conversion-back Conversion.Malformed = refl
-conversion-back Conversion.Full = refl
-conversion-back Conversion.TooLong = refl
+conversion-back (Ok tt) = refl
+conversion-back (Err ConversionRefusal.Malformed) = refl
+conversion-back (Err ConversionRefusal.Full) = refl
+conversion-back (Err ConversionRefusal.TooLong) = refl
 
 pub conversion-alike : (a b : Conversion) → told_conversion a ≡ told_conversion b → a ≡ b
 conversion-alike = told-alike told_conversion read_conversion conversion-back
 
 abbrev read_compaction : List ℕ → Compaction
-read_compaction t = pick (eqb (number t) 0) (Compaction.Done (value 0 t)) (pick (eqb (number t) 35) Compaction.Malformed Compaction.ListTooShort)
+read_compaction t = pick (eqb (number t) 0) (Ok (value 0 t)) (pick (eqb (number t) 35) (Err CompactionRefusal.Malformed) (Err CompactionRefusal.ListTooShort))
 
 compaction-back : (a : Compaction) → read_compaction (told_compaction a) ≡ a
-compaction-back (Compaction.Done live) = refl
-compaction-back Compaction.Malformed = refl
-compaction-back Compaction.ListTooShort = refl
+compaction-back (Ok live) = refl
+compaction-back (Err CompactionRefusal.Malformed) = refl
+compaction-back (Err CompactionRefusal.ListTooShort) = refl
 
 pub compaction-alike : (a b : Compaction) → told_compaction a ≡ told_compaction b → a ≡ b
 compaction-alike = told-alike told_compaction read_compaction compaction-back
 
 abbrev read_entered : List ℕ → Entered
-read_entered t = pick (eqb (number t) 0) Entered.Done Entered.TooGreat
+read_entered t = pick (eqb (number t) 0) (Ok tt) (Err EntryRefusal.TooGreat)
 
 entered-back : (a : Entered) → read_entered (told_entered a) ≡ a
-entered-back Entered.Done = refl
-entered-back Entered.TooGreat = refl
+entered-back (Ok tt) = refl
+entered-back (Err EntryRefusal.TooGreat) = refl
 
 pub entered-alike : (a b : Entered) → told_entered a ≡ told_entered b → a ≡ b
 entered-alike = told-alike told_entered read_entered entered-back
@@ -451,53 +447,53 @@ node-back (N.PopScoped f symbol definition) = ap (N.PopScoped f symbol) (flag-ba
 node-back (N.DropScopes f) = refl
 
 abbrev unknown_node : List ℕ → NodeReading
-unknown_node t = NodeReading.Unknown (node_id (value 0 t))
+unknown_node t = Err (ReadingRefusal.Unknown (node_id (value 0 t)))
 
 abbrev read_node_reading : List ℕ → NodeReading
-read_node_reading = read_answer (λ t. NodeReading.Read (read_node t)) NodeReading.Image unknown_node
+read_node_reading = read_answer (λ t. Ok (read_node t)) (λ r. Err (ReadingRefusal.Image r)) unknown_node
 
 node-reading-back : (a : NodeReading) → read_node_reading (told_node_reading a) ≡ a
-node-reading-back (NodeReading.Read x) = ap NodeReading.Read (node-back x)
-node-reading-back (NodeReading.Image r) = image-answer (λ t. NodeReading.Read (read_node t)) NodeReading.Image unknown_node r
-node-reading-back (NodeReading.Unknown n) = refl
+node-reading-back (Ok x) = ap Ok (node-back x)
+node-reading-back (Err (ReadingRefusal.Image r)) = image-answer (λ t. Ok (read_node t)) (λ r. Err (ReadingRefusal.Image r)) unknown_node r
+node-reading-back (Err (ReadingRefusal.Unknown n)) = refl
 
 pub node-reading-alike : (a b : NodeReading) → told_node_reading a ≡ told_node_reading b → a ≡ b
 node-reading-alike = told-alike told_node_reading read_node_reading node-reading-back
 
 -- a precedence of 32 bits, which every image's is
 abbrev pub PrecedenceFits : EdgeReading → Type 0
-PrecedenceFits (EdgeReading.Read s t p) = fits32 p ≡ true
-PrecedenceFits (EdgeReading.Image r) = Unit {0}
-PrecedenceFits (EdgeReading.Unknown e) = Unit {0}
+PrecedenceFits (Ok edge) = fits32 edge.precedence ≡ true
+PrecedenceFits (Err (ReadingRefusal.Image r)) = Unit {0}
+PrecedenceFits (Err (ReadingRefusal.Unknown e)) = Unit {0}
 
 abbrev read_edge : List ℕ → EdgeReading
-read_edge t = EdgeReading.Read (node_id (value 0 t)) (node_id (value 1 t)) (signed (value 2 t))
+read_edge t = edge_answer (node_id (value 0 t)) (node_id (value 1 t)) (signed (value 2 t))
 
 abbrev unknown_edge : List ℕ → EdgeReading
-unknown_edge t = EdgeReading.Unknown (edge_id (value 0 t))
+unknown_edge t = Err (ReadingRefusal.Unknown (edge_id (value 0 t)))
 
 abbrev read_edge_reading : List ℕ → EdgeReading
-read_edge_reading = read_answer read_edge EdgeReading.Image unknown_edge
+read_edge_reading = read_answer read_edge (λ r. Err (ReadingRefusal.Image r)) unknown_edge
 
 edge-reading-back : (a : EdgeReading) → PrecedenceFits a → read_edge_reading (told_edge_reading a) ≡ a
-edge-reading-back (EdgeReading.Read s t p) h = ap (EdgeReading.Read s t) (signed-unsigned p h)
-edge-reading-back (EdgeReading.Image r) h = image-answer read_edge EdgeReading.Image unknown_edge r
-edge-reading-back (EdgeReading.Unknown e) h = refl
+edge-reading-back (Ok edge) h = ap (edge_answer edge.source edge.target) (signed-unsigned edge.precedence h)
+edge-reading-back (Err (ReadingRefusal.Image r)) h = image-answer read_edge (λ r. Err (ReadingRefusal.Image r)) unknown_edge r
+edge-reading-back (Err (ReadingRefusal.Unknown e)) h = refl
 
 pub edge-reading-alike : (a b : EdgeReading) → PrecedenceFits a → PrecedenceFits b → told_edge_reading a ≡ told_edge_reading b → a ≡ b
 edge-reading-alike a b h k e = sym (edge-reading-back a h) ∙ ap read_edge_reading e ∙ edge-reading-back b k
 
 abbrev other_listing : List ℕ → Listing
-other_listing t = pick (eqb (number t) 10) (Listing.Unknown (node_id (value 0 t))) Listing.NoRoom
+other_listing t = pick (eqb (number t) 10) (Err (ListingRefusal.Unknown (node_id (value 0 t)))) (Err ListingRefusal.NoRoom)
 
 abbrev read_listing : List ℕ → Listing
-read_listing = read_answer (λ t. Listing.Done (value 0 t)) Listing.Image other_listing
+read_listing = read_answer (λ t. Ok (value 0 t)) (λ r. Err (ListingRefusal.Image r)) other_listing
 
 listing-back : (a : Listing) → read_listing (told_listing a) ≡ a
-listing-back (Listing.Done count) = refl
-listing-back (Listing.Image r) = image-answer (λ t. Listing.Done (value 0 t)) Listing.Image other_listing r
-listing-back (Listing.Unknown n) = refl
-listing-back Listing.NoRoom = refl
+listing-back (Ok count) = refl
+listing-back (Err (ListingRefusal.Image r)) = image-answer (λ t. Ok (value 0 t)) (λ r. Err (ListingRefusal.Image r)) other_listing r
+listing-back (Err (ListingRefusal.Unknown n)) = refl
+listing-back (Err ListingRefusal.NoRoom) = refl
 
 pub listing-alike : (a b : Listing) → told_listing a ≡ told_listing b → a ≡ b
 listing-alike = told-alike told_listing read_listing listing-back
@@ -507,13 +503,13 @@ abbrev read_definitions : List ℕ → Definitions
 read_definitions t = pick (eqb (value 9 t) 0) Definitions.Nothing (pick (eqb (value 9 t) 1) (Definitions.One (node_id (value 10 t))) Definitions.Several)
 
 abbrev read_resolved : List ℕ → Flow
-read_resolved t = Flow.Done (read_definitions t) (value 0 t) (read_stats t)
+read_resolved t = flowed (read_definitions t) (value 0 t) (read_stats t)
 
 abbrev read_unresolved : List ℕ → Flow
-read_unresolved t = pick (ltb 40 (number t)) (pick (eqb (number t) 41) Flow.MalformedIsin (pick (eqb (number t) 42) Flow.Disordered Flow.UnknownKey)) (Flow.Refused (read_search t))
+read_unresolved t = pick (ltb 40 (number t)) (pick (eqb (number t) 41) (Err FlowRefusal.MalformedIsin) (pick (eqb (number t) 42) (Err FlowRefusal.Disordered) (Err FlowRefusal.UnknownKey))) (Err (FlowRefusal.Refused (read_search t)))
 
 abbrev read_flow : List ℕ → Flow
-read_flow = read_answer read_resolved Flow.Image read_unresolved
+read_flow = read_answer read_resolved (λ r. Err (FlowRefusal.Image r)) read_unresolved
 
 not-above : (r : SearchRefusal) → ltb 40 (number (told_search r)) ≡ false
 not-above (Search.Path (Path.UnknownNode n)) = refl
@@ -531,15 +527,18 @@ not-above Search.NoWaitingSlot = refl
 not-above Search.NoResultSlot = refl
 not-above Search.TooManyExpansions = refl
 
+flowed-back : (d : Definitions) (paths : ℕ) (stats : SearchStats) → read_flow (told_flow (flowed d paths stats)) ≡ flowed d paths stats
+flowed-back Definitions.Nothing paths stats = ap (flowed Definitions.Nothing paths) (stats-back paths stats)
+flowed-back (Definitions.One n) paths stats = ap (flowed (Definitions.One n) paths) (stats-back paths stats)
+flowed-back Definitions.Several paths stats = ap (flowed Definitions.Several paths) (stats-back paths stats)
+
 flow-back : (a : Flow) → read_flow (told_flow a) ≡ a
-flow-back (Flow.Done Definitions.Nothing paths stats) = ap (Flow.Done Definitions.Nothing paths) (stats-back paths stats)
-flow-back (Flow.Done (Definitions.One n) paths stats) = ap (Flow.Done (Definitions.One n) paths) (stats-back paths stats)
-flow-back (Flow.Done Definitions.Several paths stats) = ap (Flow.Done Definitions.Several paths) (stats-back paths stats)
-flow-back (Flow.Image r) = image-answer read_resolved Flow.Image read_unresolved r
-flow-back Flow.MalformedIsin = refl
-flow-back Flow.Disordered = refl
-flow-back Flow.UnknownKey = refl
-flow-back (Flow.Refused r) = let k = search-back r in rw (k.image, not-above r) (ap Flow.Refused k.same)
+flow-back (Ok found) = flowed-back found.definitions found.paths found.stats
+flow-back (Err (FlowRefusal.Image r)) = image-answer read_resolved (λ r. Err (FlowRefusal.Image r)) read_unresolved r
+flow-back (Err FlowRefusal.MalformedIsin) = refl
+flow-back (Err FlowRefusal.Disordered) = refl
+flow-back (Err FlowRefusal.UnknownKey) = refl
+flow-back (Err (FlowRefusal.Refused r)) = let k = search-back r in rw (k.image, not-above r) (ap (λ r. Err (FlowRefusal.Refused r)) k.same)
 
 pub flow-alike : (a b : Flow) → told_flow a ≡ told_flow b → a ≡ b
 flow-alike = told-alike told_flow read_flow flow-back

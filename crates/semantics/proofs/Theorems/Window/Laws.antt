@@ -1,22 +1,22 @@
 -- Calls that enter a count; sums and greatest ones of lists of counts: of lists in parts, of zeros, and how great they can be.
 -- Document 02, order 10.
-use Rattle.std.specs.Prelude.{ℕ, zero, suc, ◌+◌, ◌*◌, ◌≤◌, ◌<◌, ◌≡◌, refl, List, [], ◌∷◌, ◌++◌, length, get_or, take, drop}
+use Rattle.std.specs.Prelude.{ℕ, zero, suc, ◌+◌, ◌*◌, ◌≤◌, ◌<◌, ◌≡◌, refl, List, [], ◌∷◌, ◌++◌, length, get_or, take, drop, Err, Ok}
 use Rattle.std.proofs.Common.{arith, mul-suc, add-one, sym, ◌∙◌, ap, lt-ltb, le-ltb, take-suc}
 use Rattle.std.proofs.Math.Decide.{dec_lt}
-use Rattle.semantics.specs.declared.answer.Entered.TheVariants as Entered
 use Rattle.semantics.specs.Limits.{Bounds}
 use Rattle.semantics.specs.Words.{zeros}
 use Rattle.semantics.specs.Enumeration.{greater}
 use Rattle.semantics.specs.Window.{enter_words, enter_call, greatest, trend_of}
 use Rattle.semantics.specs.Lists.{total}
+use Rattle.semantics.specs.declared.answer.EntryRefusal.{EntryRefusal}
 
 -- A CALL is refused or an entry
 module _ (bd : Bounds) (most : ℕ) (ws : List ℕ) (c : ℕ) where
-  pub call-refused : bd.expansions < c → enter_call bd most ws c ≡ record { answer = Entered.TooGreat; window = ws }
+  pub call-refused : bd.expansions < c → enter_call bd most ws c ≡ record { answer = Err EntryRefusal.TooGreat; window = ws }
   unfolding enter_call
   call-refused h = rw (lt-ltb bd.expansions c h)
 
-  pub call-entered : c ≤ bd.expansions → enter_call bd most ws c ≡ record { answer = Entered.Done; window = enter_words most c ws }
+  pub call-entered : c ≤ bd.expansions → enter_call bd most ws c ≡ record { answer = Ok tt; window = enter_words most c ws }
   unfolding enter_call
   call-entered h = rw (le-ltb bd.expansions c h)
 

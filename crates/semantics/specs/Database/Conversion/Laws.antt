@@ -2,7 +2,8 @@
 -- Document 02, order 6.
 use Prim.Native.Nat.{ℕ, zero, suc, ◌+◌, ◌-◌, ◌*◌, ◌≤◌}
 use Rattle.std.proofs.Common.{arith, add-zero, ◌∙◌, subst, ⊎_elim, true≢false, le→leb}
-use Rattle.std.specs.Prelude.{◌≡◌, Bool, not, ltb, take, drop}
+use Rattle.std.specs.Prelude.{◌≡◌, Bool, not, ltb, take, drop, Err, Ok}
+use Rattle.semantics.specs.PublicAnswers.{Conversion}
 use Rattle.std.proofs.Math.Path.{refl, sym, ap}
 use Rattle.std.proofs.Math.Bool.{true, false}
 use mathlib.Core.List.Memᴰ
@@ -10,7 +11,6 @@ use mathlib.Core.List.{List, [], ◌∷◌, ◌++◌, map, flatten, append-nil, 
 use Rattle.std.proofs.Math.Dec.{leb, leb→le}
 use Rattle.std.proofs.Math.ListN.{length, get_or, length-append, length-replicate, length-drop}
 use Rattle.std.proofs.Math.Seq.{length-take-le}
-use Rattle.semantics.specs.declared.answer.Conversion.{Conversion}
 use Rattle.semantics.specs.Lists.{and, pick}
 use Rattle.semantics.specs.Lists.Laws.{and-true, eq→T, T→eq}
 use Rattle.semantics.specs.Limits.{Bounds, record_words}
@@ -22,6 +22,7 @@ use Rattle.semantics.specs.Database.{used_in, nodes_in, files_in, capacity, deco
 use Rattle.semantics.specs.Database.Laws.{AllLong, slots-flatten, slots-long, slots-none, decode-encode, decode-zeros, length-map, length-packed, same-capacity, whole-records}
 use Rattle.semantics.specs.Database.Conversion.{Converted, turned_back, fits_in, all_fit, convert_words, convert_call}
 use Rattle.semantics.specs.Demand.{Owners, Holds}
+use Rattle.semantics.specs.declared.answer.ConversionRefusal.{ConversionRefusal}
 
 encode-all-long : (L : ℕ) (ss : List Slot) → AllLong L (map (encode_slot L) ss)
 unfolding encode_slot
@@ -182,46 +183,46 @@ pub record Passes (old new : Bounds) (known : ℕ → ℕ → Bool) (ws : List �
   pub lent : and (leb 3 len) (leb (used_in ws) (capacity new (zeros len))) ≡ true
   pub fit : all_fit new (slots_in old ws) ≡ true
 
-malformed-undone : Conversion.Malformed ≡ Conversion.Done → ⊥
+malformed-undone : ◌≡◌ {A = Conversion} (Err ConversionRefusal.Malformed) (Ok tt) → ⊥
 malformed-undone e = let z : ◌≡◌ {A = Bool} true false = cc in true≢false z
 
-full-undone : Conversion.Full ≡ Conversion.Done → ⊥
+full-undone : ◌≡◌ {A = Conversion} (Err ConversionRefusal.Full) (Ok tt) → ⊥
 full-undone e = let z : ◌≡◌ {A = Bool} true false = cc in true≢false z
 
-long-undone : Conversion.TooLong ≡ Conversion.Done → ⊥
+long-undone : ◌≡◌ {A = Conversion} (Err ConversionRefusal.TooLong) (Ok tt) → ⊥
 long-undone e = let z : ◌≡◌ {A = Bool} true false = cc in true≢false z
 
 module _ (old new : Bounds) (known : ℕ → ℕ → Bool) (ws : List ℕ) (len : ℕ) where
   -- the call, by what its tests say
   abbrev outcome : Bool → Bool → Bool → Converted
   outcome good lent fit =
-      pick (not good) (turned_back Conversion.Malformed len) (pick (not lent) (turned_back Conversion.Full len) (pick (not fit) (turned_back Conversion.TooLong len) (record { answer = Conversion.Done; written = convert_words old new ws len })))
+      pick (not good) (turned_back (Err ConversionRefusal.Malformed) len) (pick (not lent) (turned_back (Err ConversionRefusal.Full) len) (pick (not fit) (turned_back (Err ConversionRefusal.TooLong) len) (record { answer = Ok tt; written = convert_words old new ws len })))
 
   -- IT ANSWERS 0 EXACTLY WHERE ALL THREE PASS
-  pub done-passes : (convert_call old new known ws len).answer ≡ Conversion.Done → Passes old new known ws len
+  pub done-passes : (convert_call old new known ws len).answer ≡ Ok tt → Passes old new known ws len
   unfolding convert_call
   done-passes e = on (well_formed old known ws) (and (leb 3 len) (leb (used_in ws) (capacity new (zeros len)))) (all_fit new (slots_in old ws)) refl refl refl e
     where
-      on : (a b c : Bool) → well_formed old known ws ≡ a → and (leb 3 len) (leb (used_in ws) (capacity new (zeros len))) ≡ b → all_fit new (slots_in old ws) ≡ c → (outcome a b c).answer ≡ Conversion.Done → Passes old new known ws len
+      on : (a b c : Bool) → well_formed old known ws ≡ a → and (leb 3 len) (leb (used_in ws) (capacity new (zeros len))) ≡ b → all_fit new (slots_in old ws) ≡ c → (outcome a b c).answer ≡ Ok tt → Passes old new known ws len
       on false b c p q r k = absurd (malformed-undone k)
       on true false c p q r k = absurd (full-undone k)
       on true true false p q r k = absurd (long-undone k)
       on true true true p q r k = record { good = p; lent = q; fit = r }
 
-  pub passes-done : Passes old new known ws len → convert_call old new known ws len ≡ record { answer = Conversion.Done; written = convert_words old new ws len }
+  pub passes-done : Passes old new known ws len → convert_call old new known ws len ≡ record { answer = Ok tt; written = convert_words old new ws len }
   unfolding convert_call
   passes-done p = rw (p.good, p.lent, p.fit)
 
   -- 35 BEFORE 33 BEFORE 39, and zeros with each
-  pub converts-malformed : well_formed old known ws ≡ false → convert_call old new known ws len ≡ turned_back Conversion.Malformed len
+  pub converts-malformed : well_formed old known ws ≡ false → convert_call old new known ws len ≡ turned_back (Err ConversionRefusal.Malformed) len
   unfolding convert_call
   converts-malformed p = rw p
 
-  pub converts-full : well_formed old known ws ≡ true → and (leb 3 len) (leb (used_in ws) (capacity new (zeros len))) ≡ false → convert_call old new known ws len ≡ turned_back Conversion.Full len
+  pub converts-full : well_formed old known ws ≡ true → and (leb 3 len) (leb (used_in ws) (capacity new (zeros len))) ≡ false → convert_call old new known ws len ≡ turned_back (Err ConversionRefusal.Full) len
   unfolding convert_call
   converts-full p q = rw (p, q)
 
-  pub converts-long : well_formed old known ws ≡ true → and (leb 3 len) (leb (used_in ws) (capacity new (zeros len))) ≡ true → all_fit new (slots_in old ws) ≡ false → convert_call old new known ws len ≡ turned_back Conversion.TooLong len
+  pub converts-long : well_formed old known ws ≡ true → and (leb 3 len) (leb (used_in ws) (capacity new (zeros len))) ≡ true → all_fit new (slots_in old ws) ≡ false → convert_call old new known ws len ≡ turned_back (Err ConversionRefusal.TooLong) len
   unfolding convert_call
   converts-long p q r = rw (p, q, r)
 
@@ -231,7 +232,7 @@ module _ (old new : Bounds) (known : ℕ → ℕ → Bool) (ws : List ℕ) (len 
     pub good : well_formed new known (convert_call old new known ws len).written ≡ true
     pub long : length (convert_call old new known ws len).written ≡ len
 
-  pub survived : (convert_call old new known ws len).answer ≡ Conversion.Done → Survived
+  pub survived : (convert_call old new known ws len).answer ≡ Ok tt → Survived
   survived e =
       let p = done-passes e in
       let w : (convert_call old new known ws len).written ≡ convert_words old new ws len = ap (λ (o : Converted). o.written) (passes-done p) in
@@ -245,5 +246,5 @@ module _ (old new : Bounds) (known : ℕ → ℕ → Bool) (ws : List ℕ) (len 
       }
 
   -- A DATABASE THAT MET DEMAND 3'S PREMISE UNDER THE OLD BOUND MEETS IT UNDER THE NEW ONE, for the files and for the alias set alike
-  pub converted-holds : (O : Owners) (g : View) → new.edges ≤ old.edges → (convert_call old new known ws len).answer ≡ Conversion.Done → Holds O old g (slots_in old ws) → Holds O new g (slots_in new (convert_call old new known ws len).written)
+  pub converted-holds : (O : Owners) (g : View) → new.edges ≤ old.edges → (convert_call old new known ws len).answer ≡ Ok tt → Holds O old g (slots_in old ws) → Holds O new g (slots_in new (convert_call old new known ws len).written)
   converted-holds O g less e h = subst (λ (db : List Slot). Holds O new g db) (sym (survived e).slots) (convert-holds O old new g (slots_in old ws) less (done-passes e).fit h)

@@ -3,7 +3,7 @@ use mathlib.Core.Bool.{Bool}
 use Rattle.semantics.specs.declared.graph.Node.{Node}
 use Rattle.semantics.specs.Graph.{is_exported}
 use Rattle.storage.specs.Index.{node_row}
-use Rattle.stepping.specs.declared.step.Effect.TheVariants.{Done}
+use Rattle.std.specs.Prelude.{Ok}
 use Rattle.stepping.specs.Steps.{jump_of, push_scoped_of, asked_scope, applied_of}
 use Rattle.stepping.proofs.step.applied.Goals as goal
 
@@ -13,7 +13,7 @@ returns-in-Removed c = let a = c.args in sym (ap (λ (x : Node). applied_of (is_
 
 pub returns-in-Root : goal.returns-in-Root
 unfolding applied_of
-returns-in-Root c = let a = c.args in ap Done c.plain.ensures ∙ sym (ap (λ (x : Node). applied_of (is_exported (node_row a.index.now (asked_scope x a.over))) x a.target a.edge a.k a.last a.top a.over) c.in-Root.is)
+returns-in-Root c = let a = c.args in ap Ok c.plain.ensures ∙ sym (ap (λ (x : Node). applied_of (is_exported (node_row a.index.now (asked_scope x a.over))) x a.target a.edge a.k a.last a.top a.over) c.in-Root.is)
 
 pub returns-in-JumpToScope : goal.returns-in-JumpToScope
 unfolding applied_of
@@ -27,11 +27,11 @@ returns-in-JumpToScope c =
 
 pub returns-in-Scope : goal.returns-in-Scope
 unfolding applied_of
-returns-in-Scope c = let a = c.args in ap Done c.plain-in-Scope.ensures ∙ sym (ap (λ (x : Node). applied_of (is_exported (node_row a.index.now (asked_scope x a.over))) x a.target a.edge a.k a.last a.top a.over) c.in-Scope.is)
+returns-in-Scope c = let a = c.args in ap Ok c.plain-in-Scope.ensures ∙ sym (ap (λ (x : Node). applied_of (is_exported (node_row a.index.now (asked_scope x a.over))) x a.target a.edge a.k a.last a.top a.over) c.in-Scope.is)
 
 pub returns-in-Push : goal.returns-in-Push
 unfolding applied_of
-returns-in-Push c = let a = c.args in ap Done c.push.ensures ∙ sym (ap (λ (x : Node). applied_of (is_exported (node_row a.index.now (asked_scope x a.over))) x a.target a.edge a.k a.last a.top a.over) c.in-Push.is)
+returns-in-Push c = let a = c.args in ap Ok c.push.ensures ∙ sym (ap (λ (x : Node). applied_of (is_exported (node_row a.index.now (asked_scope x a.over))) x a.target a.edge a.k a.last a.top a.over) c.in-Push.is)
 
 pub returns-in-Pop : goal.returns-in-Pop
 unfolding applied_of
@@ -54,4 +54,4 @@ returns-in-PopScoped c = let a = c.args in c.pop_scoped.ensures ∙ sym (ap (λ 
 
 pub returns-in-DropScopes : goal.returns-in-DropScopes
 unfolding applied_of
-returns-in-DropScopes c = let a = c.args in ap Done c.plain-in-DropScopes.ensures ∙ sym (ap (λ (x : Node). applied_of (is_exported (node_row a.index.now (asked_scope x a.over))) x a.target a.edge a.k a.last a.top a.over) c.in-DropScopes.is)
+returns-in-DropScopes c = let a = c.args in ap Ok c.plain-in-DropScopes.ensures ∙ sym (ap (λ (x : Node). applied_of (is_exported (node_row a.index.now (asked_scope x a.over))) x a.target a.edge a.k a.last a.top a.over) c.in-DropScopes.is)

@@ -1,6 +1,6 @@
 use borrow.Author.Tests.{eq-eqb, ne_eqb}
 use mathlib.Core.Path.{ap}
-use Rattle.stepping.specs.declared.step.Effect.TheVariants.{Done}
+use Rattle.std.specs.Prelude.{Ok}
 use Rattle.stepping.specs.Steps.{pop_scoped_of}
 use Rattle.stepping.proofs.step.pop_scoped.Goals as goal
 
@@ -18,4 +18,4 @@ returns-then-top-eq0 c = simp (ne_eqb _ 0 c.if-last-eq0.false, eq-eqb _ _ c.if-t
 
 pub returns : goal.returns
 unfolding pop_scoped_of
-returns c = simp (ne_eqb _ 0 c.if-last-eq0.false, eq-eqb _ _ c.if-top-symbol.false, ne_eqb _ 0 c.if-top-eq0.false) (ap Done c.plain.ensures)
+returns c = simp (ne_eqb _ 0 c.if-last-eq0.false, eq-eqb _ _ c.if-top-symbol.false, ne_eqb _ 0 c.if-top-eq0.false) (ap Ok c.plain.ensures)

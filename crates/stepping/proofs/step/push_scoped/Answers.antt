@@ -1,11 +1,11 @@
 use mathlib.Core.Path.{ap}
-use Rattle.stepping.specs.declared.step.Effect.TheVariants.{Done}
+use Rattle.std.specs.Prelude.{Ok}
 use Rattle.stepping.specs.Steps.{push_scoped_of}
 use Rattle.stepping.proofs.step.push_scoped.Goals as goal
 
 pub returns-then-exported : goal.returns-then-exported
 unfolding push_scoped_of
-returns-then-exported c = simp c.if-exported.true (ap Done c.pushed_scoped.ensures)
+returns-then-exported c = simp c.if-exported.true (ap Ok c.pushed_scoped.ensures)
 
 pub returns : goal.returns
 unfolding push_scoped_of

@@ -9,4 +9,4 @@ returns-in_default c = search rules
 
 pub returns : goal.returns
 unfolding words_after
-returns c = record { value = sym c.in-Done.is ∙ c.judge-effect.ensures; steps_after = c.put_step.ensures }
+returns c = record { value = sym c.in-Ok.is ∙ c.judge-effect.ensures; steps_after = c.put_step.ensures }

@@ -19,5 +19,5 @@ returns c =
     λ g l.
     subst (λ (m : ℕ).
     Ends search-kept.result search-kept.new.res
-    (stitched_of (sees a.visible.now) g a.words.now (record { order = a.order; limits = a.limits; work = length a.work.now; result = m; node = a.reference })))
+    (stitched_of (sees a.visible.now) g a.words.now (record { order = a.asked.order; limits = a.asked.limits; work = length a.work.now; result = m; node = a.asked.reference })))
     zero'.auto.area (search-kept.ensures g l)

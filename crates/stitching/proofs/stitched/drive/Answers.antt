@@ -1,5 +1,8 @@
 use native.Mathlib.Omega.{arith}
-use mathlib.Core.Path.{refl, ◌∙◌}
+use mathlib.Core.Path.{refl, ap, ◌∙◌}
+use Rattle.std.specs.Prelude.{Ok}
+use Rattle.search_state.specs.declared.search.Search as S
+use Rattle.search_state.specs.declared.search.Round.{Round}
 use lib.ListN.{get_or}
 use Rattle.semantics.specs.Graph.{view_of}
 use Rattle.search_rounds.specs.Drives.Laws.{turn-start, turn-over, turn_many, turn-given, turn-refused, turn-counts, turn-again}
@@ -23,22 +26,22 @@ take-requires c =
       few = omega (arith, t.expanded);
     }
 
-pub returns-in-Over : goal.returns-in-Over
-returns-in-Over c =
+pub returns-in-Ok-Over : goal.returns-in-Ok-Over
+returns-in-Ok-Over c =
     let take = c.take in
     let l = c.loop-finished in
     let a = c.args in
     λ see d v.
     turn-over (tries_in see a.words.now) v (λ lim q. tries-few see d.readable lim (view_of v.graph) q) l.invariant.0 (l.invariant.4 see d v)
-    take.ensures c.in-Over.finished c.in-Over.is
+    take.ensures c.in-Ok-Over.finished (c.in-Ok-Over.is ∙ ap (λ (t : Round S.Search). Ok t) c.in-Ok-Over.field-0-is)
 
-pub returns-in-TooMany : goal.returns-in-TooMany
-returns-in-TooMany c =
+pub returns-in-Err : goal.returns-in-Err
+returns-in-Err c =
     let l = c.loop-finished in
     let a = c.args in
     λ see d v.
     turn_many (tries_in see a.words.now) v (λ lim q. tries-few see d.readable lim (view_of v.graph) q) l.invariant.0 (l.invariant.4 see d v)
-    c.take.ensures c.in-TooMany.is
+    c.take.ensures c.in-Err.r c.in-Err.is
 
 pub bounds-item-0 : goal.bounds-item-0
 bounds-item-0 c =
@@ -55,7 +58,7 @@ round-requires c =
     let p = c.requires in (
       p.0,
       turn-given (tries_in p.0.see a.words.now) p.1 (λ lim q. tries-few p.0.see p.0.linked.readable lim (view_of p.1.graph) q) l.invariant.0
-          (l.invariant.4 p.0.see p.0.linked p.1) take.ensures c.in-Expand.next c.in-Expand.is,
+          (l.invariant.4 p.0.see p.0.linked p.1) take.ensures c.in-Ok-Expand.next (c.in-Ok-Expand.is ∙ ap (λ (t : Round S.Search). Ok t) c.in-Ok-Expand.field-0-is),
     )
 
 pub loop-finished-smaller : goal.loop-finished-smaller
@@ -66,9 +69,9 @@ loop-finished-smaller c =
     let a = c.args in
     let p = c.requires in
     let h = turn-counts (tries_in p.0.see a.words.now) p.1 (λ lim q. tries-few p.0.see p.0.linked.readable lim (view_of p.1.graph) q) l.invariant.0
-    (l.invariant.4 p.0.see p.0.linked p.1) take.ensures c.in-Expand.next c.in-Expand.is
+    (l.invariant.4 p.0.see p.0.linked p.1) take.ensures c.in-Ok-Expand.next (c.in-Ok-Expand.is ∙ ap (λ (t : Round S.Search). Ok t) c.in-Ok-Expand.field-0-is)
     (round.ensures.by_index p.0.see p.0.linked (turn-given (tries_in p.0.see a.words.now) p.1 (λ lim q. tries-few p.0.see p.0.linked.readable lim (view_of p.1.graph) q) l.invariant.0
-    (l.invariant.4 p.0.see p.0.linked p.1) take.ensures c.in-Expand.next c.in-Expand.is)) c.in-On.s c.in-On.is in
+    (l.invariant.4 p.0.see p.0.linked p.1) take.ensures c.in-Ok-Expand.next (c.in-Ok-Expand.is ∙ ap (λ (t : Round S.Search). Ok t) c.in-Ok-Expand.field-0-is))) c.in-Ok.s c.in-Ok.is in
     omega (arith, h.0, h.1)
 
 pub loop-finished-preserved : goal.loop-finished-preserved
@@ -83,20 +86,20 @@ loop-finished-preserved c =
       round.auto.res ∙ l.invariant.3,
       λ see d v.
           let given = turn-given (tries_in see a.words.now) v (λ lim q. tries-few see d.readable lim (view_of v.graph) q) l.invariant.0 (l.invariant.4 see d v)
-          take.ensures c.in-Expand.next c.in-Expand.is in
+          take.ensures c.in-Ok-Expand.next (c.in-Ok-Expand.is ∙ ap (λ (t : Round S.Search). Ok t) c.in-Ok-Expand.field-0-is) in
           turn-again (tries_in see a.words.now) v (λ lim q. tries-few see d.readable lim (view_of v.graph) q) l.invariant.0 (l.invariant.4 see d v) take.ensures
-          c.in-Expand.next c.in-Expand.is (round.ensures.by_index see d given) c.in-On.s c.in-On.is round.new.item
+          c.in-Ok-Expand.next (c.in-Ok-Expand.is ∙ ap (λ (t : Round S.Search). Ok t) c.in-Ok-Expand.field-0-is) (round.ensures.by_index see d given) c.in-Ok.s c.in-Ok.is round.new.item
           (round.ensures.clears given) {k = get_or take.new.item 0 0} refl,
     )
 
-pub returns-in-Refused : goal.returns-in-Refused
-returns-in-Refused c =
+pub returns-in-Err-round : goal.returns-in-Err-round
+returns-in-Err-round c =
     let round = c.round in
     let take = c.take in
     let l = c.loop-finished in
     let a = c.args in
     λ see d v.
     turn-refused (tries_in see a.words.now) v (λ lim q. tries-few see d.readable lim (view_of v.graph) q) l.invariant.0 (l.invariant.4 see d v)
-    take.ensures c.in-Expand.next c.in-Expand.is (round.ensures.by_index see d
+    take.ensures c.in-Ok-Expand.next (c.in-Ok-Expand.is ∙ ap (λ (t : Round S.Search). Ok t) c.in-Ok-Expand.field-0-is) (round.ensures.by_index see d
     (turn-given (tries_in see a.words.now) v (λ lim q. tries-few see d.readable lim (view_of v.graph) q) l.invariant.0 (l.invariant.4 see d v)
-    take.ensures c.in-Expand.next c.in-Expand.is)) c.in-Refused.r c.in-Refused.is
+    take.ensures c.in-Ok-Expand.next (c.in-Ok-Expand.is ∙ ap (λ (t : Round S.Search). Ok t) c.in-Ok-Expand.field-0-is))) c.in-Err-round.r c.in-Err-round.is

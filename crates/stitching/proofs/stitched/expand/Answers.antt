@@ -1,11 +1,13 @@
 use Prim.Native.Nat.{ℕ, ◌<◌}
 use native.Mathlib.Omega.{arith}
-use mathlib.Core.Path.{refl, sym, ap, subst, ◌∙◌}
+use mathlib.Core.Path.{◌≡◌, refl, sym, ap, subst, ◌∙◌}
 use Rattle.semantics.specs.Limits.{looked_before, looked_ever}
 use Rattle.semantics.specs.declared.replayed.Step.{Step}
 use Rattle.stitching_trial.specs.Links.Laws.{left}
-use Rattle.search_state.specs.declared.search.Going.{Going}
-use Rattle.search_state.specs.Searches.{Clears}
+use borrow.Author.Rules.{rules}
+use Rattle.std.specs.Prelude.{Err}
+use Rattle.search_state.specs.Searches.{Going}
+use Rattle.stitching.specs.Expansions.{Expanded}
 use Rattle.stitching.specs.Expansions.Laws.{given-short}
 use Rattle.stitching.specs.Expansions.Partials.{mid_start, mid-given, mid-tryable, mid-less, mid-again, mid-refused, mid-end}
 use Rattle.stitching.proofs.stitched.expand.Goals as goal
@@ -41,8 +43,8 @@ overflow_cast-i c =
     l.invariant.0 l.invariant.1 (l.invariant.4 p.0.see p.0.linked p.1) (omega (arith, c.loop-link-test.true))).known in
     omega (arith, h)
 
-pub try_partial-going-requires : goal.try_partial-going-requires
-try_partial-going-requires c =
+pub try_partial-requires : goal.try_partial-requires
+try_partial-requires c =
     let l = c.loop-link in
     let a = c.args in
     let p = c.requires in (
@@ -52,19 +54,23 @@ try_partial-going-requires c =
           l.invariant.0 l.invariant.1 (l.invariant.4 p.0.see p.0.linked p.1) looked_ever (omega arith),
     )
 
-pub returns-in_default : goal.returns-in_default
-returns-in_default c =
-    let try-partial = c.try_partial-going in
+pub returns-in_err-on : goal.returns-in_err-on
+returns-in_err-on c =
+    let try-partial = c.try_partial in
     let loop-test = c.loop-link-test in
     let l = c.loop-link in
     let a = c.args in
+    let y = c.in_err-on.field-0.0 in
+    let e : c.from_residual.result ≡ Err y = search rules in
     record {
       by_index = λ see d v.
-          mid-refused d looked_before a.index.now a.steps.now a.item.now a.k a.search a.work.now a.res.now v l.invariant.0
+          rw e
+          (subst (λ (r : Going). Expanded a.words.now looked_before a.index.now a.steps.now a.item.now a.k a.search a.work.now a.res.now v see r try-partial.new.steps try-partial.new.work try-partial.new.res) c.in_err-on.was
+          (mid-refused d looked_before a.index.now a.steps.now a.item.now a.k a.search a.work.now a.res.now v l.invariant.0
           l.invariant.1 (l.invariant.4 see d v) (omega (arith, loop-test.true)) (omega arith)
           (try-partial.ensures (mid-given d looked_before a.index.now a.steps.now a.item.now a.k a.search a.work.now
-          a.res.now v l.invariant.0 l.invariant.1 (l.invariant.4 see d v) looked_ever (omega arith))) c.in_default.field-0 c.in_default.is;
-      clears = λ v. subst (λ (g : Going). Clears g try-partial.new.item) (sym c.in_default.is) tt;
+          a.res.now v l.invariant.0 l.invariant.1 (l.invariant.4 see d v) looked_ever (omega arith))) y c.in_err-on.was));
+      clears = λ v. rw e tt;
     }
 
 pub next-link-requires : goal.next-link-requires
@@ -90,7 +96,7 @@ loop-link-smaller c =
 
 pub loop-link-preserved : goal.loop-link-preserved
 loop-link-preserved c =
-    let try-partial = c.try_partial-going in
+    let try-partial = c.try_partial in
     let loop-test = c.loop-link-test in
     let l = c.loop-link in
     let a = c.args in (
@@ -102,8 +108,8 @@ loop-link-preserved c =
           mid-again d looked_before a.index.now a.steps.now a.item.now a.k a.search a.work.now a.res.now v l.invariant.0
           l.invariant.1 (l.invariant.4 see d v) (omega (arith, loop-test.true)) (omega arith)
           (try-partial.ensures (mid-given d looked_before a.index.now a.steps.now a.item.now a.k a.search a.work.now
-          a.res.now v l.invariant.0 l.invariant.1 (l.invariant.4 see d v) looked_ever (omega arith))) c.in-On.next
-          c.in-On.is c.next-link.ensures,
+          a.res.now v l.invariant.0 l.invariant.1 (l.invariant.4 see d v) looked_ever (omega arith))) c.in_ok-on.on
+          c.in_ok-on.was c.next-link.ensures,
     )
 
 pub returns : goal.returns

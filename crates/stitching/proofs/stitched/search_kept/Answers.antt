@@ -1,9 +1,10 @@
 -- `stitching::stitched::search_kept`: the start, then the links and the rounds.
-use mathlib.Core.Path.{refl}
+use mathlib.Core.Path.{◌≡◌, refl}
 use lib.ListN.{replicate}
 use Rattle.semantics.specs.Limits.{slot_length}
 use Rattle.semantics.specs.Entries.{request_of}
-use Rattle.search_rounds.specs.declared.conclusion.SearchEnd.TheVariants as SearchEnd
+use borrow.Author.Rules.{rules}
+use Rattle.std.specs.Prelude.{Err}
 use Rattle.search_rounds.specs.Starts.{started-driving, started-driven, started-refused}
 use Rattle.semantics.specs.Hidden.{sees}
 use Rattle.stitching.specs.StitchedAnswers.{tries_in}
@@ -22,33 +23,36 @@ drive-requires c =
     let a = c.args in
     let p = c.requires in (
       record { see = sees a.visible.now; linked = c.link.ensures },
-      started-driving (tries_in (sees a.visible.now) a.words.now) a.index.now p.0.graph a.order a.limits a.work.now a.res.now a.reference
+      started-driving (tries_in (sees a.visible.now) a.words.now) a.index.now p.0.graph a.asked.order a.asked.limits a.work.now a.res.now a.asked.reference
           (replicate slot_length 0) start.new.steps start.new.work a.res.now
-          (start.ensures.started (tries_in (sees a.visible.now) a.words.now) p.0.graph p.0.loaded) c.in-On.on c.in-On.is,
+          (start.ensures.started (tries_in (sees a.visible.now) a.words.now) p.0.graph p.0.loaded) c.in_ok-begun.begun c.in_ok-begun.was,
     )
 
-pub returns-in-On : goal.returns-in-On
-returns-in-On c =
+pub returns : goal.returns
+returns c =
     let drive = c.drive in
     let start = c.start in
     let a = c.args in
     λ g l.
     let words = start.ensures.started (tries_in (sees a.visible.now) a.words.now) g l in
-    stitched-ends (sees a.visible.now) g a.words.now (request_of a.order a.limits a.work.now a.res.now a.reference) drive.result
-    drive.new.res (started-driven (tries_in (sees a.visible.now) a.words.now) a.index.now g a.order a.limits a.work.now
-    a.res.now a.reference (replicate slot_length 0) start.new.steps start.new.work a.res.now words
-    c.in-On.on c.in-On.is drive.result drive.new.res
-    (drive.ensures (sees a.visible.now) c.link.ensures (started-driving (tries_in (sees a.visible.now) a.words.now) a.index.now g a.order a.limits a.work.now a.res.now a.reference
-    (replicate slot_length 0) start.new.steps start.new.work a.res.now words c.in-On.on
-    c.in-On.is)))
+    stitched-ends (sees a.visible.now) g a.words.now (request_of a.asked.order a.asked.limits a.work.now a.res.now a.asked.reference) drive.result
+    drive.new.res (started-driven (tries_in (sees a.visible.now) a.words.now) a.index.now g a.asked.order a.asked.limits a.work.now
+    a.res.now a.asked.reference (replicate slot_length 0) start.new.steps start.new.work a.res.now words
+    c.in_ok-begun.begun c.in_ok-begun.was drive.result drive.new.res
+    (drive.ensures (sees a.visible.now) c.link.ensures (started-driving (tries_in (sees a.visible.now) a.words.now) a.index.now g a.asked.order a.asked.limits a.work.now a.res.now a.asked.reference
+    (replicate slot_length 0) start.new.steps start.new.work a.res.now words c.in_ok-begun.begun
+    c.in_ok-begun.was)))
 
-pub returns-in-Refused : goal.returns-in-Refused
-returns-in-Refused c =
+pub returns-in_err-begun : goal.returns-in_err-begun
+returns-in_err-begun c =
     let start = c.start in
     let a = c.args in
+    let y = c.in_err-begun.field-0.0 in
+    let e : c.from_residual.result ≡ Err y = search rules in
     λ g l.
-    stitched-ends (sees a.visible.now) g a.words.now (request_of a.order a.limits a.work.now a.res.now a.reference)
-    (SearchEnd.Refused c.in-Refused.r) a.res.now
-    (started-refused (tries_in (sees a.visible.now) a.words.now) a.index.now g a.order a.limits a.work.now a.res.now a.reference
+    rw e
+    (stitched-ends (sees a.visible.now) g a.words.now (request_of a.asked.order a.asked.limits a.work.now a.res.now a.asked.reference)
+    (Err y) a.res.now
+    (started-refused (tries_in (sees a.visible.now) a.words.now) a.index.now g a.asked.order a.asked.limits a.work.now a.res.now a.asked.reference
     (replicate slot_length 0) start.new.steps start.new.work a.res.now
-    (start.ensures.started (tries_in (sees a.visible.now) a.words.now) g l) c.in-Refused.r c.in-Refused.is a.res.now)
+    (start.ensures.started (tries_in (sees a.visible.now) a.words.now) g l) y c.in_err-begun.was a.res.now))

@@ -7,7 +7,7 @@ use Rattle.stitching.proofs.stitched.search_loaded.Goals as goal
 pub conclude-requires : goal.conclude-requires
 conclude-requires c =
     let a = c.args in
-    let request_of' = request_of a.order a.limits a.work.now a.res.now a.reference in
+    let request_of' = request_of a.asked.order a.asked.limits a.work.now a.res.now a.asked.reference in
     let p = c.requires in
     (record {
       graph = p.0.graph;
@@ -21,7 +21,7 @@ pub returns : goal.returns
 returns c =
     let attempt = c.attempt-driven in
     let a = c.args in
-    let request_of' = request_of a.order a.limits a.work.now a.res.now a.reference in
+    let request_of' = request_of a.asked.order a.asked.limits a.work.now a.res.now a.asked.reference in
     λ g l j.
     c.conclude.ensures (record {
       graph = g;

@@ -1,6 +1,9 @@
 use Prim.Native.Nat.{◌+◌, ◌-◌}
 use native.Mathlib.Omega.{arith}
-use mathlib.Core.Path.{refl, ap, ◌∙◌}
+use mathlib.Core.Path.{◌≡◌, refl, ap, ◌∙◌}
+use borrow.Author.Rules.{rules}
+use Rattle.std.specs.Prelude.{Ok, Err}
+use Rattle.stitching_trial.specs.declared.trial.StitchTrial.{StitchTrial}
 use lib.ListN.{take, drop}
 use Rattle.semantics.specs.Limits.{looked_ever}
 use Rattle.search_state.specs.declared.state.SearchState.{SearchState}
@@ -39,8 +42,8 @@ cut-requires c =
     let h = given-cycles looked_ever a.index.now a.steps.now a.item.now a.k a.search a.work.now a.res.now p.1 in
     omega (arith, h)
 
-pub overflow_add-k-in-Overlong : goal.overflow_add-k-in-Overlong
-overflow_add-k-in-Overlong c =
+pub overflow_add-length : goal.overflow_add-length
+overflow_add-length c =
     let edges = c.edges-edges in
     let a = c.args in
     let p = c.requires in
@@ -66,7 +69,7 @@ with_edges-requires c =
           edges.result.now (edges_few p.0 edges.ensures) a.words.now a.i edges.ensures
           (judge-partial-path.ensures (given-judging looked_ever a.index.now a.steps.now a.item.now a.k a.search a.work.now
           a.res.now p.1 {l = take (a.k + 1 - 1) (drop 1 a.item.now)} refl edges.result.now (edges_few p.0 edges.ensures)))
-          c.in-Extended.complete c.in-Extended.is,
+          c.in-Extended.complete (c.in_ok-trial.was ∙ ap (λ (t : StitchTrial). Ok t) c.in-Extended.is),
     )
 
 pub extend-requires : goal.extend-requires
@@ -79,7 +82,7 @@ extend-requires c =
     edges.result.now (edges_few p.0 edges.ensures) a.words.now a.i edges.ensures
     (judge-partial-path.ensures (given-judging looked_ever a.index.now a.steps.now a.item.now a.k a.search a.work.now
     a.res.now p.1 {l = take (a.k + 1 - 1) (drop 1 a.item.now)} refl edges.result.now (edges_few p.0 edges.ensures)))
-    c.in-Extended.complete c.in-Extended.is c.with_edges.ensures (omega arith)
+    c.in-Extended.complete (c.in_ok-trial.was ∙ ap (λ (t : StitchTrial). Ok t) c.in-Extended.is) c.with_edges.ensures (omega arith)
 
 pub returns-in-Cut : goal.returns-in-Cut
 returns-in-Cut c =
@@ -92,7 +95,7 @@ returns-in-Cut c =
     (edges_few p.0 edges.ensures) a.words.now a.i edges.ensures
     (judge-partial-path.ensures (given-judging looked_ever a.index.now a.steps.now a.item.now a.k a.search a.work.now
     a.res.now v {l = take (a.k + 1 - 1) (drop 1 a.item.now)} refl edges.result.now (edges_few p.0 edges.ensures)))
-    c.in-Cut.is (c.with_state.ensures ∙ ap (λ (t : SearchState). with_state t a.search) c.cut.ensures)
+    (c.in_ok-trial.was ∙ ap (λ (t : StitchTrial). Ok t) c.in-Cut.is) (c.with_state.ensures ∙ ap (λ (t : SearchState). with_state t a.search) c.cut.ensures)
 
 pub returns-in-Overlong : goal.returns-in-Overlong
 returns-in-Overlong c =
@@ -105,7 +108,7 @@ returns-in-Overlong c =
     edges.result.now (edges_few p.0 edges.ensures) a.words.now a.i edges.ensures
     (judge-partial-path.ensures (given-judging looked_ever a.index.now a.steps.now a.item.now a.k a.search a.work.now
     a.res.now v {l = take (a.k + 1 - 1) (drop 1 a.item.now)} refl edges.result.now (edges_few p.0 edges.ensures)))
-    c.in-Overlong.is
+    (c.in_ok-trial.was ∙ ap (λ (t : StitchTrial). Ok t) c.in-Overlong.is)
     (c.with_state-in-Overlong.ensures ∙ ap (λ (t : SearchState). with_state t a.search) c.measure.ensures)
 
 pub returns-in-Rejected : goal.returns-in-Rejected
@@ -119,21 +122,24 @@ returns-in-Rejected c =
     edges.result.now (edges_few p.0 edges.ensures) a.words.now a.i edges.ensures
     (judge-partial-path.ensures (given-judging looked_ever a.index.now a.steps.now a.item.now a.k a.search a.work.now
     a.res.now v {l = take (a.k + 1 - 1) (drop 1 a.item.now)} refl edges.result.now (edges_few p.0 edges.ensures)))
-    c.in-Rejected.is
+    (c.in_ok-trial.was ∙ ap (λ (t : StitchTrial). Ok t) c.in-Rejected.is)
     (c.with_state-in-Rejected.ensures ∙ ap (λ (t : SearchState). with_state t a.search) c.reject.ensures)
 
-pub returns-in-Refused : goal.returns-in-Refused
-returns-in-Refused c =
+pub returns-in_err-trial : goal.returns-in_err-trial
+returns-in_err-trial c =
     let judge-partial-path = c.judge_partial_path in
     let edges = c.edges-edges in
     let a = c.args in
     let p = c.requires in
+    let y = c.in_err-trial.field-0.0 in
+    let e : c.from_residual.result ≡ Err y = search rules in
     λ v.
-    tried-stopped looked_ever a.index.now a.steps.now a.item.now a.k a.search a.work.now a.res.now v refl
-    edges.result.now (edges_few p.0 edges.ensures) a.words.now a.i edges.ensures
+    rw e
+    (tried-stopped looked_ever a.index.now a.steps.now a.item.now a.k a.search a.work.now a.res.now v refl edges.result.now
+    (edges_few p.0 edges.ensures) a.words.now a.i edges.ensures
     (judge-partial-path.ensures (given-judging looked_ever a.index.now a.steps.now a.item.now a.k a.search a.work.now
     a.res.now v {l = take (a.k + 1 - 1) (drop 1 a.item.now)} refl edges.result.now (edges_few p.0 edges.ensures)))
-    c.in-Refused.r c.in-Refused.is
+    y c.in_err-trial.was)
 
 pub returns-in-Extended : goal.returns-in-Extended
 returns-in-Extended c =
@@ -148,5 +154,5 @@ returns-in-Extended c =
     edges.result.now (edges_few p.0 edges.ensures) a.words.now a.i edges.ensures
     (judge-partial-path.ensures (given-judging looked_ever a.index.now a.steps.now a.item.now a.k a.search a.work.now
     a.res.now v {l = take (a.k + 1 - 1) (drop 1 a.item.now)} refl edges.result.now (edges_few p.0 edges.ensures)))
-    c.in-Extended.complete c.in-Extended.is with-edges.ensures extend.result extend.new.work extend.new.res
+    c.in-Extended.complete (c.in_ok-trial.was ∙ ap (λ (t : StitchTrial). Ok t) c.in-Extended.is) with-edges.ensures extend.result extend.new.work extend.new.res
     extend.ensures

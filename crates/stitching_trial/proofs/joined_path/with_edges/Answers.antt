@@ -9,22 +9,17 @@ pub shorten-requires : goal.shorten-requires
 shorten-requires c = let p = c.requires in (p.0, omega (arith, p.1))
 
 pub loop-i-init : goal.loop-i-init
-loop-i-init c = let a = c.args in (refl, omega arith, refl, λ ps e n. grown-start max_edges ps a.edges.now e)
+loop-i-init c = let a = c.args in (refl, λ ps e n. grown-start max_edges ps a.edges.now e)
 
 pub overflow_add-k : goal.overflow_add-k
-overflow_add-k c = let p = c.requires in let l = c.loop-i in omega (arith, c.loop-i-test.true, l.invariant.2, p.1)
+overflow_add-k c = let p = c.requires in let l = c.loop-i in omega (arith, c.loop-i-test.true, p.1)
 
 pub with_edge-requires : goal.with_edge-requires
 with_edge-requires c =
     let l = c.loop-i in
     let p = c.requires in
     let h = c.shorten.auto.item in
-    (omega (arith, c.loop-i-test.true, l.invariant.0, l.invariant.2, h, p.0, p.1), omega (arith, l.invariant.0, h, p.0))
-
-pub loop-i-smaller : goal.loop-i-smaller
-loop-i-smaller c =
-    let l = c.loop-i in
-    omega (arith, c.loop-i-test.true, l.invariant.2)
+    (omega (arith, c.loop-i-test.true, l.invariant.0, h, p.0, p.1), omega (arith, l.invariant.0, h, p.0))
 
 pub loop-i-preserved : goal.loop-i-preserved
 loop-i-preserved c =
@@ -33,10 +28,8 @@ loop-i-preserved c =
     let a = c.args in
     let p = c.requires in (
       c.with_edge.auto.item ∙ l.invariant.0,
-      omega (arith, loop-test.true, l.invariant.2),
-      l.invariant.2,
       λ ps e n.
-          grown-again max_edges ps a.edges.now l.i (l.invariant.3 ps e n) n p.1 (omega (arith, loop-test.true, l.invariant.2))
+          grown-again max_edges ps a.edges.now l.i (l.invariant.1 ps e n) n p.1 (omega (arith, loop-test.true))
           c.with_edge.ensures,
     )
 
@@ -46,5 +39,5 @@ returns c =
     let a = c.args in
     let p = c.requires in
     grown-end max_edges (take a.k (drop 1 a.item.now)) a.edges.now l.i
-    (l.invariant.3 (take a.k (drop 1 a.item.now)) c.shorten.ensures
-    (front_length max_edges a.item.now a.k p.0 (omega (arith, p.1)))) (omega (arith, c.loop-i-test.false, l.invariant.2))
+    (l.invariant.1 (take a.k (drop 1 a.item.now)) c.shorten.ensures
+    (front_length max_edges a.item.now a.k p.0 (omega (arith, p.1)))) (omega (arith, c.loop-i-test.false))

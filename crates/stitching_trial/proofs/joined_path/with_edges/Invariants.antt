@@ -1,4 +1,4 @@
-use Prim.Native.Nat.{ℕ, ◌≤◌}
+use Prim.Native.Nat.{ℕ}
 use mathlib.Core.Path.{◌≡◌}
 use mathlib.Core.List.{List}
 use lib.ListN.{length}
@@ -8,4 +8,4 @@ use Rattle.stitching_trial.specs.Items.{up_to}
 use Rattle.stitching_trial.proofs.joined_path.with_edges.Given as goal
 
 abbrev pub invariant-loop-i : goal.invariant-loop-i
-invariant-loop-i l = (length l.item ≡ length l.initial.item) × (l.i ≤ length l.edges) × (l.i-end ≡ length l.edges) × ((ps : List ℕ) → l.initial.item ≡ encode slot_length ps → length ps ≡ l.k → l.item ≡ encode slot_length (up_to l.i ps l.edges))
+invariant-loop-i l = (length l.item ≡ length l.initial.item) × ((ps : List ℕ) → l.initial.item ≡ encode slot_length ps → length ps ≡ l.k → l.item ≡ encode slot_length (up_to l.i ps l.edges))

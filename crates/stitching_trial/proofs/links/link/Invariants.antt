@@ -1,4 +1,3 @@
-use Prim.Native.Nat.{◌≤◌}
 use mathlib.Core.Path.{◌≡◌}
 use lib.ListN.{length}
 use Rattle.semantics.specs.Database.{used_in}
@@ -7,7 +6,4 @@ use Rattle.stitching_trial.specs.Links.{LinkedFrom}
 use Rattle.stitching_trial.proofs.links.link.Given as goal
 
 abbrev pub invariant-loop-i : goal.invariant-loop-i
-invariant-loop-i l = (length l.links ≡ length l.initial.links) × (l.i ≤ used_in l.words) × LinkedFrom (sees l.visible) l.words l.links l.i
-
-abbrev pub decreases-loop-i : goal.decreases-loop-i
-decreases-loop-i l = l.i
+invariant-loop-i l = (length l.links ≡ length l.initial.links) × (l.used ≡ used_in l.words) × LinkedFrom (sees l.visible) l.words l.links l.i

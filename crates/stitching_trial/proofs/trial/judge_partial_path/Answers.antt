@@ -25,8 +25,8 @@ is_complete-requires c =
     let p = c.requires in
     p.loaded.long
 
-pub returns-in-Done : goal.returns-in-Done
-returns-in-Done c =
+pub returns-in-Ok : goal.returns-in-Ok
+returns-in-Ok c =
     let append-all = c.append_all in
     let if3 = c.if-whole-le-MAX_EDGES in
     let if2 = c.if-asked in
@@ -38,10 +38,10 @@ returns-in-Done c =
     λ v.
     judge-extended v a.budget.max_length (sym shares.ensures ∙ if1.false) within (omega (arith, if3.true))
     (append-all.ensures (judge-appends v a.budget.max_length (sym shares.ensures ∙ if1.false) within (omega (arith, if3.true))))
-    c.in-Done.last c.in-Done.is c.is_complete.ensures
+    c.in-Ok.last c.in-Ok.is c.is_complete.ensures
 
-pub returns-in-Refused : goal.returns-in-Refused
-returns-in-Refused c =
+pub returns-in-Err : goal.returns-in-Err
+returns-in-Err c =
     let append-all = c.append_all in
     let if3 = c.if-whole-le-MAX_EDGES in
     let if2 = c.if-asked in
@@ -53,7 +53,7 @@ returns-in-Refused c =
     λ v.
     judge-refused v a.budget.max_length (sym shares.ensures ∙ if1.false) within (omega (arith, if3.true))
     (append-all.ensures (judge-appends v a.budget.max_length (sym shares.ensures ∙ if1.false) within (omega (arith, if3.true))))
-    c.in-Refused.r c.in-Refused.is c.ended.ensures
+    c.in-Err.r c.in-Err.is c.ended.ensures
 
 pub returns-then-asked : goal.returns-then-asked
 returns-then-asked c =

@@ -1,5 +1,4 @@
 -- `storage::links::link`: the edges from `e` on are linked.
-use Prim.Native.Nat.{◌≤◌}
 use mathlib.Core.Path.{◌≡◌}
 use lib.ListN.{length}
 use Rattle.semantics.specs.Graph.{Graph}
@@ -8,7 +7,4 @@ use Rattle.storage.specs.References.{Sources}
 use Rattle.storage.proofs.links.link.Given as goal
 
 abbrev pub invariant-loop-e : goal.invariant-loop-e
-invariant-loop-e l = (l.e ≤ l.count) × (length l.index ≡ length l.initial.index) × Sources l.index × ((g : Graph) → length g.edges ≡ l.count → Linked g l.initial.index l.count → Linked g l.index l.e)
-
-abbrev pub decreases-loop-e : goal.decreases-loop-e
-decreases-loop-e l = l.e
+invariant-loop-e l = (length l.index ≡ length l.initial.index) × Sources l.index × ((g : Graph) → length g.edges ≡ l.count → Linked g l.initial.index l.count → Linked g l.index l.e)

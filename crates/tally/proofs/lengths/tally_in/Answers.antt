@@ -8,18 +8,18 @@ use Rattle.tally.proofs.lengths.tally_in.Goals as goal
 pub tally_loaded-requires : goal.tally_loaded-requires
 tally_loaded-requires c =
     let a = c.args in
-    let z = answer-accepted (graph_in a.image.now) c.in-Accepted.files c.in-Accepted.nodes c.in-Accepted.edges c.load_seen.ensures.value c.in-Accepted.is in
+    let z = answer-accepted (graph_in a.image.now) c.in-Ok.field-0 c.load_seen.ensures.value c.in-Ok.is in
     record { graph = seen (sees a.visible.now) z.graph; loaded = c.load_seen.ensures.loaded z.graph z.is }
 
-pub returns-in-Refused : goal.returns-in-Refused
-returns-in-Refused c =
+pub returns-in-Err : goal.returns-in-Err
+returns-in-Err c =
     let a = c.args in
-    image-refused a.work.now a.reference c.refused.result c.zero.new.area c.in-Refused.r (refused-seen (sees a.visible.now) (graph_in a.image.now) c.in-Refused.r c.load_seen.ensures.value c.in-Refused.is)
+    image-refused a.work.now a.reference c.refused.result c.zero.new.area c.in-Err.r (refused-seen (sees a.visible.now) (graph_in a.image.now) c.in-Err.r c.load_seen.ensures.value c.in-Err.is)
     c.refused.ensures.0 c.refused.ensures.1 c.zero.ensures
 
-pub returns-in-Accepted : goal.returns-in-Accepted
-returns-in-Accepted c =
+pub returns-in-Ok : goal.returns-in-Ok
+returns-in-Ok c =
     let a = c.args in
-    let z = answer-accepted (graph_in a.image.now) c.in-Accepted.files c.in-Accepted.nodes c.in-Accepted.edges c.load_seen.ensures.value c.in-Accepted.is in
+    let z = answer-accepted (graph_in a.image.now) c.in-Ok.field-0 c.load_seen.ensures.value c.in-Ok.is in
     let see = sees a.visible.now in
     image_does a.work.now a.reference c.tally_loaded.result c.tally_loaded.new.work (seen see z.graph) (accepted-seen see z.is) (c.tally_loaded.ensures (seen see z.graph) (c.load_seen.ensures.loaded z.graph z.is))

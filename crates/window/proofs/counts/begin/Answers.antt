@@ -1,7 +1,7 @@
 -- `begin`: the part that is lent comes back as zeros.
 use Rattle.semantics.specs.Limits.{window_entries}
-use Rattle.window.specs.Extent.{begun-part}
+use Rattle.window.specs.Extent.{begun-front}
 use Rattle.window.proofs.counts.begin.Goals as goal
 
 pub returns : goal.returns
-returns c = let ws = c.args.words.now in begun-part window_entries c.extent-end.result ws c.zero.new.area c.extent-end.ensures.0 c.zero.ensures
+returns c = begun-front window_entries c.extent-end.result c.args.words.now c.fill.new.self c.extent-end.ensures.0 (c.fill.ensures.after (λ y h. h))

@@ -1,33 +1,36 @@
--- `trend`: the sum and the greatest of the first i entries. Each is below 2^32, so the sum fits.
-use Prim.Native.Nat.{ℕ}
-use mathlib.Core.Path.{refl, sym, ap, ◌∙◌}
-use native.Mathlib.Omega.{arith}
-use lib.ListN.{get_or}
-use lib.Seq.{take_all}
+-- `trend`: the sum and the greatest of the entries passed. Each is below 2^32, so the sum fits.
+use Rattle.std.proofs.Common.{◌≡◌, ℕ, ◌<◌, refl, sym, ap, ◌∙◌, get_or, Bool, max, arith, lt-ltb, le-ltb}
+use Rattle.std.proofs.Math.Decide.{dec_lt}
+use Rattle.std.proofs.Math.Seq.{take_all}
 use Rattle.semantics.specs.Window as Window
 use Rattle.semantics.specs.Enumeration.{greater}
 use Rattle.semantics.specs.Window.{trend_of}
-use Rattle.semantics.specs.Lists.{total}
+use Rattle.semantics.specs.Lists.{pick, total}
 use Rattle.semantics.proofs.Theorems.Window.Laws.{total-more, greatest-more}
 use Rattle.window.proofs.counts.trend.Goals as goal
 
-pub loop-i-init : goal.loop-i-init
-unfolding total Window.greatest
-loop-i-init c = (omega arith, refl, omega arith, refl, refl)
+max-greater : (m n : ℕ) → max m n ≡ greater m n
+max-greater m n = on (dec_lt m n)
+  where
+    on : Dec (m < n) → max m n ≡ greater m n
+    on (yes h) = (let e : max m n ≡ n = omega arith in e) ∙ sym (ap (λ (t : Bool). pick t n m) (lt-ltb m n h))
+    on (no h) = (let e : max m n ≡ m = omega arith in e) ∙ sym (ap (λ (t : Bool). pick t n m) (le-ltb m n (omega arith)))
 
-pub loop-i-preserved : goal.loop-i-preserved
-loop-i-preserved c =
-    let l = c.loop-i in
+pub loop-entry-init : goal.loop-entry-init
+unfolding total Window.greatest
+loop-entry-init c = (omega arith, refl, refl)
+
+pub loop-entry-preserved : goal.loop-entry-preserved
+loop-entry-preserved c =
+    let l = c.loop-entry in
     let es = c.args.entries.now in
-    let h = c.loop-i-test.true in
-    let p = c.plus-sum.ensures in
-    let t = total-more es l.i (omega (arith, h, l.invariant.1)) in
-    (omega (arith, h, l.invariant.1), l.invariant.1, omega (arith, l.invariant.2, p.1), omega (arith, l.invariant.3, p.0, t), c.greater-greatest.ensures ∙ ap (λ (m : ℕ). greater m (get_or es l.i 0)) l.invariant.4 ∙ sym (greatest-more es l.i (omega (arith, h, l.invariant.1))))
+    let h = c.loop-entry-test.true in
+    (omega (arith, c.from-sum.ensures, c.type_inv.entries l.entry-index), omega (arith, total-more es l.entry-index h, c.from-sum.ensures, l.invariant.1), c.max-greatest.ensures ∙ max-greater _ _ ∙ ap (λ (m : ℕ). greater m (get_or es l.entry-index 0)) l.invariant.2 ∙ sym (greatest-more es l.entry-index h))
 
 pub returns : goal.returns
 unfolding trend_of
 returns c =
-    let l = c.loop-i in
+    let l = c.loop-entry in
     let es = c.args.entries.now in
-    let e = take_all l.i es (omega (arith, l.invariant.1, c.loop-i-test.false)) in
-    λ j. record { sum = (l.invariant.3 ∙ ap total e) j; greatest = (l.invariant.4 ∙ ap Window.greatest e) j }
+    let e = take_all l.entry-index es (omega (arith, c.loop-entry-test.false)) in
+    λ j. record { sum = (l.invariant.1 ∙ ap total e) j; greatest = (l.invariant.2 ∙ ap Window.greatest e) j }

@@ -1,30 +1,16 @@
--- `words::bytes::signed`: bits below 2 ^ 31 are the number itself, the others stand for the number less 2 ^ 32.
-use Prim.Native.Nat.{ℕ, zero, suc, ◌-◌, ◌<◌, ◌^◌}
-use mathlib.Core.Path.{◌≡◌, refl, ap, ◌∙◌}
-use native.Mathlib.Omega.{arith}
-use borrow.Author.Tests.{lt-ltb, le-ltb}
-use lib.IntN.{ℤ, pos, negsuc, ◌-ℤ◌}
-use mir.Syntax.{w32}
-use mir.Val.{to_z}
-use mir.ValLaws.{to_z_pos, to_z-of_z}
+-- `words::bytes::signed`: the two readings of 32 bits differ in nothing but how they are written.
+use Rattle.std.proofs.Common.{◌≡◌, ℕ, suc, ◌-◌, Bool, true, false, refl, ap, ◌∙◌, arith, ltb, w32}
+use lib.IntN.{pos, negsuc}
+use mir.Val.{sel}
+use mir.Facts.{to_z-of_z}
+use Rattle.semantics.specs.Lists.{pick}
 use Rattle.semantics.specs.Bytes.{signed}
 use Rattle.words.proofs.bytes.signed.Goals as goal
 
-minus_one : (k : ℕ) → negsuc 0 -ℤ pos k ≡ negsuc k
-minus_one zero = refl
-minus_one (suc k) = ap negsuc (omega arith)
+either : (b : Bool) (x : ℕ) → sel b (pos x) (negsuc (4294967296 - suc x)) ≡ pick b (pos x) (negsuc (4294967295 - x))
+either true x = refl
+either false x = ap negsuc (omega arith)
 
-below : (k : ℕ) → k < 2 ^ 31 → negsuc 0 -ℤ to_z w32 k ≡ negsuc k
-below k h = ap (λ (z : ℤ). negsuc 0 -ℤ z) (to_z_pos w32 k h) ∙ minus_one k
-
-pub overflow_sub-result-else-x-lt-SIGN : goal.overflow_sub-result-else-x-lt-SIGN
-overflow_sub-result-else-x-lt-SIGN c = rw (below (4294967295 - c.args.x) (omega arith)) (record { sfits = omega arith })
-
-pub returns-then-x-lt-SIGN : goal.returns-then-x-lt-SIGN
+pub returns : goal.returns
 unfolding signed
-returns-then-x-lt-SIGN c = to_z_pos w32 c.args.x (omega arith) ∙ simp (lt-ltb _ _ c.if-x-lt-SIGN.true)
-
-pub returns-else-x-lt-SIGN : goal.returns-else-x-lt-SIGN
-unfolding signed
-returns-else-x-lt-SIGN c =
-    to_z-of_z w32 _ (overflow_sub-result-else-x-lt-SIGN c) ∙ below (4294967295 - c.args.x) (omega arith) ∙ simp (le-ltb _ _ c.if-x-lt-SIGN.false)
+returns c = to_z-of_z {w = w32} (record { sfits = c.cast_signed.type_inv }) ∙ c.cast_signed.ensures ∙ either (ltb c.args.x 2147483648) c.args.x

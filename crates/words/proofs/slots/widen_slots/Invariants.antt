@@ -9,6 +9,3 @@ use Rattle.words.proofs.slots.widen_slots.Given as goal
 
 abbrev pub invariant-loop-i : goal.invariant-loop-i
 invariant-loop-i l = (length l.area ≡ length l.initial.area) × (length l.slot ≡ length l.initial.slot) × (drop l.short l.slot ≡ zeros (l.length - l.short)) × ((h : l.short ≤ l.length) (f : SlotsIn l.length l.n l.initial.area) → Widening l.length l.short l.n h l.initial.area f l.area l.i)
-
-abbrev pub decreases-loop-i : goal.decreases-loop-i
-decreases-loop-i l = l.i

@@ -12,4 +12,4 @@ returns c =
     let frontier = c.frontier in
     let a = c.args in
     push_goes a.frame a.self frontier.ensures c.push-pushed.ensures
-    c.in-Done.next c.in-Done.is c.with_frontier.ensures
+    c.in-Some.next c.in-Some.is c.with_frontier.ensures

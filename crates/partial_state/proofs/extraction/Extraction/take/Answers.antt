@@ -23,7 +23,7 @@ returns-then-self-ge-MAX_EXPANSIONS c =
     let pop = c.pop-popped in
     let frontier = c.frontier in
     let a = c.args in
-    take-many a.frame a.self frontier.ensures pop.ensures c.in-Item.next c.in-Item.is
+    take-many a.frame a.self frontier.ensures pop.ensures c.in-Some.next c.in-Some.is
     c.budget.ensures c.admitted_expansion-asked.ensures
     c.with_budget-after.ensures c.if-asked.true (omega (arith, c.if-self-ge-MAX_EXPANSIONS.true))
 
@@ -33,7 +33,7 @@ returns-then-asked c =
     let pop = c.pop-popped in
     let frontier = c.frontier in
     let a = c.args in
-    take-expand a.frame a.self frontier.ensures pop.ensures c.in-Item.next c.in-Item.is
+    take-expand a.frame a.self frontier.ensures pop.ensures c.in-Some.next c.in-Some.is
     c.budget.ensures admitted-expansion.ensures
     c.with_budget-after.ensures c.if-asked.true (omega (arith, c.if-self-ge-MAX_EXPANSIONS.false))
     c.with_frontier.ensures
@@ -43,5 +43,5 @@ returns c =
     let pop = c.pop-popped in
     let frontier = c.frontier in
     let a = c.args in
-    take-over a.frame a.self frontier.ensures pop.ensures c.in-Item.next c.in-Item.is
+    take-over a.frame a.self frontier.ensures pop.ensures c.in-Some.next c.in-Some.is
     c.budget.ensures c.admitted_expansion-asked.ensures c.with_budget-after.ensures c.if-asked.false

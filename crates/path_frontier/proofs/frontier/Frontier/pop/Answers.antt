@@ -1,5 +1,5 @@
 -- `Frontier::pop` meets its contract: each order takes from its own end.
-use Rattle.path_frontier.specs.Frontier.Laws.{pops-front, pops-back, pops-none}
+use Rattle.path_frontier.specs.Frontier.Laws.{pops-front, pops-back}
 use Rattle.path_frontier.proofs.frontier.Frontier.pop.Goals as goal
 
 pub returns-in-BreadthFirst : goal.returns-in-BreadthFirst
@@ -13,8 +13,3 @@ returns-in-DepthFirst c =
     let a = c.args in
     let taken = c.pop_back in
     pops-back a.self a.work.now taken.new.into taken.result taken.new.work c.in-DepthFirst.is taken.ensures
-
-pub returns : goal.returns
-returns c =
-    let a = c.args in
-    pops-none a.self a.work.now a.into.now c.if-self-gt0.false

@@ -1,17 +1,9 @@
 -- `Frontier::pop_front` meets its contract: the first slot is read, and the ring goes on behind it.
-use native.Mathlib.Omega.{arith}
 use mathlib.Core.Path.{sym, subst}
-use Rattle.words.specs.Slots.Laws.{within}
 use Rattle.path_frontier.specs.declared.frontier.Frontier.{Frontier}
 use Rattle.path_frontier.specs.Frontier.{Front}
 use Rattle.path_frontier.specs.Frontier.Held.{front-is}
 use Rattle.path_frontier.proofs.frontier.Frontier.pop_front.Goals as goal
-
-pub read_slot-requires : goal.read_slot-requires
-read_slot-requires c =
-    let a = c.args in
-    let p = c.requires in
-    (within a.self.length a.self.capacity a.self.first a.work.now (omega (arith, p.0.inside, p.0.counted, p.2)) p.0.room, p.1)
 
 pub returns : goal.returns
 returns c =

@@ -1,14 +1,7 @@
 -- `Frontier::push` meets its contract: the slot behind those that wait is written, where one is free.
 use native.Mathlib.Omega.{arith}
-use Rattle.words.specs.Slots.Laws.{within}
-use Rattle.path_frontier.specs.Frontier.Laws.{pushes-done, pushes_full}
+use Rattle.path_frontier.specs.Frontier.Laws.{pushes-done}
 use Rattle.path_frontier.proofs.frontier.Frontier.push.Goals as goal
-
-pub write_slot-requires : goal.write_slot-requires
-write_slot-requires c =
-    let a = c.args in
-    let p = c.requires in
-    (within a.self.length a.self.capacity c.around-at.result a.work.now c.around-at.ensures.0 p.0.room, p.1)
 
 pub returns-then-self : goal.returns-then-self
 returns-then-self c =
@@ -17,9 +10,3 @@ returns-then-self c =
     let place = c.around-at in
     let written = c.write_slot in
     pushes-done a.self a.work.now p.0 a.words.now p.1 place.result written.new.area (omega (arith, c.if-self.true)) place.ensures.0 place.ensures.1 written.ensures
-
-pub returns : goal.returns
-returns c =
-    let a = c.args in
-    let p = c.requires in
-    pushes_full a.self a.work.now p.0 a.words.now p.1 (omega (arith, c.if-self.false))

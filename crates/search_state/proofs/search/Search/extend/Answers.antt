@@ -1,7 +1,7 @@
+use Rattle.std.specs.Prelude.{Err}
 use mathlib.Core.Path.{sym, subst}
 use mathlib.Core.Bool.{Bool}
 use Rattle.semantics.specs.declared.refusal.SearchRefusal.TheVariants as Search
-use Rattle.search_state.specs.declared.search.Going.TheVariants as Going
 use Rattle.search_state.specs.Extensions.{ExtendsTo}
 use Rattle.search_state.specs.Extensions.Laws.{extend-only, extend-full, extend-kept, extend-push}
 use Rattle.search_state.proofs.search.Search.extend.Goals as goal
@@ -15,14 +15,14 @@ returns-in_default c =
     let if1 = c.if-complete in
     let a = c.args in
     subst (λ (b : Bool).
-    ExtendsTo a.self b a.work.now a.res.now a.item.now (Going.Refused Search.NoResultSlot) a.work.now
+    ExtendsTo a.self b a.work.now a.res.now a.item.now (Err Search.NoResultSlot) a.work.now
     record-complete.new.res) (sym if1.true) (extend-full a.self a.work.now a.res.now a.item.now
     record-complete.ensures.value record-complete.ensures.res_after c.in_default.is)
 
 pub push-requires : goal.push-requires
 push-requires c =
     let p = c.requires in
-    extend-push c.in-Done.next p c.with_state.ensures
+    extend-push c.in-Some.state p c.with_state.ensures
 
 pub returns-then-complete : goal.returns-then-complete
 returns-then-complete c =
@@ -33,7 +33,7 @@ returns-then-complete c =
     subst (λ (b : Bool).
     ExtendsTo a.self b a.work.now a.res.now a.item.now push.result push.new.work record-complete.new.res)
     (sym if1.true) (extend-kept a.self a.work.now a.res.now a.item.now record-complete.ensures.value
-    record-complete.ensures.res_after c.in-Done.next c.in-Done.is c.with_state.ensures
+    record-complete.ensures.res_after c.in-Some.state c.in-Some.is c.with_state.ensures
     push.ensures)
 
 pub push-requires-2 : goal.push-requires-2

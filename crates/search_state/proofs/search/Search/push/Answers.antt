@@ -52,5 +52,5 @@ returns c =
       pushes = let L = make-room.result.length in
           subst (λ (n : ℕ). Pushes make-room.result make-room.new.work (take n a.item.now) push.result push.new.work)
           (let z : L - 0 ≡ L = omega arith in z) push.ensures;
-      is = sym (ap (going_of a.self.state) c.in-Done.is);
+      is = sym (ap (going_of a.self.state) c.in-Some.is);
     }

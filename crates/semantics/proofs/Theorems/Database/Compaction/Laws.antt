@@ -3,7 +3,7 @@
 use Prim.Native.Nat.{ℕ, zero, suc, ◌+◌, ◌-◌, ◌*◌, ◌≤◌, ◌<◌}
 use Rattle.std.proofs.Common.{arith, add-zero, zero-add, not-suc-le-zero, le_of_suc-le-suc, ◌∙◌, subst, ⊎_elim, true≢false, leb→le, le→leb, nltb→le}
 use Rattle.std.proofs.Math.Nat.{mul-le-mul_left}
-use Rattle.std.specs.Prelude.{◌≡◌, ◌⊎◌, Bool, not, get_or, take, drop}
+use Rattle.std.specs.Prelude.{◌≡◌, ◌⊎◌, Bool, not, get_or, take, drop, Err, Ok}
 use Rattle.std.proofs.Math.Path.{refl, sym, ap}
 use Rattle.std.proofs.Math.Logic.{inl, inr}
 use Rattle.std.proofs.Math.Bool.{true, false}
@@ -11,7 +11,6 @@ use Rattle.std.proofs.lemmas.Bool.{false≢true}
 use mathlib.Core.List.{List, [], ◌∷◌, ◌++◌, map, flatten, append-nil}
 use Rattle.std.proofs.Math.Dec.{leb, ltb}
 use Rattle.std.proofs.Math.ListN.{length, length-append, length-replicate, length-drop, get_or-append, get_or-map}
-use Rattle.semantics.specs.declared.answer.Compaction.{Compaction}
 use Rattle.semantics.specs.Lists.{pick, cons_if}
 use Rattle.semantics.specs.Lists.Laws.{and-true, eq→T, T→eq}
 use Rattle.semantics.specs.Limits.{Bounds, record_words}
@@ -25,6 +24,7 @@ use Rattle.semantics.specs.Database.Laws.{AllLong, slots-flatten, slots-long, sl
 use Rattle.semantics.specs.Database.Checked.{Checked}
 use Rattle.semantics.specs.Database.Lookup.{slot_edges, lookup-at, lookup-edges}
 use Rattle.semantics.specs.Database.Compaction.{is_live, live_of, live_in, live_count, new_number, renumbered, compact_words, Compacted, uncompacted, compact_call}
+use Rattle.semantics.specs.declared.answer.CompactionRefusal.{CompactionRefusal}
 
 -- THE LIVE RECORDS
 decode-live : (xs : List (List ℕ)) → map decode (live_of xs) ≡ only_live (map decode xs)
@@ -246,20 +246,20 @@ pub record Compacts (bd : Bounds) (known : ℕ → ℕ → Bool) (ws : List ℕ)
 
 module _ (bd : Bounds) (known : ℕ → ℕ → Bool) (ws : List ℕ) (len : ℕ) where
   compacted : Compacted
-  compacted = record { answer = Compaction.Done (live_count bd ws); database = compact_words bd ws; list = renumbered 0 0 (records bd ws) ++ zeros (len - 2 * live_count bd ws) }
+  compacted = record { answer = Ok (live_count bd ws); database = compact_words bd ws; list = renumbered 0 0 (records bd ws) ++ zeros (len - 2 * live_count bd ws) }
 
   by_tests : Bool → Bool → Compacted
-  by_tests b c = pick (not b) (uncompacted Compaction.Malformed ws len) (pick c (uncompacted Compaction.ListTooShort ws len) compacted)
+  by_tests b c = pick (not b) (uncompacted (Err CompactionRefusal.Malformed) ws len) (pick c (uncompacted (Err CompactionRefusal.ListTooShort) ws len) compacted)
 
   call-is : (b c : Bool) → well_formed bd known ws ≡ b → ltb len (2 * live_count bd ws) ≡ c → compact_call bd known ws len ≡ by_tests b c
   unfolding compact_call by_tests compacted
   call-is b c e f = rw (e, f)
 
-  pub compact-done : (n : ℕ) → (compact_call bd known ws len).answer ≡ Compaction.Done n → Compacts bd known ws len n
+  pub compact-done : (n : ℕ) → (compact_call bd known ws len).answer ≡ Ok n → Compacts bd known ws len n
   unfolding by_tests compacted
   compact-done n d = on (well_formed bd known ws) (ltb len (2 * live_count bd ws)) refl refl
     where
-      told : (b c : Bool) → compact_call bd known ws len ≡ by_tests b c → (by_tests b c).answer ≡ Compaction.Done n
+      told : (b c : Bool) → compact_call bd known ws len ≡ by_tests b c → (by_tests b c).answer ≡ Ok n
       told b c e = sym (ap (λ (o : Compacted). o.answer) e) ∙ d
 
       on : (b c : Bool) → well_formed bd known ws ≡ b → ltb len (2 * live_count bd ws) ≡ c → Compacts bd known ws len n
@@ -317,7 +317,7 @@ slot_at : (bd : Bounds) (ws : List ℕ) (i : ℕ) → get_or (slots_in bd ws) i 
 unfolding slots_in decode
 slot_at bd ws i = get_or-map decode (records bd ws) i []
 
-module _ (bd : Bounds) (known : ℕ → ℕ → Bool) (ws : List ℕ) (len n : ℕ) (done : (compact_call bd known ws len).answer ≡ Compaction.Done n) where
+module _ (bd : Bounds) (known : ℕ → ℕ → Bool) (ws : List ℕ) (len n : ℕ) (done : (compact_call bd known ws len).answer ≡ Ok n) where
   c : Compacts bd known ws len n
   c = compact-done bd known ws len n done
 
