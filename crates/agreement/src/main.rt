@@ -79,8 +79,8 @@ fn compare_node<W: Write>(
         let answers = record_seen(image, words, n, areas);
         let direct = answers.direct;
         let stitched = answers.stitched;
-        report::tell(out, n, "direct", direct, &areas.found)?;
-        report::tell(out, n, "stitched", stitched, &areas.joined)?;
+        report::tell(out, n, b"direct", direct, &areas.found)?;
+        report::tell(out, n, b"stitched", stitched, &areas.joined)?;
     }
     Ok(())
 }
@@ -130,7 +130,7 @@ fn compare_image<W: Write>(image: &[u8], areas: &mut Areas, out: &mut W) -> io::
     let mut index = [0u32; blocks::INDEX];
     let mut words = [0u32; DATABASE_WORDS];
     match check::load(image, &mut index) {
-        Err(r) => report::tell_image_refused(out, Told::from(r).number),
+        Err(r) => report::tell_refused(out, b"refused ", Told::from(r).number),
         Ok(counts) => {
             if file_twice(image, counts.files, &mut areas.waiting, &mut words) {
                 compare_filed(

@@ -2,15 +2,8 @@
 ghost use Rattle.std.specs.Prelude.{◌+◌, ◌<◌, ◌≤◌, length};
 ghost use Rattle.case_list.specs.Bounds.{most_place};
 
-use crate::answer::{Answer, put, word};
+use crate::answer::{put, word};
 use crate::list;
-
-// Nothing is written behind the area.
-fn put_at(area: &mut [u32], place: usize, word: u32) {
-    if let Some(old) = area.get_mut(place) {
-        *old = word;
-    }
-}
 
 // The words that a case gives at a place: a count in 2 bytes and as many numbers of 4 bytes, by twos a place of the area and its word.
 pub fn write(case: &[u8], at: usize, area: &mut [u32])
@@ -19,7 +12,7 @@ pub fn write(case: &[u8], at: usize, area: &mut [u32])
     let count = list::short(case, at) as usize;
     for i in (0..count).step_by(2) {
         let place = list::long(case, at + 2 + 4 * i) as usize;
-        put_at(area, place, list::long(case, at + 6 + 4 * i));
+        put(area, place, list::long(case, at + 6 + 4 * i));
     }
 }
 
@@ -35,22 +28,24 @@ fn narrow(number: usize) -> u32 {
 }
 
 // Each word that is not 0, as its place and itself, then the length of the area.
-pub fn put_area(out: &mut Answer, area: &[u32]) {
+pub fn put_area(out: &mut [u32], at: usize, area: &[u32]) -> usize {
+    let mut next = at;
     for (place, &word) in area.iter().enumerate() {
         if word != 0 {
-            put(out, narrow(place));
-            put(out, word);
+            next = put(out, next, narrow(place));
+            next = put(out, next, word);
         }
     }
-    put(out, narrow(area.len()));
+    put(out, next, narrow(area.len()))
 }
 
 // The length, then every word.
-pub fn put_words(out: &mut Answer, area: &[u32]) {
-    put(out, narrow(area.len()));
+pub fn put_words(out: &mut [u32], at: usize, area: &[u32]) -> usize {
+    let mut next = put(out, at, narrow(area.len()));
     for &word in area {
-        put(out, word);
+        next = put(out, next, word);
     }
+    next
 }
 
 // Is the word at a place another one than before?
@@ -78,23 +73,32 @@ fn run_end(before: &[u32], after: &[u32], from: usize) -> usize
 }
 
 // An altered run is its place, how many words it has, and the word.
-fn put_run(out: &mut Answer, before: &[u32], after: &[u32], from: usize, to: usize)
+fn put_run(
+    out: &mut [u32],
+    at: usize,
+    before: &[u32],
+    after: &[u32],
+    from: usize,
+    to: usize,
+) -> usize
     requires { from < to }
 {
     if altered(before, after, from) {
-        put(out, narrow(from));
-        put(out, narrow(to - from));
-        put(out, word(after, from));
+        let count = put(out, at, narrow(from));
+        let last = put(out, count, narrow(to - from));
+        return put(out, last, word(after, from));
     }
+    at
 }
 
 // Each altered run, then the length of the area: every word is told, a word that is in no run being the one of before.
-pub fn put_changes(out: &mut Answer, before: &[u32], after: &[u32]) {
+pub fn put_changes(out: &mut [u32], at: usize, before: &[u32], after: &[u32]) -> usize {
+    let mut next = at;
     let mut from: usize = 0;
     while from < after.len() {
         let to = run_end(before, after, from);
-        put_run(out, before, after, from, to);
+        next = put_run(out, next, before, after, from, to);
         from = to;
     }
-    put(out, narrow(after.len()));
+    put(out, next, narrow(after.len()))
 }

@@ -1,9 +1,9 @@
 // The cases counted: of each kind how many there are, and behind that how many answers differ.
-ghost use Rattle.std.specs.Prelude.{◌≡◌, OnOk, slice_index};
+ghost use Rattle.std.specs.Prelude.{◌≡◌, ◌≤◌, OnOk, slice_index};
 ghost use Rattle.std.specs.Io.KnownBytes.{Appends};
 ghost use Rattle.case_list.specs.Lines.{sums_lines};
 
-use crate::kinds::{KINDS, Kind};
+use crate::kinds::KINDS;
 use crate::{answer, places, report};
 use std::io;
 use std::io::Write;
@@ -31,17 +31,20 @@ fn add(sums: &mut [u64], at: usize) -> u64 {
 pub fn compare<W: Write>(
     out: &mut W,
     case: &[u8],
-    kind: Kind,
+    kind: usize,
     given: &[u32],
+    count: usize,
     sums: &mut [u64],
-) -> io::Result<()> {
+) -> io::Result<()>
+    requires { kind ≤ 13 }
+{
     let expected = places::expected(case, kind);
-    let number = add(sums, 2 * kind as usize);
-    if answer::same(case, expected, given) {
+    let number = add(sums, 2 * kind);
+    if answer::same(case, expected, given, count) {
         return Ok(());
     }
-    if add(sums, 2 * kind as usize + 1) == 0 {
-        return report::tell_difference(out, kind, number, case, expected, given, given.len());
+    if add(sums, 2 * kind + 1) == 0 {
+        return report::tell_difference(out, kind, number, case, expected, given, count);
     }
     Ok(())
 }
@@ -51,9 +54,8 @@ pub fn compare<W: Write>(
 pub fn tell<W: Write>(out: &mut W, sums: &[u64]) -> io::Result<()>
     ensures { OnOk result (Appends (W.contents out.old) (W.contents out.new) (sums_lines sums.now 13)) }
 {
-    for number in 0..KINDS {
-        let kind = Kind::from(number);
-        report::tell_sums(out, kind, sum(sums, 2 * number), sum(sums, 2 * number + 1))?;
+    for kind in 0..KINDS {
+        report::tell_sums(out, kind, sum(sums, 2 * kind), sum(sums, 2 * kind + 1))?;
     }
     Ok(())
 }

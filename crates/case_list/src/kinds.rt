@@ -1,7 +1,7 @@
 // The kinds of calls, in the order in which they are counted and told. In the first section of the lists every case is the check of an image; in the
 // others a case has the tag of its kind, or is an image or words that the calls behind it are lent.
-ghost use Rattle.std.specs.Prelude.{Some};
-ghost use Rattle.case_list.specs.Kinds.{number_of, IsNumbered};
+ghost use Rattle.std.specs.Prelude.{◌≡◌, ◌≤◌, Some};
+ghost use Rattle.case_list.specs.Kinds.{number_of, kind_in, IsNumbered};
 ghost use Rattle.case_list.specs.Lines.{kind_name};
 
 use std::fmt;
@@ -71,8 +71,17 @@ impl fmt::Display for Kind {
     }
 }
 
+// The number of a kind: its place in the order in which the variants stand, which is that of the sums.
+fn number(kind: Kind) -> usize
+    ensures { result ≡ number_of kind }
+{
+    kind as usize
+}
+
 // The kind of a case in one of the sections; none if it is no call.
-pub fn kind_of(section: usize, tag: u8) -> Option<Kind> {
+pub fn kind_of(section: usize, tag: u8) -> Option<Kind>
+    ensures { result ≡ kind_in section tag }
+{
     if section == 0 {
         return Some(Kind::Images);
     }
@@ -90,5 +99,15 @@ pub fn kind_of(section: usize, tag: u8) -> Option<Kind> {
         b'S' => Some(Kind::Stitched),
         b's' => Some(Kind::StitchedRecorded),
         _ => None,
+    }
+}
+
+// Its number. That of no call is how many kinds there are.
+pub fn kind_number(section: usize, tag: u8) -> usize
+    ensures { result ≤ 13 }
+{
+    match kind_of(section, tag) {
+        Some(kind) => number(kind),
+        None => KINDS,
     }
 }

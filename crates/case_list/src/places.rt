@@ -7,7 +7,7 @@ ghost use Rattle.std.specs.Prelude.{◌+◌, ◌<◌};
 ghost use Rattle.case_list.specs.Bounds.{most_place};
 
 use crate::answer::Expected;
-use crate::kinds::Kind;
+use crate::kinds::{KINDS, Kind};
 use crate::{answer, edges, lent, list};
 
 pub const CHANGED: u8 = b'E';
@@ -56,10 +56,10 @@ fn behind_paths(case: &[u8]) -> usize
 }
 
 // The expected answer of a call. That of a check has a count of 1 byte.
-pub fn expected(case: &[u8], kind: Kind) -> Expected
-    ensures { 0 < result.from }
+pub fn expected(case: &[u8], kind: usize) -> Expected
+    ensures { (0 < result.from) × (result.from + 500000 < most_place) × (result.count < 65536) }
 {
-    match kind {
+    match Kind::from(kind) {
         Kind::Images => answer::read_few(case, behind_check(case)),
         Kind::Replays | Kind::Complete => answer::read(case, behind_path(case)),
         Kind::Shadows => answer::read(case, behind_paths(case)),
@@ -76,11 +76,11 @@ pub fn expected(case: &[u8], kind: Kind) -> Expected
 }
 
 // How many bytes a case takes.
-pub fn bytes(case: &[u8], kind: Option<Kind>) -> usize
+pub fn bytes(case: &[u8], kind: usize) -> usize
     ensures { 0 < result }
 {
-    match kind {
-        Some(kind) => answer::behind(expected(case, kind)),
-        None => lent::behind(case),
+    if kind == KINDS {
+        return lent::behind(case);
     }
+    answer::behind(expected(case, kind))
 }

@@ -1,5 +1,6 @@
 // What is printed: how many cases of a kind there are and how many answers differ, and of the first that differs what was expected and what was given.
-ghost use Rattle.std.specs.Prelude.{◌++◌, OnOk, codes};
+ghost use Rattle.std.specs.Prelude.{◌+◌, ◌<◌, ◌++◌, OnOk, codes};
+ghost use Rattle.case_list.specs.Bounds.{most_place};
 ghost use Rattle.std.specs.Io.KnownBytes.{Appends};
 ghost use Rattle.case_list.specs.Kinds.{number_of};
 ghost use Rattle.case_list.specs.Lines.{named, kind_name, sums_line, given_words, expected_words, difference_line};
@@ -17,6 +18,7 @@ fn print_one<W: Write>(out: &mut W, number: u32) -> io::Result<()>
 }
 
 fn print_expected<W: Write>(out: &mut W, case: &[u8], expected: Expected) -> io::Result<()>
+    requires { (expected.from + 500000 < most_place) × (expected.count < 65536) }
     ensures { OnOk result (Appends (W.contents out.old) (W.contents out.new) (expected_words case.now expected.from expected.count)) }
 {
     let from = expected.from;
@@ -45,24 +47,31 @@ fn print_case<W: Write>(out: &mut W, kind: Kind, number: u64) -> io::Result<()>
 // Kept: a count beside the numbers, as the clause of `tell_difference` speaks of each count, also of one past the numbers, which no slice has.
 pub fn tell_difference<W: Write>(
     out: &mut W,
-    kind: Kind,
+    kind: usize,
     number: u64,
     case: &[u8],
     expected: Expected,
     given: &[u32],
     count: usize,
 ) -> io::Result<()>
-    ensures { OnOk result (Appends (W.contents out.old) (W.contents out.new) (difference_line (number_of kind) number (expected_words case.now expected.from expected.count) (given_words given.now count))) }
+    requires { (expected.from + 500000 < most_place) × (expected.count < 65536) }
+    ensures { OnOk result (Appends (W.contents out.old) (W.contents out.new) (difference_line kind number (expected_words case.now expected.from expected.count) (given_words given.now count))) }
 {
-    print_case(out, kind, number)?;
+    print_case(out, Kind::from(kind), number)?;
     print_expected(out, case, expected)?;
     write!(out, " given")?;
     print_given(out, given, count)?;
     writeln!(out)
 }
 
-pub fn tell_sums<W: Write>(out: &mut W, kind: Kind, cases: u64, differences: u64) -> io::Result<()>
+fn print_sums<W: Write>(out: &mut W, kind: Kind, cases: u64, differences: u64) -> io::Result<()>
     ensures { OnOk result (Appends (W.contents out.old) (W.contents out.new) (sums_line (number_of kind) cases differences)) }
 {
     writeln!(out, "{kind} {cases} different {differences}")
+}
+
+pub fn tell_sums<W: Write>(out: &mut W, kind: usize, cases: u64, differences: u64) -> io::Result<()>
+    ensures { OnOk result (Appends (W.contents out.old) (W.contents out.new) (sums_line kind cases differences)) }
+{
+    print_sums(out, Kind::from(kind), cases, differences)
 }

@@ -47,13 +47,12 @@ pub fn number(case: &[u8]) -> u32 {
     list::long(case, NUMBER)
 }
 
-// The words of an area that are lent: as many as the case says, if there are so many.
-pub fn area<'a>(case: &[u8], at: usize, words: &'a mut [u32]) -> &'a mut [u32]
+// How many words of an area are lent: as many as the case says, if there are so many.
+pub fn area(case: &[u8], at: usize, words: &[u32]) -> usize
     requires { at + 2 < most_place }
-    ensures { length result.now ≤ length words.old }
+    ensures { result ≤ length words.now }
 {
-    let n = words.len().min(list::long(case, at) as usize);
-    &mut words[..n]
+    words.len().min(list::long(case, at) as usize)
 }
 
 fn put(asked: &mut [u64], at: usize, number: u64) {

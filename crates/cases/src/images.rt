@@ -1,5 +1,4 @@
 // The check of an image: whole, with one byte changed, or cut off.
-use case_list::answer::Answer;
 use case_list::exported::TOLD;
 use case_list::{exported, list, places};
 use pozhdaghi::reading::pozhdaghi_check;
@@ -31,9 +30,9 @@ fn check(case: &[u8], image: &mut [u8], told: &mut [u64]) {
     }
 }
 
-// What a check answers.
-pub fn answer(case: &[u8], image: &mut [u8], out: &mut Answer) {
+// Writes what a check answers, and answers how many numbers that are.
+pub fn answer(case: &[u8], image: &mut [u8], out: &mut [u32]) -> usize {
     let mut told = [0u64; TOLD];
     check(case, image, &mut told);
-    exported::put_answer(out, &told, 0, NUMBERS);
+    exported::put_answer(out, &told, 0, NUMBERS)
 }

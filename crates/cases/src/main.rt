@@ -12,9 +12,8 @@ mod paths;
 mod searches;
 mod shown;
 
-use case_list::answer::Answer;
 use case_list::compared::SUMS;
-use case_list::kinds::Kind;
+use case_list::kinds::{KINDS, Kind};
 use case_list::lent::{Lent, MOST_IMAGE, MOST_WORDS};
 use case_list::{compared, kinds, lent, list, places};
 use printing::input;
@@ -26,8 +25,17 @@ const LISTS: usize = 5;
 // One list is held at a time.
 const MOST_BYTES: usize = 1300000;
 
-// What the library answers to a case.
-fn put_answer(case: &[u8], kind: Kind, image: &mut [u8], words: &mut [u32], out: &mut Answer) {
+// Room for an answer.
+const MOST_NUMBERS: usize = 8192;
+
+// Writes what the library answers to a case, and answers how many numbers that are.
+fn library_answer(
+    case: &[u8],
+    kind: Kind,
+    image: &mut [u8],
+    words: &mut [u32],
+    out: &mut [u32],
+) -> usize {
     match kind {
         Kind::Images => images::answer(case, image, out),
         Kind::Replays | Kind::Complete | Kind::Shadows => paths::answer(case, kind, image, out),
@@ -46,31 +54,33 @@ fn put_answer(case: &[u8], kind: Kind, image: &mut [u8], words: &mut [u32], out:
 fn compare<W: Write>(
     out: &mut W,
     case: &[u8],
-    kind: Kind,
+    kind: usize,
     image: &mut [u8],
     words: &mut [u32],
     sums: &mut [u64],
-) -> io::Result<()> {
-    let mut given = Answer::new();
-    put_answer(case, kind, image, words, &mut given);
-    compared::compare(out, case, kind, given.as_slice(), sums)
+) -> io::Result<()>
+    requires { kind ≤ 13 }
+{
+    let mut given = [0u32; MOST_NUMBERS];
+    let count = library_answer(case, Kind::from(kind), image, words, &mut given);
+    compared::compare(out, case, kind, &given, count, sums)
 }
 
 // What a case lends is copied, or its call is made. It answers what is lent to the next.
 fn visit<W: Write>(
     out: &mut W,
     case: &[u8],
-    kind: Option<Kind>,
+    kind: usize,
     last: Lent,
     image: &mut [u8],
     words: &mut [u32],
     sums: &mut [u64],
 ) -> io::Result<Lent>
-    requires { (last.bytes ≤ length image.old) × (last.words ≤ length words.old) }
+    requires { (kind ≤ 13) × (last.bytes ≤ length image.old) × (last.words ≤ length words.old) }
     ensures { IfOk result (λ lent. (lent.bytes ≤ length image.old) × (lent.words ≤ length words.old)) }
 {
     let lent = lent::read(case, last, image, words);
-    if let Some(kind) = kind {
+    if kind < KINDS {
         let b = lent.bytes;
         let w = lent.words;
         compare(out, case, kind, &mut image[..b], &mut words[..w], sums)?;
@@ -90,7 +100,7 @@ fn replay<W: Write>(
     let mut rest = list;
     let mut lent = Lent { bytes: 0, words: 0 };
     while let Some(&tag) = rest.first() {
-        let kind = kinds::kind_of(which, tag);
+        let kind = kinds::kind_number(which, tag);
         lent = visit(out, rest, kind, lent, image, words, sums)?;
         rest = rest.get(places::bytes(rest, kind)..).unwrap_or(&[]);
     }

@@ -1,5 +1,4 @@
 // Direct, linear and stitched searches. What they leave in both areas is compared word by word.
-use case_list::answer::Answer;
 use case_list::exported::TOLD;
 use case_list::kinds::Kind;
 use case_list::request::{ASKED, MOST_AREA};
@@ -72,11 +71,12 @@ fn told(
 }
 
 // The result area, and the work area of a search that takes one.
-fn put_areas(out: &mut Answer, kind: Kind, work: &[u32], res: &[u32]) {
-    areas::put_area(out, res);
-    if !is_linear(kind) {
-        areas::put_area(out, work);
+fn put_areas(out: &mut [u32], at: usize, kind: Kind, work: &[u32], res: &[u32]) -> usize {
+    let behind = areas::put_area(out, at, res);
+    if is_linear(kind) {
+        return behind;
     }
+    areas::put_area(out, behind, work)
 }
 
 // The areas have just the words that the list names.
@@ -87,18 +87,18 @@ fn answer_lent(
     words: &[u32],
     work: &mut [u32],
     res: &mut [u32],
-    out: &mut Answer,
-) {
-    let work = request::area(case, request::SEARCH_WORK, work);
-    let res = request::area(case, request::SEARCH_RESULT, res);
-    let told = told(case, kind, image, words, work, res);
-    exported::put_answer(out, &told, WIDE, NUMBERS);
-    put_areas(out, kind, work, res);
+    out: &mut [u32],
+) -> usize {
+    let w = request::area(case, request::SEARCH_WORK, work);
+    let r = request::area(case, request::SEARCH_RESULT, res);
+    let told = told(case, kind, image, words, &mut work[..w], &mut res[..r]);
+    let behind = exported::put_answer(out, &told, WIDE, NUMBERS);
+    put_areas(out, behind, kind, &work[..w], &res[..r])
 }
 
-// What a search answers and leaves in its areas.
-pub fn answer(case: &[u8], kind: Kind, image: &[u8], words: &[u32], out: &mut Answer) {
+// Writes what a search answers and leaves in its areas, and answers how many numbers that are.
+pub fn answer(case: &[u8], kind: Kind, image: &[u8], words: &[u32], out: &mut [u32]) -> usize {
     let mut work = [0u32; MOST_AREA];
     let mut result = [0u32; MOST_AREA];
-    answer_lent(case, kind, image, words, &mut work, &mut result, out);
+    answer_lent(case, kind, image, words, &mut work, &mut result, out)
 }

@@ -4,7 +4,7 @@
 ghost use Rattle.std.specs.Prelude.{◌<◌};
 ghost use Rattle.semantics.specs.Limits.{step_length};
 
-use case_list::answer::{Answer, put, word};
+use case_list::answer::{put, word};
 use semantics::bounds::{SLOT_WORDS, STEP_WORDS};
 use semantics::replayed::Path;
 use stepping::layout;
@@ -58,62 +58,76 @@ fn chain_count(steps: &[u32], top: u32, link: u32) -> u32
     MOST_CELLS
 }
 
-fn put_scopes(steps: &[u32], top: u32, out: &mut Answer) {
+fn write_scopes(steps: &[u32], top: u32, out: &mut [u32], at: usize) -> usize {
     let count = chain_count(steps, top, SCOPES);
-    put(out, count);
+    let mut next = put(out, at, count);
     let mut cell = top;
     for _ in 0..count {
-        put(out, cell_word(steps, cell, SCOPE));
+        next = put(out, next, cell_word(steps, cell, SCOPE));
         cell = cell_word(steps, cell, SCOPES);
     }
+    next
 }
 
-fn put_symbol(steps: &[u32], cell: u32, out: &mut Answer) {
-    put(out, cell_word(steps, cell, SYMBOL_HIGH));
-    put(out, cell_word(steps, cell, SYMBOL));
+fn write_symbol(steps: &[u32], cell: u32, out: &mut [u32], at: usize) -> usize {
+    let low = put(out, at, cell_word(steps, cell, SYMBOL_HIGH));
+    let next = put(out, low, cell_word(steps, cell, SYMBOL));
     let attached = cell_word(steps, cell, ATTACHED);
     if attached == 0 {
-        put(out, 0);
-    } else {
-        put(out, 1);
-        put_scopes(steps, attached, out);
+        return put(out, next, 0);
     }
+    let behind = put(out, next, 1);
+    write_scopes(steps, attached, out, behind)
 }
 
-fn put_symbols(steps: &[u32], top: u32, out: &mut Answer) {
+fn write_symbols(steps: &[u32], top: u32, out: &mut [u32], at: usize) -> usize {
     let count = chain_count(steps, top, BELOW);
-    put(out, count);
+    let mut next = put(out, at, count);
     let mut cell = top;
     for _ in 0..count {
-        put_symbol(steps, cell, out);
+        next = write_symbol(steps, cell, out, next);
         cell = cell_word(steps, cell, BELOW);
     }
+    next
 }
 
 // Edge j of the path, and the jump behind it.
-fn put_step(path: Path, j: usize, out: &mut Answer) {
+fn write_step(path: Path, j: usize, out: &mut [u32], at: usize) -> usize {
     if let (Some(&edge), Some(&jump)) = (path.edges.get(j), path.jumps.get(j)) {
-        put(out, 0);
-        put(out, edge);
+        let behind = put(out, at, 0);
+        let next = put(out, behind, edge);
         if jump {
-            put(out, 1);
-            put(out, step_word(&path.steps, j as u32 + 1, END));
+            let jumped = put(out, next, 1);
+            return put(out, jumped, step_word(&path.steps, j as u32 + 1, END));
         }
+        return next;
     }
+    at
 }
 
-fn put_steps(path: Path, out: &mut Answer) {
+fn write_steps(path: Path, out: &mut [u32], at: usize) -> usize {
+    let mut next = at;
     for j in 0..path.count as usize {
-        put_step(path, j, out);
+        next = write_step(path, j, out, next);
     }
-    put(out, 2);
+    put(out, next, 2)
 }
 
-// What is read off the path.
-pub fn put_path(path: Path, out: &mut Answer) {
+// Writes what is read off the path, and answers the place behind it.
+pub fn write_path(path: Path, out: &mut [u32], at: usize) -> usize {
     let last = path.count;
-    put(out, path.end);
-    put_steps(path, out);
-    put_symbols(&path.steps, step_word(&path.steps, last, SYMBOLS), out);
-    put_scopes(&path.steps, step_word(&path.steps, last, SCOPES), out);
+    let steps = put(out, at, path.end);
+    let symbols = write_steps(path, out, steps);
+    let scopes = write_symbols(
+        &path.steps,
+        step_word(&path.steps, last, SYMBOLS),
+        out,
+        symbols,
+    );
+    write_scopes(
+        &path.steps,
+        step_word(&path.steps, last, SCOPES),
+        out,
+        scopes,
+    )
 }

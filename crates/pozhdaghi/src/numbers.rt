@@ -1,10 +1,11 @@
 // An answer as numbers, written into the caller's area. What each case of an answer is told by: semantics/specs/Told.antt.
-ghost use Rattle.std.specs.Prelude.{ℕ, ◌≡◌, List, [], ◌∷◌, ◌++◌, length, get_or};
+ghost use Rattle.std.specs.Prelude.{ℕ, ◌≡◌, ◌≤◌, List, [], ◌∷◌, ◌++◌, length, get_or};
 ghost use Rattle.semantics.specs.Written.{written};
 ghost use Rattle.semantics.specs.Told.{told_flag, told_stats, told_partial_stats, told_node, many_definitions, one_definition};
 ghost use Rattle.semantics.specs.Told.{told_checked, told_replayed, told_judgement, told_resolution, told_linear_resolution, told_compaction, told_conversion, told_creation, told_replacement, told_finding, told_rewriting};
 ghost use Rattle.semantics.specs.Told.{told_entered, told_trend, told_flow, told_node_reading, told_edge_reading, told_listing};
 ghost use Rattle.told.specs.Numbers.{numbers_of};
+ghost use Rattle.pozhdaghi.specs.Written as Longest;
 
 use semantics::answer::{
     Checked, Compaction, CompactionRefusal, Conversion, ConversionRefusal, Creation,
@@ -55,12 +56,13 @@ fn bare(number: u64, answer: &mut [u64])
     write(&[number], answer);
 }
 
-// An answer that is told by numbers.
+// An answer that is told by numbers, of which the longest but a tally's has `MOST`.
 pub(crate) trait Tell {
     ghost told: { Self → List ℕ };
 
     fn tell(self, answer: &mut [u64])
-        ensures { answer.new ≡ written (length answer.old) (told self) };
+        ensures words { answer.new ≡ written (length answer.old) (told self) }
+        ensures few { length (told self) ≤ Longest.MOST };
 }
 
 fn flag(set: bool) -> u64

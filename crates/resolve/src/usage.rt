@@ -3,14 +3,15 @@ use printing::line::print;
 use std::io;
 use std::io::Write;
 
-const HELP: &str = "\
-resolve [FILE]: resolves every reference of a graph image.
-The image is read from FILE, or from standard input where none is named.
-A reference has a line with the paths returned and what was counted, then a
-line for each path; or a line with the number of its refusal. An image that
-is refused has one line, with the number: docs/FORMAT.md, \"Refusals\".
-What cannot be read is told on standard error. The exit status is always 0.
-";
+// A write for each line, as standard output is not buffered.
+const HELP: [&str; 6] = [
+    "resolve [FILE]: resolves every reference of a graph image.\n",
+    "The image is read from FILE, or from standard input where none is named.\n",
+    "A reference has a line with the paths returned and what was counted, then a\n",
+    "line for each path; or a line with the number of its refusal. An image that\n",
+    "is refused has one line, with the number: docs/FORMAT.md, \"Refusals\".\n",
+    "What cannot be read is told on standard error. The exit status is always 0.\n",
+];
 
 // Whether the argument is --help.
 pub(crate) fn asks_help(argument: &[u8]) -> bool {
@@ -18,7 +19,10 @@ pub(crate) fn asks_help(argument: &[u8]) -> bool {
 }
 
 pub(crate) fn tell_help<W: Write>(out: &mut W) -> io::Result<()> {
-    print(out, HELP.as_bytes())
+    for line in HELP {
+        print(out, line.as_bytes())?;
+    }
+    Ok(())
 }
 
 pub(crate) fn tell_misuse<W: Write>(err: &mut W) {

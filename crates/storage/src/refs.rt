@@ -1,6 +1,6 @@
 // What the records refer to, tested on the words of a filled index.
 // Document 01, "Turned back", row 5: edge ends, edges from jump, ends in two files, attached scopes.
-ghost use Rattle.std.specs.Prelude.{◌≡◌, ℤ};
+ghost use Rattle.std.specs.Prelude.{◌≡◌, ◌<◌, ℤ, IfSome};
 ghost use Rattle.semantics.specs.declared.graph.Edge.TheVariants.{Live};
 ghost use Rattle.semantics.specs.Acceptance.{exported_in, edge_fits};
 ghost use Rattle.semantics.specs.Graph.{Graph, node_id, view_of};
@@ -81,7 +81,8 @@ fn edge_fits(index: &[u32], e: u32) -> bool
 // The first node that does not fit.
 pub(crate) fn misfit_node(index: &[u32], count: u32) -> Option<u32>
     requires { Blocks index.now }
-    ensures { (g : Graph) → Held g index.now → FirstOf (node_test g) count result }
+    ensures upper_bound { IfSome result (λ k. k < count) }
+    ensures first { (g : Graph) → Held g index.now → FirstOf (node_test g) count result }
 {
     for n in 0..count {
         if !node_fits(index, n) {
@@ -94,7 +95,8 @@ pub(crate) fn misfit_node(index: &[u32], count: u32) -> Option<u32>
 // The first edge that does not fit.
 pub(crate) fn misfit_edge(index: &[u32], count: u32) -> Option<u32>
     requires { Blocks index.now }
-    ensures { (g : Graph) → Held g index.now → FirstOf (edge_test g) count result }
+    ensures upper_bound { IfSome result (λ k. k < count) }
+    ensures first { (g : Graph) → Held g index.now → FirstOf (edge_test g) count result }
 {
     for e in 0..count {
         if !edge_fits(index, e) {

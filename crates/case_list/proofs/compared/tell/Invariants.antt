@@ -3,5 +3,5 @@ use Rattle.case_list.specs.Lines.{sums_lines}
 use Rattle.case_list.proofs.compared.tell.Given as goal
 
 -- what stands before this place was printed
-abbrev pub invariant-loop-number : goal.invariant-loop-number
-invariant-loop-number g l = Appends (g.W.Write.contents l.fn.out) (g.W.Write.contents l.out) (sums_lines l.sums l.number)
+abbrev pub invariant-loop-kind : goal.invariant-loop-kind
+invariant-loop-kind g l = Appends (g.W.Write.contents l.fn.out) (g.W.Write.contents l.out) (sums_lines l.sums l.kind)

@@ -14,7 +14,7 @@ returns c =
     let s = c.replace_for-replaced.ensures in
     let a = c.args in
     let e = asked-call None a.image.now a.asked.now a.work.now a.words.now c.config.result c.config.ensures in record {
-      answer_after = c.tell.ensures
+      answer_after = c.tell.ensures.words
           ∙ ap (λ (x : Replacement). written (length a.answer.now) (told_replacement x)) (s.0 ∙ ap (λ (o : Change Replacement). o.answer) e);
       work_after = s.1 ∙ ap (λ (o : Change Replacement). o.work) e;
       words_after = s.2 ∙ ap (λ (o : Change Replacement). o.database) e;

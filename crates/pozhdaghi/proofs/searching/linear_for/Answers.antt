@@ -22,7 +22,7 @@ returns c =
     let s = search-with.ensures in
     let e : linear_request_of limits.result a.res.now a.reference ≡ linear_request_of (limits_asked a.asked.now) a.res.now a.reference = ap
     (λ (l : SearchLimits). linear_request_of l a.res.now a.reference) limits.ensures in record {
-      answer_after = c.tell.ensures
+      answer_after = c.tell.ensures.words
           ∙ ap (λ (x : LinearResolution). written (length a.answer.now) (told_linear_resolution x)) (s.0
           ∙ ap (λ (q : LinearRequest). (linear_call base (reply_of a.reply) (seen_in a.image.now a.visible.now) q).answer) e);
       res_after = s.1 ∙ ap (λ (q : LinearRequest). (linear_call base (reply_of a.reply) (seen_in a.image.now a.visible.now) q).result) e;

@@ -10,8 +10,8 @@ returns c =
     let d = c.args.slot.now in
     let es = c.args.edges.now in
     let n : ℕ = length es in
-    let p = c.copy_from_slice.new.self in
-    let e : p ≡ es = c.copy_from_slice.ensures.after in
+    let p = c.copy.new.into in
+    let e : p ≡ es = c.copy.ensures in
     let k : length (with_edges d n p) ≡ length d = ap (λ (l : List ℕ). length (with_edges d n l)) e ∙ laid-length d es c.requires.0 in
     ap (λ (m : ℕ). put_mid (1 + n) (m - (1 + n)) (with_edges d n p) c.fill.new.self) k
     ∙ laid_out d es c.requires.0 p c.fill.new.self e
